@@ -1,0 +1,4 @@
+-- The shapes of loops: each module has one shape, its laws, and the ruleset for the needs of such a loop.
+pub mod First
+pub mod Pick
+pub mod Fill

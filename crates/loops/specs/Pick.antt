@@ -1,0 +1,49 @@
+-- The laws that a branch of the code cites where the contract is a nest of `cond`: a test applies, or is passed.
+use mathlib.Core.Path.{_≡_}
+use mathlib.Core.Bool.{Bool, true, false, cond, _||_, _&&_}
+use Prim.Native.Nat.{ℕ, _≤_, _<_}
+use borrow.Author.Tests.{lt-ltb, le-ltb, le-leb, lt-leb, eq-eqb, ne-eqb}
+use Rattle.loops.specs.First.{first, any, told}
+
+module _ {A : Type 0} where
+  pub taken : (r a b : A) (t : Bool) → t ≡ true → r ≡ a → r ≡ cond t a b
+  taken r a b t e f = rw e f
+
+  pub passed : (r a b : A) (t : Bool) → t ≡ false → r ≡ b → r ≡ cond t a b
+  passed r a b t e f = rw e f
+
+-- a rung that is taken at the first index below n at which p holds, with an answer made of that index
+unfoldable pub firstRung : {A : Type 0} → (ℕ → A) → ℕ → (ℕ → Bool) → A → A
+firstRung k n p b = cond (any n p) (k (first n p)) b
+
+module _ {A : Type 0} where
+  pub at-first : (r b : A) (k : ℕ → A) (n v : ℕ) (p : ℕ → Bool) → v ≡ first n p → v < n → r ≡ k v → r ≡ firstRung k n p b
+  unfolding firstRung
+  at-first r b k n v p e l f = rw (← e, lt-ltb v n l) f
+
+  pub past-first : (r b : A) (k : ℕ → A) (n v : ℕ) (p : ℕ → Bool) → v ≡ first n p → n ≤ v → r ≡ b → r ≡ firstRung k n p b
+  unfolding firstRung
+  past-first r b k n v p e l f = rw (← e, le-ltb v n l) f
+
+-- the same for `||` and `&&`, nested to the right, whose value is returned: the flag that decides, or a literal for it
+pub or-here : (t u : Bool) → t ≡ true → t ≡ t || u
+or-here t u e = rw e
+
+pub or-true : (t u : Bool) → t ≡ true → true ≡ t || u
+or-true t u e = rw e
+
+pub or-next : (r t u : Bool) → t ≡ false → r ≡ u → r ≡ t || u
+or-next r t u e f = rw e f
+
+pub and-here : (t u : Bool) → t ≡ false → t ≡ t && u
+and-here t u e = rw e
+
+pub and-false : (t u : Bool) → t ≡ false → false ≡ t && u
+and-false t u e = rw e
+
+pub and-next : (r t u : Bool) → t ≡ true → r ≡ u → r ≡ t && u
+and-next r t u e f = rw e f
+
+-- for `search picks depth n`, n the number of tests on the way and two more. The laws that pass a test come first: they are the ones at most tests.
+-- It reaches about ten tests. Beyond, split the function, or write the chain: `past-first _ _ _ _ _ _ (c .. .ensures) (c .. .left) (passed _ _ _ _ (lt-leb _ _ (c .. .left)) ..)`
+pub ruleset picks = (past-first, passed, or-next, and-next, at-first, taken, or-here, or-true, and-here, and-false, told, le-leb, lt-leb, lt-ltb, le-ltb, eq-eqb, ne-eqb)

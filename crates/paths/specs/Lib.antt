@@ -1,0 +1,10 @@
+-- Time-dependent paths, profiles and arc flags: `Graph` has the definitions; the other modules prove, in this order, what is used of them.
+pub mod Graph
+pub mod Drive
+pub mod Simple
+pub mod Earliest
+pub mod Labels
+pub mod Chosen
+pub mod Agree
+pub mod Profiles
+pub mod Flags
