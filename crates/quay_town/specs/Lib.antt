@@ -1,0 +1,2 @@
+-- Quay town, the worked example: what is proved of it by computation.
+pub mod Road
