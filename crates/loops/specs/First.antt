@@ -66,6 +66,9 @@ module _ (p : ℕ → Bool) where
   pub clear : (n : ℕ) → first n p ≡ n → (k : ℕ) → k < n → p k ≡ false
   clear n e k l = first-first n .before k (omega arith)
 
+  pub all-clear : (n : ℕ) → ((k : ℕ) → k < n → p k ≡ false) → first n p ≡ n
+  all-clear n h = sym (first-is n n (record { within = omega arith; before = h; at = λ l. absurd (omega arith) }))
+
   pub found : (n : ℕ) → first n p < n → p (first n p) ≡ true
   found n l = first-first n .at l
 

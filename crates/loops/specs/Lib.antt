@@ -2,3 +2,4 @@
 pub mod First
 pub mod Pick
 pub mod Fill
+pub mod Total

@@ -1,0 +1,11 @@
+-- What the contracts of this crate say, one subject a module, in the order in which they build on each other.
+pub mod Fields
+pub mod Put
+pub mod Place
+pub mod Table
+pub mod Sum
+pub mod Form
+pub mod Read
+pub mod Bytes
+pub mod Run
+pub mod Write

@@ -1,0 +1,41 @@
+-- The sum of a function's values below a bound, with its laws: running starts, such as the first point of each arc.
+use mathlib.Core.Path.{_≡_, refl}
+use Prim.Native.Nat.{ℕ, zero, suc, _+_, _*_, _≤_, _<_}
+use native.Mathlib.Numerals.{add-one}
+use native.Mathlib.Omega.{arith}
+use native.Mathlib.Decide.{ℕ-discrete}
+
+unfoldable pub total : ℕ → (ℕ → ℕ) → ℕ
+total zero f = 0
+total (suc n) f = total n f + f n
+
+module _ (f : ℕ → ℕ) where
+  -- FOR A LOOP
+  pub total-none : 0 ≡ total 0 f
+  unfolding total
+  total-none = refl
+
+  pub total-more : (s v i : ℕ) → s ≡ total i f → v ≡ f i → s + v ≡ total (i + 1) f
+  unfolding total
+  total-more s v i e g = rw (add-one, e, g)
+
+  pub total-end : (s i n : ℕ) → s ≡ total i f → i ≤ n → n ≤ i → s ≡ total n f
+  total-end s i n e l m = let q : i ≡ n = omega arith in rw q at e
+
+  -- each value at most m: the sum at most n times m
+  pub total-most : (m n : ℕ) → ((i : ℕ) → i < n → f i ≤ m) → total n f ≤ m * n
+  unfolding total
+  total-most m zero h = omega arith
+  total-most m (suc n) h = omega (arith, total-most m n (λ i l. h i (omega arith)), h n (omega arith))
+
+  -- the parts lie one behind the other: part i ends where part i + 1 starts, and no later than any later part's start
+  pub total-part : (i n : ℕ) → i < n → total i f + f i ≤ total n f
+  unfolding total
+  total-part i zero l = absurd (omega arith)
+  total-part i (suc n) l = elim (ℕ-discrete i n) [
+    | yes e ↦ rw e (omega arith)
+    | no e ↦ omega (arith, total-part i n (omega arith))
+  ]
+
+-- for `search totals` at the needs of such a loop
+pub ruleset totals = (total-none, total-more, total-end)

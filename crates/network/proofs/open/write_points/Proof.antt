@@ -1,0 +1,27 @@
+use Rattle.network.specs.Validate.{points-stored}
+use Rattle.network.specs.Open.{tables}
+use borrow.Author.Needs.{needs}
+use Rattle.network.proofs.open.write_points.Statement.{statement}
+use Rattle.network.proofs.open.write_points.Tie as tie
+use Rattle.network.proofs.open.write_points.Reads as reads
+use Rattle.network.proofs.open.write_points.Lts as lts
+use Rattle.blocks.proofs.place.decode16.Reads as decode16-reads
+
+decode16-requires : tie.Need-decode16-requires
+decode16-requires c κs = (search points-stored, search needs)
+
+decode16-requires-2 : tie.Need-decode16-requires-2
+decode16-requires-2 c κs = (search points-stored, search needs)
+
+same-length : tie.Need-same-length
+same-length c = search needs
+
+same-length-2 : tie.Need-same-length-2
+same-length-2 c = search needs
+
+returns : tie.Need-returns
+returns c = (search tables, search tables)
+
+pub write-points-spec : {M : Type 1} → statement M
+write-points-spec =
+    tie.close (tie.spec decode16-requires decode16-requires-2 same-length same-length-2 returns)

@@ -1,0 +1,53 @@
+use borrow.Author.Needs.{needs}
+use Rattle.network.proofs.open.write_tables.Statement.{statement}
+use Rattle.network.proofs.open.write_tables.Tie as tie
+use Rattle.network.proofs.open.write_tables.Reads as reads
+use Rattle.network.proofs.open.write_tables.Lts as lts
+use Rattle.network.proofs.open.write_arcs.Reads as write-arcs-reads
+use Rattle.network.proofs.open.write_cells.Reads as write-cells-reads
+use Rattle.network.proofs.open.write_points.Reads as write-points-reads
+
+write-cells-requires : tie.Need-write-cells-requires
+write-cells-requires c κs = search needs
+
+write-arcs-requires : tie.Need-write-arcs-requires
+write-arcs-requires c κs = search needs
+
+write-points-requires : tie.Need-write-points-requires
+write-points-requires c κs = search needs
+
+same-length : tie.Need-same-length
+same-length c = search needs
+
+same-length-2 : tie.Need-same-length-2
+same-length-2 c = search needs
+
+same-length-3 : tie.Need-same-length-3
+same-length-3 c = search needs
+
+same-length-4 : tie.Need-same-length-4
+same-length-4 c = search needs
+
+same-length-5 : tie.Need-same-length-5
+same-length-5 c = search needs
+
+same-length-6 : tie.Need-same-length-6
+same-length-6 c = search needs
+
+returns : tie.Need-returns
+returns c = (search needs, (search needs, search needs))
+
+pub write-tables-spec : {M : Type 1} → statement M
+write-tables-spec =
+    tie.close
+    (tie.spec
+    write-cells-requires
+    write-arcs-requires
+    write-points-requires
+    same-length
+    same-length-2
+    same-length-3
+    same-length-4
+    same-length-5
+    same-length-6
+    returns)

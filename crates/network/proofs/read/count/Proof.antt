@@ -1,0 +1,16 @@
+use Rattle.network.specs.Decode.{reads}
+use borrow.Author.Needs.{needs}
+use Rattle.network.proofs.read.count.Statement.{statement}
+use Rattle.network.proofs.read.count.Tie as tie
+use Rattle.network.proofs.read.count.Reads as reads
+use Rattle.network.proofs.read.count.Lts as lts
+use Rattle.network.proofs.read.field.Reads as field-reads
+
+field-requires : tie.Need-field-requires
+field-requires c κs = search reads
+
+returns : tie.Need-returns
+returns c = (search reads, search needs)
+
+pub count-spec : {M : Type 1} → statement M
+count-spec = tie.close (tie.spec field-requires returns)

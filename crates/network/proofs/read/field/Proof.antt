@@ -1,0 +1,25 @@
+use borrow.Author.Needs.{needs}
+use Rattle.network.proofs.read.field.Statement.{statement}
+use Rattle.network.proofs.read.field.Tie as tie
+use Rattle.network.proofs.read.field.Reads as reads
+use Rattle.network.proofs.read.field.Lts as lts
+use Rattle.blocks.proofs.fields.le16.Reads as le16-reads
+use Rattle.blocks.proofs.place.offset.Reads as offset-reads
+
+offset-requires : tie.Need-offset-requires
+offset-requires c κs = search needs
+
+add-le16 : tie.Need-add-le16
+add-le16 c = search needs
+
+le16-requires : tie.Need-le16-requires
+le16-requires c κs = search needs
+
+cast-result : tie.Need-cast-result
+cast-result c = search needs
+
+returns : tie.Need-returns
+returns c = (cc, search needs)
+
+pub field-spec : {M : Type 1} → statement M
+field-spec = tie.close (tie.spec offset-requires add-le16 le16-requires cast-result returns)

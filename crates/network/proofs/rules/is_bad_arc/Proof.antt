@@ -1,0 +1,29 @@
+use Rattle.network.specs.Rules.{judges}
+use borrow.Author.Needs.{needs}
+use Rattle.network.proofs.rules.is_bad_arc.Statement.{statement}
+use Rattle.network.proofs.rules.is_bad_arc.Tie as tie
+use Rattle.network.proofs.rules.is_bad_arc.Reads as reads
+use Rattle.network.proofs.rules.is_bad_arc.Lts as lts
+use Rattle.network.proofs.read.count.Reads as count-reads
+use Rattle.network.proofs.read.head.Reads as head-reads
+use Rattle.network.proofs.read.tail.Reads as tail-reads
+use Rattle.network.proofs.rules.bad_ends.Reads as bad-ends-reads
+
+tail-requires : tie.Need-tail-requires
+tail-requires c κs = search needs
+
+head-requires : tie.Need-head-requires
+head-requires c κs = search needs
+
+count-requires : tie.Need-count-requires
+count-requires c κs = search needs
+
+bad-ends-requires : tie.Need-bad-ends-requires
+bad-ends-requires c κs = search needs
+
+returns : tie.Need-returns
+returns c = search judges
+
+pub is-bad-arc-spec : {M : Type 1} → statement M
+is-bad-arc-spec =
+    tie.close (tie.spec tail-requires head-requires count-requires bad-ends-requires returns)

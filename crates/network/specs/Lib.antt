@@ -1,0 +1,14 @@
+-- Network files.
+pub mod Limits
+pub mod Layout
+pub mod Network
+pub mod Decode
+pub mod Rules
+pub mod Scan
+pub mod ScanAll
+pub mod Sound
+pub mod Judge
+pub mod Validate
+pub mod Valid
+pub mod Open
+pub mod Town

@@ -1,0 +1,87 @@
+-- The limits of a network's numbers, and the header that numbers within them make.
+use mathlib.Core.Path.{_≡_, refl, sym}
+use mathlib.Core.Bool.{Bool, true, false, cond}
+use Prim.Native.Nat.{ℕ, _≤_}
+use native.Mathlib.Omega.{arith}
+use lib.Dec.{ltb}
+use borrow.Author.Tests.{ltb-false, le-ltb}
+use Rattle.network.specs.declared.header.Header.{Header}
+use Rattle.network.specs.declared.header.Made.{Made}
+use Rattle.network.specs.declared.header.Made.the-variants.{Inside, Outside}
+
+-- period 1 to 2,880, nodes 1 to 512, arcs 0 to 2,048, cells 1 to 64, points 0 to 65,535
+unfoldable pub made : ℕ → ℕ → ℕ → ℕ → ℕ → ℕ → Made
+made number period nodes arcs cells points =
+    cond (ltb period 1) Outside
+    (cond (ltb 2880 period) Outside
+    (cond (ltb nodes 1) Outside
+    (cond (ltb 512 nodes) Outside
+    (cond (ltb 2048 arcs) Outside
+    (cond (ltb cells 1) Outside
+    (cond (ltb 64 cells) Outside
+    (cond (ltb 65535 points) Outside
+    (Inside (record { number = number; period = period; nodes = nodes; arcs = arcs; cells = cells; points = points })))))))))
+
+-- a header within the limits
+pub record Within (h : Header) : Type 0 where
+  pub period-some : 1 ≤ h .period
+  pub period-most : h .period ≤ 2880
+  pub nodes-some : 1 ≤ h .nodes
+  pub nodes-most : h .nodes ≤ 512
+  pub arcs-most : h .arcs ≤ 2048
+  pub cells-some : 1 ≤ h .cells
+  pub cells-most : h .cells ≤ 64
+  pub points-most : h .points ≤ 65535
+
+-- a limit that is kept where a header is made
+kept : (t : Bool) (m : Made) (h : Header) → cond t Outside m ≡ Inside h → (t ≡ false) × (m ≡ Inside h)
+kept true m h e = let z : _≡_ {A = ℕ} 0 1 = cc in absurd (omega arith)
+kept false m h e = (refl, e)
+
+one-header : (a b : Header) → Inside a ≡ Inside b → a ≡ b
+one-header a b e = cc
+
+-- a header that is made is within the limits, and holds the numbers
+module _ (number period nodes arcs cells points : ℕ) where
+  abbrev these : Header
+  these = record { number = number; period = period; nodes = nodes; arcs = arcs; cells = cells; points = points }
+
+  pub made-within : (h : Header) → made number period nodes arcs cells points ≡ Inside h
+      → Within h × (h ≡ record { number = number; period = period; nodes = nodes; arcs = arcs; cells = cells; points = points })
+  unfolding made
+  made-within h e =
+      let (p₁, e₁) = kept _ _ h e in
+      let (p₂, e₂) = kept _ _ h e₁ in
+      let (n₁, e₃) = kept _ _ h e₂ in
+      let (n₂, e₄) = kept _ _ h e₃ in
+      let (a, e₅) = kept _ _ h e₄ in
+      let (c₁, e₆) = kept _ _ h e₅ in
+      let (c₂, e₇) = kept _ _ h e₆ in
+      let (q, e₈) = kept _ _ h e₇ in
+      let w : Within these = record {
+        period-some = ltb-false _ _ p₁;
+        period-most = ltb-false _ _ p₂;
+        nodes-some = ltb-false _ _ n₁;
+        nodes-most = ltb-false _ _ n₂;
+        arcs-most = ltb-false _ _ a;
+        cells-some = ltb-false _ _ c₁;
+        cells-most = ltb-false _ _ c₂;
+        points-most = ltb-false _ _ q;
+      } in
+      let f : these ≡ h = one-header these h e₈ in
+      (rw f at w, sym f)
+
+  -- and numbers within the limits make one
+  pub within-made : Within (record { number = number; period = period; nodes = nodes; arcs = arcs; cells = cells; points = points })
+      → made number period nodes arcs cells points ≡ Inside (record { number = number; period = period; nodes = nodes; arcs = arcs; cells = cells; points = points })
+  unfolding made
+  within-made w = rw (
+    le-ltb _ _ (w .period-some),
+    le-ltb _ _ (w .period-most),
+    le-ltb _ _ (w .nodes-some),
+    le-ltb _ _ (w .nodes-most),
+    le-ltb _ _ (w .arcs-most),
+    le-ltb _ _ (w .cells-some),
+    le-ltb _ _ (w .cells-most),
+    le-ltb _ _ (w .points-most),
+  )

@@ -1,0 +1,70 @@
+// The entries of a network file, read in place: one function for each of the six tables.
+// Each contract equates the answer with the entry of the network that the file decodes to; callers see no bytes.
+use crate::header::Layout;
+ghost use mathlib.Core.Path.{_≡_};
+ghost use Prim.Native.Nat.{_+_, _<_};
+ghost use Rattle.network.specs.Network;
+ghost use Rattle.network.specs.Decode.{Readable, decode, Laid};
+ghost use Rattle.blocks.specs.Table.{entry16};
+
+// The 16-bit field at byte `at` of entry i of a run of blocks.
+fn field(file: &[u8], from: usize, per: usize, size: usize, at: usize, i: usize) -> usize
+    requires { ⌜ Readable (now file) from per size at i ⌝ }
+    ensures { λ r. ⌜ (r ≡ entry16 (now (file .entry)) from per size at i) × (r < 65536) ⌝ }
+{
+    blocks::fields::le16(file, blocks::place::offset(from, per, size, i) + at) as usize
+}
+
+// The cell of node v.
+pub fn cell(file: &[u8], l: Layout, v: usize) -> usize
+    requires { ⌜ Laid (now file) l ⌝ }
+    requires { ⌜ v < l .nodes ⌝ }
+    ensures { λ r. ⌜ (r ≡ Network.cell (decode (now (file .entry))) v) × (r < 65536) ⌝ }
+{
+    field(file, 1, 250, 2, 0, v)
+}
+
+// The tail of arc a.
+pub fn tail(file: &[u8], l: Layout, a: usize) -> usize
+    requires { ⌜ Laid (now file) l ⌝ }
+    requires { ⌜ a < l .arcs ⌝ }
+    ensures { λ r. ⌜ (r ≡ Network.tail (decode (now (file .entry))) a) × (r < 65536) ⌝ }
+{
+    field(file, l.arcblock, 83, 6, 0, a)
+}
+
+// The head of arc a.
+pub fn head(file: &[u8], l: Layout, a: usize) -> usize
+    requires { ⌜ Laid (now file) l ⌝ }
+    requires { ⌜ a < l .arcs ⌝ }
+    ensures { λ r. ⌜ (r ≡ Network.head (decode (now (file .entry))) a) × (r < 65536) ⌝ }
+{
+    field(file, l.arcblock, 83, 6, 2, a)
+}
+
+// How many points arc a has.
+pub fn count(file: &[u8], l: Layout, a: usize) -> usize
+    requires { ⌜ Laid (now file) l ⌝ }
+    requires { ⌜ a < l .arcs ⌝ }
+    ensures { λ r. ⌜ (r ≡ Network.count (decode (now (file .entry))) a) × (r < 65536) ⌝ }
+{
+    field(file, l.arcblock, 83, 6, 4, a)
+}
+
+// The tick of point q.
+pub fn tick(file: &[u8], l: Layout, q: usize) -> usize
+    requires { ⌜ Laid (now file) l ⌝ }
+    requires { ⌜ q < l .points ⌝ }
+    ensures { λ r. ⌜ (r ≡ Network.tick (decode (now (file .entry))) q) × (r < 65536) ⌝ }
+{
+    field(file, l.pointblock, 125, 4, 0, q)
+}
+
+// The travel of point q.
+pub fn travel(file: &[u8], l: Layout, q: usize) -> usize
+    requires { ⌜ Laid (now file) l ⌝ }
+    requires { ⌜ q < l .points ⌝ }
+    ensures { λ r. ⌜ (r ≡ Network.travel (decode (now (file .entry))) q) × (r < 65536) ⌝ }
+{
+    field(file, l.pointblock, 125, 4, 2, q)
+}
