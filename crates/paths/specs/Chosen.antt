@@ -213,11 +213,11 @@ lowest-ext zero i h = refl
 lowest-ext {t} {u} (suc k) i h = rw (h i (omega arith), lowest-ext {t = t} {u = u} k (suc i) (λ a l. h a (omega arith)))
 
 -- two walks back are one where, from every node known, both take the same arc to the same node, known again
-abbrev pub SameStep : Graph → Graph → Permit → List ℕ → List ℕ → ℕ → Type 0
-SameStep g h p L M v = (arcInto g p L v ≡ arcInto h p M v) × (g .tail (arcInto g p L v) ≡ h .tail (arcInto g p L v))
+abbrev pub SameStep : Graph → Graph → Permit → Permit → List ℕ → List ℕ → ℕ → Type 0
+SameStep g h p q L M v = (arcInto g p L v ≡ arcInto h q M v) × (g .tail (arcInto g p L v) ≡ h .tail (arcInto g p L v))
 
-module _ (g h : Graph) (p : Permit) (s : ℕ) (L M : List ℕ) (Q : ℕ → Type 0) (f : (v : ℕ) → Q v → v ≢ s → SameStep g h p L M v × Q (g .tail (arcInto g p L v))) where
-  pub back-ext : (k v : ℕ) (w : List ℕ) → Q v → back g p s L k v w ≡ back h p s M k v w
+module _ (g h : Graph) (p q : Permit) (s : ℕ) (L M : List ℕ) (Q : ℕ → Type 0) (f : (v : ℕ) → Q v → v ≢ s → SameStep g h p q L M v × Q (g .tail (arcInto g p L v))) where
+  pub back-ext : (k v : ℕ) (w : List ℕ) → Q v → back g p s L k v w ≡ back h q s M k v w
   unfolding back
   back-ext zero v w c = refl
   back-ext (suc k) v w c = go (eqb v s) refl (back-ext k)
@@ -226,13 +226,13 @@ module _ (g h : Graph) (p : Permit) (s : ℕ) (L M : List ℕ) (Q : ℕ → Type
       a = arcInto g p L v
 
       b : ℕ
-      b = arcInto h p M v
+      b = arcInto h q M v
 
-      go : (q : Bool) → eqb v s ≡ q → ((v : ℕ) (w : List ℕ) → Q v → back g p s L k v w ≡ back h p s M k v w)
-          → cond q w (back g p s L k (g .tail a) (a ∷ w)) ≡ cond q w (back h p s M k (h .tail b) (b ∷ w))
-      go true q ih = refl
-      go false q ih =
-          let r = f v c (eqb-false v s q) in
+      go : (t : Bool) → eqb v s ≡ t → ((v : ℕ) (w : List ℕ) → Q v → back g p s L k v w ≡ back h q s M k v w)
+          → cond t w (back g p s L k (g .tail a) (a ∷ w)) ≡ cond t w (back h q s M k (h .tail b) (b ∷ w))
+      go true e ih = refl
+      go false e ih =
+          let r = f v c (eqb-false v s e) in
           rw (← (r .0 .0), ← (r .0 .1)) (ih (g .tail a) (a ∷ w) (r .1))
 
 carry : {g : Graph} (ok : Lawful g) {p : Permit} {s x : ℕ} {L M : List ℕ} {B C : ℕ} → Exact g p s x (label L) B → Exact g p s x (label M) C
@@ -252,7 +252,7 @@ module _ {g : Graph} (ok : Lawful g) {p : Permit} {s x : ℕ} (L M : List ℕ) {
 
   pub chosen-same : {t : ℕ} → Known g L B t → label L t < C → chosen g p s L t ≡ chosen g p s M t
   unfolding chosen
-  chosen-same {t} c h = back-ext g g p s L M (λ v. Known g L B v × (label L v < C)) (λ v c n.
+  chosen-same {t} c h = back-ext g g p p s L M (λ v. Known g L B v × (label L v < C)) (λ v c n.
       let (b, r) = arc-into ok L e v n (c .0) in
       let m = explained-less g p L v (arcInto g p L v) ok b r in
       ((same-arc v (c .0) (c .1), refl), (record { node = ok .tails (arcInto g p L v) b; upto = omega (arith, c .0 .upto); known = r .known }, omega arith)))
