@@ -83,6 +83,16 @@ getD-tab zero f k l = absurd (omega arith)
 getD-tab (suc n) f zero l = refl
 getD-tab (suc n) f (suc k) l = getD-tab n (λ j. f (suc j)) k (omega arith)
 
+-- a list is its own entries
+pub tab-list : (w : List ℕ) → tab (length w) (λ k. getD w k 0) ≡ w
+unfolding tab
+tab-list [] = refl
+tab-list (a ∷ w) = ap (λ (l : List ℕ). a ∷ l) (tab-list w)
+
+-- where nothing is written, nothing has changed
+pub filled-none : (f : ℕ → ℕ) (a : ℕ) (old new : List ℕ) → Filled a a f old new → new ≡ old
+filled-none f a old new h = ext-getD 0 new old (h .long) (λ k m. elim (decLt k a) [ yes q ↦ h .before k q | no q ↦ h .after k (omega arith) ])
+
 -- the same said by one list equation, for a caller that puts the list into another definition
 pub filled-list : (f : ℕ → ℕ) (n : ℕ) (old new : List ℕ) → n ≤ length old → Filled 0 n f old new → new ≡ tab n f ++ drop n old
 filled-list f n old new l h =
@@ -97,3 +107,15 @@ filled-list f n old new l h =
         let e : length (tab n f) + (k - n) ≡ k = omega (arith, length-tab n f) in
         let w : n + (k - n) ≡ k = omega arith in
         rw (← e) (getD-append-add (tab n f) (drop n old) (k - n) 0 ∙ getD-drop n old (k - n) 0 ∙ rw (e, w))
+
+-- and back
+pub list-filled : (f : ℕ → ℕ) (n : ℕ) (old : List ℕ) → n ≤ length old → Filled 0 n f old (tab n f ++ drop n old)
+list-filled f n old l = record {
+  long = simp (length-append, length-drop, length-tab) (omega arith);
+  written = λ k _ m. List·getD-append (tab n f) (drop n old) 0 k (rw length-tab m) ∙ getD-tab n f k m;
+  before = λ k m. absurd (omega arith);
+  after = λ k m.
+      let e : length (tab n f) + (k - n) ≡ k = omega (arith, length-tab n f) in
+      let w : n + (k - n) ≡ k = omega arith in
+      (rw e at (getD-append-add (tab n f) (drop n old) (k - n) 0)) ∙ getD-drop n old (k - n) 0 ∙ ap (λ (i : ℕ). getD old i 0) w;
+}

@@ -61,7 +61,7 @@ rank L b zero = 0
 rank L b (suc v) = min 1 (b - L v) + rank L b v
 
 module _ (L : ℕ → ℕ) where
-  rank-bound : (b n : ℕ) → rank L b n ≤ n
+  pub rank-bound : (b n : ℕ) → rank L b n ≤ n
   unfolding rank
   rank-bound b zero = le-refl _
   rank-bound b (suc v) = omega (arith, rank-bound b v)
@@ -71,7 +71,7 @@ module _ (L : ℕ → ℕ) where
   rank-mono zero h = le-refl _
   rank-mono (suc v) h = omega (arith, rank-mono v h)
 
-  rank-strict : {c : ℕ} (n u : ℕ) → u < n → L u < c → rank L (L u) n < rank L c n
+  pub rank-strict : {c : ℕ} (n u : ℕ) → u < n → L u < c → rank L (L u) n < rank L c n
   unfolding rank
   rank-strict zero u l h = absurd (omega arith)
   rank-strict {c} (suc v) u l h = go (eq-or-lt-of-le (le-of-suc-le-suc l)) (rank-strict v u)

@@ -3,8 +3,6 @@ use Rattle.network.specs.Open.{tooShort}
 use borrow.Author.Needs.{needs}
 use Rattle.network.proofs.open.is_short.Statement.{statement}
 use Rattle.network.proofs.open.is_short.Tie as tie
-use Rattle.network.proofs.open.is_short.Reads as reads
-use Rattle.network.proofs.open.is_short.Lts as lts
 
 cast-nodes : tie.Need-cast-nodes
 cast-nodes c = search needs

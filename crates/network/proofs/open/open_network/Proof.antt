@@ -3,13 +3,6 @@ use mathlib.Core.Path.{refl}
 use borrow.Author.Needs.{needs}
 use Rattle.network.proofs.open.open_network.Statement.{statement}
 use Rattle.network.proofs.open.open_network.Tie as tie
-use Rattle.network.proofs.open.open_network.Reads as reads
-use Rattle.network.proofs.open.open_network.Lts as lts
-use Rattle.network.proofs.answer.refused.Reads as refused-reads
-use Rattle.network.proofs.header.Header.layout.Reads as layout-reads
-use Rattle.network.proofs.open.is_short.Reads as is-short-reads
-use Rattle.network.proofs.open.write_tables.Reads as write-tables-reads
-use Rattle.network.proofs.validate.validate.Reads as validate-reads
 
 validate-requires : tie.Need-validate-requires
 validate-requires c κs = search needs

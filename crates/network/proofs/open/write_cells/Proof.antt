@@ -3,9 +3,6 @@ use Rattle.network.specs.Open.{tables}
 use borrow.Author.Needs.{needs}
 use Rattle.network.proofs.open.write_cells.Statement.{statement}
 use Rattle.network.proofs.open.write_cells.Tie as tie
-use Rattle.network.proofs.open.write_cells.Reads as reads
-use Rattle.network.proofs.open.write_cells.Lts as lts
-use Rattle.blocks.proofs.place.decode16.Reads as decode16-reads
 
 decode16-requires : tie.Need-decode16-requires
 decode16-requires c κs = (search nodes-stored, search needs)

@@ -1,11 +1,6 @@
 use borrow.Author.Needs.{needs}
 use Rattle.network.proofs.open.write_tables.Statement.{statement}
 use Rattle.network.proofs.open.write_tables.Tie as tie
-use Rattle.network.proofs.open.write_tables.Reads as reads
-use Rattle.network.proofs.open.write_tables.Lts as lts
-use Rattle.network.proofs.open.write_arcs.Reads as write-arcs-reads
-use Rattle.network.proofs.open.write_cells.Reads as write-cells-reads
-use Rattle.network.proofs.open.write_points.Reads as write-points-reads
 
 write-cells-requires : tie.Need-write-cells-requires
 write-cells-requires c κs = search needs

@@ -3,8 +3,6 @@ use borrow.Author.Needs.{needs}
 use Rattle.network.proofs.read.cell.Statement.{statement}
 use Rattle.network.proofs.read.cell.Tie as tie
 use Rattle.network.proofs.read.cell.Reads as reads
-use Rattle.network.proofs.read.cell.Lts as lts
-use Rattle.network.proofs.read.field.Reads as field-reads
 
 field-requires : tie.Need-field-requires
 field-requires c κs = search reads

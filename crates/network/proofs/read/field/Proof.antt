@@ -1,10 +1,6 @@
 use borrow.Author.Needs.{needs}
 use Rattle.network.proofs.read.field.Statement.{statement}
 use Rattle.network.proofs.read.field.Tie as tie
-use Rattle.network.proofs.read.field.Reads as reads
-use Rattle.network.proofs.read.field.Lts as lts
-use Rattle.blocks.proofs.fields.le16.Reads as le16-reads
-use Rattle.blocks.proofs.place.offset.Reads as offset-reads
 
 offset-requires : tie.Need-offset-requires
 offset-requires c κs = search needs

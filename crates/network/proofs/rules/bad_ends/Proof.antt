@@ -2,8 +2,6 @@ use Rattle.loops.specs.Pick.{picks}
 use Rattle.network.specs.Rules.{badEnds}
 use Rattle.network.proofs.rules.bad_ends.Statement.{statement}
 use Rattle.network.proofs.rules.bad_ends.Tie as tie
-use Rattle.network.proofs.rules.bad_ends.Reads as reads
-use Rattle.network.proofs.rules.bad_ends.Lts as lts
 
 returns : tie.Need-returns
 unfolding badEnds

@@ -3,9 +3,6 @@ use Rattle.network.specs.Rules.{badPointBy}
 use borrow.Author.Needs.{needs}
 use Rattle.network.proofs.rules.bad_point.Statement.{statement}
 use Rattle.network.proofs.rules.bad_point.Tie as tie
-use Rattle.network.proofs.rules.bad_point.Reads as reads
-use Rattle.network.proofs.rules.bad_point.Lts as lts
-use Rattle.network.proofs.rules.is_misplaced.Reads as is-misplaced-reads
 
 is-misplaced-requires : tie.Need-is-misplaced-requires
 is-misplaced-requires c κs = search needs

@@ -6,9 +6,6 @@ use Rattle.network.specs.Rules.{badArc}
 use borrow.Author.Needs.{needs}
 use Rattle.network.proofs.rules.first_bad_arc.Statement.{statement}
 use Rattle.network.proofs.rules.first_bad_arc.Tie as tie
-use Rattle.network.proofs.rules.first_bad_arc.Reads as reads
-use Rattle.network.proofs.rules.first_bad_arc.Lts as lts
-use Rattle.network.proofs.rules.is_bad_arc.Reads as is-bad-arc-reads
 
 abbrev Inv-loop : tie.InvT-loop
 Inv-loop file l arcs a₀ a = (a ≤ arcs) × (first a (badArc (decode file)) ≡ a)

@@ -6,9 +6,6 @@ use Rattle.network.specs.Rules.{badCell}
 use borrow.Author.Needs.{needs}
 use Rattle.network.proofs.rules.first_bad_cell.Statement.{statement}
 use Rattle.network.proofs.rules.first_bad_cell.Tie as tie
-use Rattle.network.proofs.rules.first_bad_cell.Reads as reads
-use Rattle.network.proofs.rules.first_bad_cell.Lts as lts
-use Rattle.network.proofs.rules.is_bad_cell.Reads as is-bad-cell-reads
 
 abbrev Inv-loop : tie.InvT-loop
 Inv-loop file l nodes v₀ v = (v ≤ nodes) × (first v (badCell (decode file)) ≡ v)

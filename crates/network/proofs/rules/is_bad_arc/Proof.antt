@@ -2,12 +2,6 @@ use Rattle.network.specs.Rules.{judges}
 use borrow.Author.Needs.{needs}
 use Rattle.network.proofs.rules.is_bad_arc.Statement.{statement}
 use Rattle.network.proofs.rules.is_bad_arc.Tie as tie
-use Rattle.network.proofs.rules.is_bad_arc.Reads as reads
-use Rattle.network.proofs.rules.is_bad_arc.Lts as lts
-use Rattle.network.proofs.read.count.Reads as count-reads
-use Rattle.network.proofs.read.head.Reads as head-reads
-use Rattle.network.proofs.read.tail.Reads as tail-reads
-use Rattle.network.proofs.rules.bad_ends.Reads as bad-ends-reads
 
 tail-requires : tie.Need-tail-requires
 tail-requires c κs = search needs

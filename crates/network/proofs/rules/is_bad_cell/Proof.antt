@@ -2,9 +2,6 @@ use Rattle.network.specs.Rules.{judges}
 use borrow.Author.Needs.{needs}
 use Rattle.network.proofs.rules.is_bad_cell.Statement.{statement}
 use Rattle.network.proofs.rules.is_bad_cell.Tie as tie
-use Rattle.network.proofs.rules.is_bad_cell.Reads as reads
-use Rattle.network.proofs.rules.is_bad_cell.Lts as lts
-use Rattle.network.proofs.read.cell.Reads as cell-reads
 
 cell-requires : tie.Need-cell-requires
 cell-requires c κs = search needs

@@ -2,8 +2,6 @@ use Rattle.loops.specs.Pick.{picks}
 use Rattle.network.specs.Rules.{misplaced}
 use Rattle.network.proofs.rules.is_misplaced.Statement.{statement}
 use Rattle.network.proofs.rules.is_misplaced.Tie as tie
-use Rattle.network.proofs.rules.is_misplaced.Reads as reads
-use Rattle.network.proofs.rules.is_misplaced.Lts as lts
 
 returns : tie.Need-returns
 unfolding misplaced

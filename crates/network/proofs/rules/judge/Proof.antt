@@ -4,11 +4,6 @@ use Rattle.network.specs.Judge.{judgings}
 use borrow.Author.Needs.{needs}
 use Rattle.network.proofs.rules.judge.Statement.{statement}
 use Rattle.network.proofs.rules.judge.Tie as tie
-use Rattle.network.proofs.rules.judge.Reads as reads
-use Rattle.network.proofs.rules.judge.Lts as lts
-use Rattle.network.proofs.answer.faulty.Reads as faulty-reads
-use Rattle.network.proofs.rules.first_bad_cell.Reads as first-bad-cell-reads
-use Rattle.network.proofs.rules.judge_arcs.Reads as judge-arcs-reads
 
 first-bad-cell-requires : tie.Need-first-bad-cell-requires
 first-bad-cell-requires c κs = search needs

@@ -4,12 +4,6 @@ use Rattle.network.specs.Judge.{counted, judgings}
 use borrow.Author.Needs.{needs}
 use Rattle.network.proofs.rules.judge_arcs.Statement.{statement}
 use Rattle.network.proofs.rules.judge_arcs.Tie as tie
-use Rattle.network.proofs.rules.judge_arcs.Reads as reads
-use Rattle.network.proofs.rules.judge_arcs.Lts as lts
-use Rattle.network.proofs.answer.faulty.Reads as faulty-reads
-use Rattle.network.proofs.rules.first_bad_arc.Reads as first-bad-arc-reads
-use Rattle.network.proofs.rules.judge_points.Reads as judge-points-reads
-use Rattle.network.proofs.rules.sum_of_counts.Reads as sum-of-counts-reads
 
 first-bad-arc-requires : tie.Need-first-bad-arc-requires
 first-bad-arc-requires c κs = search needs

@@ -4,10 +4,6 @@ use Rattle.network.specs.Judge.{judgings}
 use borrow.Author.Needs.{needs}
 use Rattle.network.proofs.rules.judge_points.Statement.{statement}
 use Rattle.network.proofs.rules.judge_points.Tie as tie
-use Rattle.network.proofs.rules.judge_points.Reads as reads
-use Rattle.network.proofs.rules.judge_points.Lts as lts
-use Rattle.network.proofs.answer.faulty.Reads as faulty-reads
-use Rattle.network.proofs.rules.scan_points.Reads as scan-points-reads
 
 scan-points-requires : tie.Need-scan-points-requires
 scan-points-requires c κs = search needs

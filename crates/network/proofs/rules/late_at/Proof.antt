@@ -3,8 +3,6 @@ use Rattle.network.specs.Scan.{lateAt}
 use borrow.Author.Needs.{needs}
 use Rattle.network.proofs.rules.late_at.Statement.{statement}
 use Rattle.network.proofs.rules.late_at.Tie as tie
-use Rattle.network.proofs.rules.late_at.Reads as reads
-use Rattle.network.proofs.rules.late_at.Lts as lts
 
 returns : tie.Need-returns
 unfolding lateAt

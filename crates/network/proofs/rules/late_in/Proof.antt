@@ -3,8 +3,6 @@ use Rattle.network.specs.ScanAll.{lateIn}
 use borrow.Author.Needs.{needs}
 use Rattle.network.proofs.rules.late_in.Statement.{statement}
 use Rattle.network.proofs.rules.late_in.Tie as tie
-use Rattle.network.proofs.rules.late_in.Reads as reads
-use Rattle.network.proofs.rules.late_in.Lts as lts
 
 returns : tie.Need-returns
 unfolding lateIn

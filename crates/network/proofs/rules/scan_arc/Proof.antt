@@ -9,12 +9,6 @@ use Rattle.network.specs.Scan.{Scanning, scans}
 use borrow.Author.Needs.{needs}
 use Rattle.network.proofs.rules.scan_arc.Statement.{statement}
 use Rattle.network.proofs.rules.scan_arc.Tie as tie
-use Rattle.network.proofs.rules.scan_arc.Reads as reads
-use Rattle.network.proofs.rules.scan_arc.Lts as lts
-use Rattle.network.proofs.read.tick.Reads as tick-reads
-use Rattle.network.proofs.read.travel.Reads as travel-reads
-use Rattle.network.proofs.rules.bad_point.Reads as bad-point-reads
-use Rattle.network.proofs.rules.late_at.Reads as late-at-reads
 
 abbrev Inv-loop : tie.InvT-loop
 Inv-loop file l from count tick₀ end₀ late₀ i₀ tick end late i = Scanning (l .period) (entryAt (decode file .ticks) from) (entryAt (decode file .travels) from) count i tick end late × (l .period ≤ 2880)

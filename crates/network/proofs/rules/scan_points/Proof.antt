@@ -7,11 +7,6 @@ use Rattle.network.specs.ScanAll.{ScanningAll, all-start, alls}
 use borrow.Author.Needs.{needs}
 use Rattle.network.proofs.rules.scan_points.Statement.{statement}
 use Rattle.network.proofs.rules.scan_points.Tie as tie
-use Rattle.network.proofs.rules.scan_points.Reads as reads
-use Rattle.network.proofs.rules.scan_points.Lts as lts
-use Rattle.network.proofs.read.count.Reads as count-reads
-use Rattle.network.proofs.rules.late_in.Reads as late-in-reads
-use Rattle.network.proofs.rules.scan_arc.Reads as scan-arc-reads
 
 abbrev Inv-loop : tie.InvT-loop
 Inv-loop file l arcs points from₀ late₀ a₀ from late a = ScanningAll (decode file) (l .period) arcs points a from late

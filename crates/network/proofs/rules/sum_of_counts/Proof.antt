@@ -8,9 +8,6 @@ use Rattle.network.specs.Network.{start, count}
 use borrow.Author.Needs.{needs}
 use Rattle.network.proofs.rules.sum_of_counts.Statement.{statement}
 use Rattle.network.proofs.rules.sum_of_counts.Tie as tie
-use Rattle.network.proofs.rules.sum_of_counts.Reads as reads
-use Rattle.network.proofs.rules.sum_of_counts.Lts as lts
-use Rattle.network.proofs.read.count.Reads as count-reads
 
 abbrev Inv-loop : tie.InvT-loop
 Inv-loop file l sum₀ a₀ a-end sum a = (a ≤ a-end) × (a-end ≡ l .arcs) × (a-end ≤ 2048) × (sum ≡ total a (count (decode file))) × (sum ≤ 65535 * a)

@@ -4,9 +4,6 @@ use Rattle.network.specs.Decode.{laid-small, laid-blocks}
 use borrow.Author.Needs.{needs}
 use Rattle.network.proofs.validate.first_bad_form.Statement.{statement}
 use Rattle.network.proofs.validate.first_bad_form.Tie as tie
-use Rattle.network.proofs.validate.first_bad_form.Reads as reads
-use Rattle.network.proofs.validate.first_bad_form.Lts as lts
-use Rattle.blocks.proofs.form.first_unformed.Reads as first-unformed-reads
 
 first-unformed-requires : tie.Need-first-unformed-requires
 first-unformed-requires c κs = (search forms, omega (arith, laid-small (c .before .pre)))

@@ -1,11 +1,6 @@
 use borrow.Author.Needs.{needs}
 use Rattle.network.proofs.validate.header_at.Statement.{statement}
 use Rattle.network.proofs.validate.header_at.Tie as tie
-use Rattle.network.proofs.validate.header_at.Reads as reads
-use Rattle.network.proofs.validate.header_at.Lts as lts
-use Rattle.blocks.proofs.fields.le16.Reads as le16-reads
-use Rattle.blocks.proofs.fields.le32.Reads as le32-reads
-use Rattle.network.proofs.header.Header.new.Reads as new-reads
 
 le32-requires : tie.Need-le32-requires
 le32-requires c κs = search needs

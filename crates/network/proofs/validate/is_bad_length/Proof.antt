@@ -2,8 +2,6 @@ use Rattle.loops.specs.Pick.{picks}
 use Rattle.network.specs.Validate.{badLength}
 use Rattle.network.proofs.validate.is_bad_length.Statement.{statement}
 use Rattle.network.proofs.validate.is_bad_length.Tie as tie
-use Rattle.network.proofs.validate.is_bad_length.Reads as reads
-use Rattle.network.proofs.validate.is_bad_length.Lts as lts
 
 returns : tie.Need-returns
 unfolding badLength

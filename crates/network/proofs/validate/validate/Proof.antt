@@ -5,12 +5,6 @@ use Rattle.loops.specs.Pick.{picks}
 use borrow.Author.Needs.{needs}
 use Rattle.network.proofs.validate.validate.Statement.{statement}
 use Rattle.network.proofs.validate.validate.Tie as tie
-use Rattle.network.proofs.validate.validate.Reads as reads
-use Rattle.network.proofs.validate.validate.Lts as lts
-use Rattle.blocks.proofs.reader.first_bad_sum.Reads as first-bad-sum-reads
-use Rattle.network.proofs.answer.refused.Reads as refused-reads
-use Rattle.network.proofs.validate.is_bad_length.Reads as is-bad-length-reads
-use Rattle.network.proofs.validate.validate_first.Reads as validate-first-reads
 
 is-bad-length-requires : tie.Need-is-bad-length-requires
 is-bad-length-requires c κs = search needs

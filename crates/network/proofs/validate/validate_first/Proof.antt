@@ -3,11 +3,6 @@ use Rattle.loops.specs.Pick.{picks}
 use borrow.Author.Needs.{needs}
 use Rattle.network.proofs.validate.validate_first.Statement.{statement}
 use Rattle.network.proofs.validate.validate_first.Tie as tie
-use Rattle.network.proofs.validate.validate_first.Reads as reads
-use Rattle.network.proofs.validate.validate_first.Lts as lts
-use Rattle.blocks.proofs.form.is_formed.Reads as is-formed-reads
-use Rattle.network.proofs.answer.refused.Reads as refused-reads
-use Rattle.network.proofs.validate.validate_header.Reads as validate-header-reads
 
 is-formed-requires : tie.Need-is-formed-requires
 is-formed-requires c κs = search needs

@@ -4,11 +4,6 @@ use Rattle.network.specs.Validate.{form-taken, form-passed}
 use borrow.Author.Needs.{needs}
 use Rattle.network.proofs.validate.validate_form.Statement.{statement}
 use Rattle.network.proofs.validate.validate_form.Tie as tie
-use Rattle.network.proofs.validate.validate_form.Reads as reads
-use Rattle.network.proofs.validate.validate_form.Lts as lts
-use Rattle.network.proofs.answer.refused.Reads as refused-reads
-use Rattle.network.proofs.validate.first_bad_form.Reads as first-bad-form-reads
-use Rattle.network.proofs.validate.validate_rules.Reads as validate-rules-reads
 
 first-bad-form-requires : tie.Need-first-bad-form-requires
 first-bad-form-requires c κs = search needs

@@ -2,11 +2,6 @@ use Rattle.network.specs.Validate.{header-within, header-is, header-insi
 use borrow.Author.Needs.{needs}
 use Rattle.network.proofs.validate.validate_header.Statement.{statement}
 use Rattle.network.proofs.validate.validate_header.Tie as tie
-use Rattle.network.proofs.validate.validate_header.Reads as reads
-use Rattle.network.proofs.validate.validate_header.Lts as lts
-use Rattle.network.proofs.answer.refused.Reads as refused-reads
-use Rattle.network.proofs.validate.header_at.Reads as header-at-reads
-use Rattle.network.proofs.validate.validate_length.Reads as validate-length-reads
 
 header-at-requires : tie.Need-header-at-requires
 header-at-requires c κs = search needs

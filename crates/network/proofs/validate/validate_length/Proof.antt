@@ -4,11 +4,6 @@ use Rattle.network.specs.Validate.{length-taken, length-passed, now-laid
 use borrow.Author.Needs.{needs}
 use Rattle.network.proofs.validate.validate_length.Statement.{statement}
 use Rattle.network.proofs.validate.validate_length.Tie as tie
-use Rattle.network.proofs.validate.validate_length.Reads as reads
-use Rattle.network.proofs.validate.validate_length.Lts as lts
-use Rattle.network.proofs.answer.refused.Reads as refused-reads
-use Rattle.network.proofs.header.Header.layout.Reads as layout-reads
-use Rattle.network.proofs.validate.validate_form.Reads as validate-form-reads
 
 layout-requires : tie.Need-layout-requires
 layout-requires c κs = search needs

@@ -2,9 +2,6 @@ use Rattle.network.specs.Validate.{rules-sound, rules-faulty}
 use borrow.Author.Needs.{needs}
 use Rattle.network.proofs.validate.validate_rules.Statement.{statement}
 use Rattle.network.proofs.validate.validate_rules.Tie as tie
-use Rattle.network.proofs.validate.validate_rules.Reads as reads
-use Rattle.network.proofs.validate.validate_rules.Lts as lts
-use Rattle.network.proofs.rules.judge.Reads as judge-reads
 
 judge-requires : tie.Need-judge-requires
 judge-requires c κs = search needs

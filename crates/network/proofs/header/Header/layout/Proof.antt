@@ -3,8 +3,6 @@ use Rattle.network.specs.Layout.{layoutOf}
 use borrow.Author.Needs.{needs}
 use Rattle.network.proofs.header.Header.layout.Statement.{statement}
 use Rattle.network.proofs.header.Header.layout.Tie as tie
-use Rattle.network.proofs.header.Header.layout.Reads as reads
-use Rattle.network.proofs.header.Header.layout.Lts as lts
 
 cast-nodes : tie.Need-cast-nodes
 cast-nodes c = search needs

@@ -3,8 +3,6 @@ use Rattle.network.specs.Limits.{made}
 use borrow.Author.Needs.{needs}
 use Rattle.network.proofs.header.Header.new.Statement.{statement}
 use Rattle.network.proofs.header.Header.new.Tie as tie
-use Rattle.network.proofs.header.Header.new.Reads as reads
-use Rattle.network.proofs.header.Header.new.Lts as lts
 
 returns : tie.Need-returns
 unfolding made

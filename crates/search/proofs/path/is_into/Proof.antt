@@ -1,0 +1,71 @@
+-- `search::path::is_into` meets its contract: each way through the tests is a case of `explains`.
+-- Assumes nothing.
+use Prim.Native.Nat.{_<_}
+use lib.ListN.{length}
+use Rattle.network.specs.Decode.{decode}
+use Rattle.network.specs.Town.{graphOf}
+use Rattle.search.specs.Town.{permitOf, town-reads}
+use Rattle.search.specs.Into.{not-permitted, no-label, by-end}
+use borrow.Author.Tests.{eq-eqb, ne-eqb}
+use borrow.Author.Needs.{needs}
+use Rattle.search.proofs.path.is_into.Statement.{statement}
+use Rattle.search.proofs.path.is_into.Tie as tie
+
+shared-slice-read-if1 : tie.Need-shared-slice-read-if1
+shared-slice-read-if1 c = search needs
+
+returns : tie.Need-returns
+returns c = search (not-permitted, ne-eqb)
+
+tail-requires : tie.Need-tail-requires
+tail-requires c κs = search needs
+
+mul-tick : tie.Need-mul-tick
+mul-tick c = search needs
+
+shared-slice-read-tick : tie.Need-shared-slice-read-tick
+shared-slice-read-tick c = search town-reads
+
+returns-2 : tie.Need-returns-2
+returns-2 c = search (no-label, town-reads, eq-eqb)
+
+ends-at-requires : tie.Need-ends-at-requires
+ends-at-requires c κs = (search needs, ((search needs, search town-reads), search town-reads))
+
+mul-result : tie.Need-mul-result
+mul-result c = search needs
+
+shared-slice-read-result : tie.Need-shared-slice-read-result
+shared-slice-read-result c = search needs
+
+returns-3 : tie.Need-returns-3
+returns-3 c =
+    let e = c .before .before in
+    let f = e .before .before .before in
+    let s = f .before .before .before .before .before in
+    let L = s .args .labels .now in
+    let u : e .before .before .tail .result < length L = search town-reads in
+    let v : s .args .v < length L = search town-reads in
+    by-end (graphOf (decode (s .args .file .now))) (permitOf (s .args .mask .now)) L (s .args .v) (s .args .arc) _ u
+    (e .before .before .tail .ensures .0)
+    (eq-eqb _ _ (f .if1 .left))
+    (s .pre .1 .1 .1)
+    _
+    v
+    (e .if2 .left)
+    (c .before .ends-at .ensures .0)
+
+pub is-into-spec : {M : Type 1} → statement M
+is-into-spec =
+    tie.close
+    (tie.spec
+    shared-slice-read-if1
+    returns
+    tail-requires
+    mul-tick
+    shared-slice-read-tick
+    returns-2
+    ends-at-requires
+    mul-result
+    shared-slice-read-result
+    returns-3)

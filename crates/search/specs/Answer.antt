@@ -1,0 +1,39 @@
+-- What a search answers, and what it leaves in the two lists, by the definitions of the crate `paths`. Definitions alone.
+use mathlib.Core.Path.{_≡_}
+use mathlib.Core.Bool.{cond}
+use mathlib.Core.List.{List}
+use Prim.Native.Nat.{ℕ}
+use lib.ListN.{length}
+use lib.Dec.{eqb, ltb}
+use Rattle.loops.specs.Fill.{Filled}
+use Rattle.paths.specs.Graph.{Graph, Permit}
+use Rattle.paths.specs.Earliest.{never}
+use Rattle.paths.specs.Labels.{label, labels}
+use Rattle.search.specs.Trim.{shown}
+use Rattle.paths.specs.Chosen.{chosen}
+use Rattle.search.specs.Path.{entryOf}
+use Rattle.search.specs.declared.Outcome.{Outcome}
+use Rattle.search.specs.declared.Outcome.the-variants.{Arrived, NoWay, Short}
+
+-- The answer where the target's label is `tick`, the chosen path has `count` arcs and the list of roads has room for `room`.
+abbrev pub outcomeOf : ℕ → ℕ → ℕ → Outcome
+outcomeOf tick count room =
+    cond (eqb tick never) NoWay
+    (cond (ltb room count) Short
+    (Arrived (record { tick = tick; count = count })))
+
+-- How many roads are written.
+abbrev pub written : Outcome → ℕ
+written (Arrived t) = t .count
+written NoWay = 0
+written Short = 0
+
+-- The answer r and the list of roads, before and after, by the labels L: the first roads become the chosen path where it is written, the others stay.
+pub record Told (g : Graph) (p : Permit) (s t : ℕ) (L roads₀ roads : List ℕ) (r : Outcome) : Type 0 where
+  pub outcome : r ≡ outcomeOf (label L t) (length (chosen g p s L t)) (length roads₀)
+  pub writes : Filled 0 (written r) (entryOf (chosen g p s L t)) roads₀ roads
+
+-- The same by the true labels, with the list of arrivals: its first entries, one for each node, become what is shown of the labels, the others stay.
+pub record Answered (g : Graph) (p : Permit) (s x t : ℕ) (arrivals₀ arrivals roads₀ roads : List ℕ) (r : Outcome) : Type 0 where
+  pub shows : Filled 0 (g .nodes) (shown (labels g p s x) t) arrivals₀ arrivals
+  pub told : Told g p s t (labels g p s x) roads₀ roads r

@@ -1,0 +1,16 @@
+pub mod Chain
+pub mod Relax
+pub mod Settle
+pub mod Frontier
+pub mod Nearest
+pub mod Town
+pub mod Times
+pub mod Walk
+pub mod Reach
+pub mod Into
+pub mod Back
+pub mod Path
+pub mod Trim
+pub mod Answer
+pub mod Answering
+pub mod Promise
