@@ -1,5 +1,6 @@
 -- The first index below a bound at which a test holds, with its laws: what every loop cites that is left at the first failing index.
 use mathlib.Core.Path.{_≡_, refl, sym, _∙_}
+use mathlib.Core.Logic.{_↔_}
 use mathlib.Core.Bool.{Bool, true, false}
 use Prim.Native.Nat.{ℕ, zero, suc, _+_, _≤_, _<_}
 use native.Mathlib.Nat.{le-antisymm}
@@ -74,6 +75,16 @@ module _ (p : ℕ → Bool) where
 
   pub least : (n k : ℕ) → k < first n p → p k ≡ false
   least n k l = first-first n .before k l
+
+  -- the same of a yes or no: no is nowhere below n, yes is somewhere
+  pub any-clear : (n : ℕ) → (any n p ≡ false) ↔ ((k : ℕ) → k < n → p k ≡ false)
+  any-clear n = (
+    λ e. clear n (omega (arith, ltb-false (first n p) n e, first-le n)),
+    λ h. le-ltb (first n p) n (omega (arith, all-clear n h)),
+  )
+
+  pub any-found : (n : ℕ) → any n p ≡ true → (k : ℕ) × (k < n) × (p k ≡ true)
+  any-found n e = let l : first n p < n = ltb-true (first n p) n e in (first n p, l, found n l)
 
   -- FOR A LOOP that counts i up to n, with the invariant `(i ≤ n) × (first i p ≡ i)`: p is false at every index passed
   pub none-yet : first 0 p ≡ 0

@@ -1,5 +1,6 @@
 -- The laws that a branch of the code cites where the contract is a nest of `cond`: a test applies, or is passed.
 use mathlib.Core.Path.{_≡_, refl}
+use mathlib.Core.Logic.{_↔_}
 use mathlib.Core.Bool.{Bool, true, false, cond, _||_, _&&_}
 use Prim.Native.Nat.{ℕ, _≤_, _<_}
 use native.Mathlib.Omega.{arith}
@@ -75,3 +76,7 @@ module _ {A : Type 0} where
 pub or-passed : (a b : Bool) → (a || b) ≡ false → (a ≡ false) × (b ≡ false)
 or-passed true b e = let z : _≡_ {A = ℕ} 0 1 = cc in absurd (omega arith)
 or-passed false b e = (refl, e)
+
+pub and-clear : (a b : Bool) → ((a && b) ≡ false) ↔ (a ≡ true → b ≡ false)
+and-clear true b = (λ e _. e, λ h. h refl)
+and-clear false b = (λ e f. let z : _≡_ {A = ℕ} 0 1 = cc in absurd (omega arith), λ h. refl)

@@ -11,4 +11,12 @@ pub mod Judge
 pub mod Validate
 pub mod Valid
 pub mod Open
+pub mod Encode
+pub mod Holds
+pub mod RoundTrip
+pub mod Block
+pub mod Pack
+pub mod Written
+pub mod Front
+pub mod Packed
 pub mod Town

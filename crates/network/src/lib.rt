@@ -2,8 +2,10 @@
 // and the meaning of a file: `Network`, `decode` and `encode`, both round trips, and the lawful graph of every file that opens.
 // It may call `blocks` for bytes and `travel` for the straight line, and cites `loops` and `paths`. Files are read in place.
 pub mod answer;
+pub mod encode;
 pub mod header;
 pub mod open;
+pub mod pack;
 pub mod read;
 pub mod rules;
 pub mod validate;

@@ -12,7 +12,7 @@ ghost use Rattle.network.specs.Decode.{decode, Laid};
 ghost use Rattle.network.specs.Open.{tooShort, opening, Room, overwritten, tableAfter};
 
 // Refusal 30: has a table of these lengths no room for the header's counts?
-fn is_short(
+pub fn is_short(
     h: Header,
     cells: usize,
     tails: usize,

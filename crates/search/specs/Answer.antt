@@ -1,17 +1,17 @@
--- What a search answers, and what it leaves in the two lists, by the definitions of the crate `paths`. Definitions alone.
+-- What a search answers, and what it leaves in the two lists, by the definitions of the crate `paths`: the labels and the chosen path.
+-- Definitions alone; what they mean for a van is in `Promise`.
 use mathlib.Core.Path.{_≡_}
 use mathlib.Core.Bool.{cond}
 use mathlib.Core.List.{List}
 use Prim.Native.Nat.{ℕ}
-use lib.ListN.{length}
+use lib.ListN.{length, getD}
 use lib.Dec.{eqb, ltb}
 use Rattle.loops.specs.Fill.{Filled}
 use Rattle.paths.specs.Graph.{Graph, Permit}
 use Rattle.paths.specs.Earliest.{never}
 use Rattle.paths.specs.Labels.{label, labels}
-use Rattle.search.specs.Trim.{shown}
 use Rattle.paths.specs.Chosen.{chosen}
-use Rattle.search.specs.Path.{entryOf}
+use Rattle.search.specs.Trim.{shown}
 use Rattle.search.specs.declared.Outcome.{Outcome}
 use Rattle.search.specs.declared.Outcome.the-variants.{Arrived, NoWay, Short}
 
@@ -21,6 +21,10 @@ outcomeOf tick count room =
     cond (eqb tick never) NoWay
     (cond (ltb room count) Short
     (Arrived (record { tick = tick; count = count })))
+
+-- The list's entry at a place.
+abbrev pub entryOf : List ℕ → ℕ → ℕ
+entryOf w k = getD w k 0
 
 -- How many roads are written.
 abbrev pub written : Outcome → ℕ

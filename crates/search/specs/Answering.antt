@@ -1,4 +1,5 @@
--- The laws by which the search comes to its answer, from the labels that it left.
+-- The laws by which the search comes to its answer, from the labels that it left: exact up to the target's, they tell and show what the
+-- true labels do. In the shape of the needs of `tell`, `answer` and `search`.
 use mathlib.Core.Path.{_≡_, sym, _∙_}
 use mathlib.Core.Logic.{_≢_}
 use mathlib.Core.List.{List, _++_}
@@ -20,8 +21,8 @@ use Rattle.network.specs.declared.header.Layout.{Layout}
 use Rattle.network.specs.Decode.{decode}
 use Rattle.network.specs.Town.{graphOf}
 use Rattle.search.specs.Reach.{Reached, small}
-use Rattle.search.specs.Path.{entryOf, Listed}
-use Rattle.search.specs.Answer.{Answered, Told, written}
+use Rattle.search.specs.Path.{Listed}
+use Rattle.search.specs.Answer.{Answered, Told, entryOf}
 use Rattle.search.specs.declared.Outcome.{Outcome}
 use Rattle.search.specs.declared.Outcome.the-variants.{Arrived, NoWay, Short}
 

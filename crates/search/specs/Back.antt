@@ -1,4 +1,5 @@
 -- Going back along the chosen path, arc by arc: where it stands after n arcs, which arc comes next, and when it is at the path's start.
+-- So a path can be counted and written without a list of its own.
 use mathlib.Core.Path.{_≡_, refl, _∙_, ap}
 use mathlib.Core.Logic.{_≢_}
 use mathlib.Core.Bool.{Bool, true, false, cond}

@@ -1,4 +1,5 @@
--- The nearest node of the frontier, found by one pass over its entries.
+-- The nearest node of the frontier, found by one pass over its entries: the invariant of the pass (`Least`), and what it has found (`Picked`).
+-- Of nodes that are equally near, any will do.
 use mathlib.Core.Path.{_≡_, _∙_, ap}
 use mathlib.Core.List.{List}
 use Prim.Native.Nat.{ℕ, _+_, _≤_, _<_}

@@ -1,14 +1,15 @@
--- The laws by which the chosen path is counted and then written, from its last arc to its first, in the shape of the needs of the two loops.
+-- The chosen path as the code comes by it: counted, and then written from its last arc to its first where the list has room (`Listed`).
+-- The laws are in the shape of the needs of the two loops, which both go back along the path.
 use mathlib.Core.Path.{_≡_, sym, _∙_, ap}
 use mathlib.Core.Logic.{_≢_}
 use mathlib.Core.Bool.{cond}
 use mathlib.Core.List.{List}
-use Prim.Native.Nat.{ℕ, _+_, _-_, _*_, _≤_, _<_}
+use Prim.Native.Nat.{ℕ, _+_, _-_, _≤_, _<_}
 use native.Mathlib.Nat.{le-refl, sub-zero}
 use native.Mathlib.Omega.{arith}
 use mir.Val.{Fits}
 use mir.Syntax.{w16, w64}
-use lib.ListN.{length, getD, set}
+use lib.ListN.{length, set}
 use lib.Dec.{ltb}
 use borrow.Author.Tests.{lt-ltb, le-ltb}
 use Rattle.loops.specs.Fill.{Filled, fill-none, fill-down, fill-start}
@@ -19,6 +20,7 @@ use Rattle.network.specs.declared.header.Layout.{Layout}
 use Rattle.network.specs.Network.{tail}
 use Rattle.network.specs.Decode.{decode}
 use Rattle.network.specs.Town.{graphOf}
+use Rattle.search.specs.Answer.{entryOf}
 use Rattle.search.specs.Town.{Ready, permitOf, lawful}
 use Rattle.search.specs.Reach.{Reached}
 use Rattle.search.specs.Back.{Walk, Onward, walk-start, walk-on, walk-end}
@@ -26,10 +28,6 @@ use Rattle.search.specs.Back.{Walk, Onward, walk-start, walk-on, walk-en
 -- The path that is counted and written.
 abbrev pub pathOf : List ℕ → List ℕ → ℕ → ℕ → List ℕ → List ℕ
 pathOf file mask s t L = chosen (graphOf (decode file)) (permitOf mask) s L t
-
--- The list's entry at a place.
-abbrev pub entryOf : List ℕ → ℕ → ℕ
-entryOf w k = getD w k 0
 
 -- How many of `count` entries are written where there is room for `room`: all, or none.
 abbrev pub fitting : ℕ → ℕ → ℕ
@@ -112,17 +110,14 @@ module _ {file : List ℕ} {l : Layout} {mask starts : List ℕ} {s t : ℕ} {L 
     pub write-size : length L ≡ l .nodes
     write-size = back-size (k .back)
 
+    -- the list has room, and the path is short
+    pub write-room : (count ≤ length new) × (count < 512)
+    write-room =
+        let b = k .back in
+        let c = chosen-path (lawful (b .ready .town)) L (b .reached .exact) (b .known) in
+        (omega (arith, k .room, k .written .long), omega (arith, c .short, k .total, b .known .node, b .ready .town .sizes .nodes, b .ready .town .small .nodes-most))
+
     module _ (h : n < count) where
-      pub write-place : count - 1 - n < length new
-      write-place = omega (arith, k .room, k .written .long)
-
-      -- the same place, counted in bytes
-      pub write-scaled : Fits w64 ((count - 1 - n) * 2)
-      write-scaled =
-          let b = k .back in
-          let c = chosen-path (lawful (b .ready .town)) L (b .reached .exact) (b .known) in
-          omega (arith, c .short, k .total, b .ready .town .sizes .nodes, b .ready .town .small .nodes-most)
-
       -- it is not at the path's start yet
       ahead : v ≢ s
       ahead e = omega (arith, back-end (k .back) e, k .total)
@@ -154,4 +149,4 @@ module _ {file : List ℕ} {l : Layout} {mask starts : List ℕ} {s t : ℕ} {L 
 -- for `search backs` and `search writes` at the needs of the two loops
 pub ruleset backs = (back-start, back-end, back-node, back-size, back-listed, count-fits, back-less, back-more)
 
-pub ruleset writes = (back-start, write-start, write-end, write-node, write-size, write-place, write-scaled, write-listed, write-fits, write-more)
+pub ruleset writes = (back-start, write-start, write-end, write-node, write-size, write-listed, write-fits, write-more)

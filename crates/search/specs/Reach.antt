@@ -140,9 +140,13 @@ search-size t c = c .kept .size ∙ sym (t .sizes .nodes)
 -- for `search turns` at the needs of the loop
 pub ruleset turns = (search-start, search-source, search-dry, search-stop, search-size, turn-early, turn)
 
--- FOR `reach`: the same of the source's own label
-pub started-own : (old : List ℕ) {L : List ℕ} {n s x : ℕ} → length old ≡ n → Started (length old) s x L → Started n s (label L s) L
-started-own old e a = rw (← e, a .source) (record { size = a .size; source = a .source; others = a .others })
+-- FOR `reach`: the same said of the source's own label
+module _ {m s x : ℕ} {L : List ℕ} (a : Started m s x L) where
+  pub started-own : {n : ℕ} → m ≡ n → Started n s (label L s) L
+  started-own e = rw (← e, a .source) a
 
-pub started-source : (old : List ℕ) {L : List ℕ} {s x y : ℕ} → Started (length old) s x L → x < y → label L s < y
-started-source old a h = rw (a .source) h
+  pub started-below : {y : ℕ} → x < y → label L s < y
+  started-below h = rw (a .source) h
+
+  pub started-kept : {y : ℕ} → y ≡ label L s → y ≡ x
+  started-kept e = e ∙ a .source

@@ -1,4 +1,5 @@
 -- The laws by which code reads when an arc ends: where the arc's points start, that they are a day's points, and the travel on their line.
+-- Also what fits: first points 16 bits, travels and arrivals 32, with never to spare.
 use mathlib.Core.Path.{_≡_, _∙_}
 use mathlib.Core.List.{List}
 use Prim.Native.Nat.{ℕ, _+_, _%_, _≤_, _<_}

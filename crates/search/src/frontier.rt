@@ -1,4 +1,5 @@
-// The frontier: the nodes that have a label and are not settled, as a table of `size` entries in any order. It is scanned for the nearest.
+// The frontier: the nodes that have a label and are not settled, as a table of `size` entries in any order (specs/Frontier.antt).
+// It is scanned for the nearest node; no other nodes are looked at.
 use crate::wide;
 ghost use Prim.Native.Nat.{_<_};
 ghost use Rattle.search.specs.Frontier.{Frontier};

@@ -3,11 +3,11 @@
 // It may call `network` for the entries of the file and `travel` for the straight line, and cites `loops` and `paths`.
 use network::header::Layout;
 
-mod chain;
+pub mod chain;
 mod frontier;
 mod path;
 mod reach;
-mod times;
+pub mod times;
 
 ghost use mathlib.Core.Path.{_≡_};
 ghost use Prim.Native.Nat.{_≤_, _<_};

@@ -18,9 +18,10 @@ ghost use Rattle.network.specs.Network.{head};
 ghost use Rattle.network.specs.Decode.{decode};
 ghost use Rattle.network.specs.Town.{graphOf};
 ghost use Rattle.search.specs.Town.{Ready, Early, permitOf};
+ghost use Rattle.search.specs.Answer.{entryOf};
 ghost use Rattle.search.specs.Chain.{Chained};
 ghost use Rattle.search.specs.Reach.{Reached};
-ghost use Rattle.search.specs.Path.{pathOf, entryOf, Listed};
+ghost use Rattle.search.specs.Path.{pathOf, Listed};
 
 // Does an arc into v, taken at its tail's label, end at v's?
 fn is_into(

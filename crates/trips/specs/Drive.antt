@@ -27,8 +27,7 @@ use Rattle.network.specs.Town.{graphOf}
 use Rattle.search.specs.declared.Trip.{Trip}
 use Rattle.search.specs.declared.Outcome.{Outcome}
 use Rattle.search.specs.declared.Outcome.the-variants.{Arrived, NoWay, Short}
-use Rattle.search.specs.Answer.{Answered, outcomeOf}
-use Rattle.search.specs.Path.{entryOf}
+use Rattle.search.specs.Answer.{Answered, outcomeOf, entryOf}
 use Rattle.search.specs.Trim.{shown}
 use Rattle.trips.specs.declared.answer.Answer.{Answer}
 use Rattle.trips.specs.declared.answer.Answer.the-variants as answer
@@ -109,6 +108,10 @@ module _ {file : List ℕ} {h : Header} (v : ValidFile file h) where
   pub drive-arcs : arcs (decode file) ≡ h .arcs
   unfolding decode
   drive-arcs = length-tab _ _ ∙ ap (λ (k : Header). k .arcs) (sym (v .is))
+
+  pub drive-cells : decode file .cells ≡ h .cells
+  unfolding decode
+  drive-cells = ap (λ (k : Header). k .cells) (sym (v .is))
 
   pub drive-period : decode file .period ≡ h .period
   unfolding decode

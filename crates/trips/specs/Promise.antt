@@ -24,10 +24,9 @@ use Rattle.network.specs.Town.{graphOf}
 use Rattle.search.specs.declared.Trip.{Trip}
 use Rattle.search.specs.declared.Outcome.{Outcome}
 use Rattle.search.specs.declared.Outcome.the-variants.{Arrived, NoWay, Short}
-use Rattle.search.specs.Answer.{Answered, written}
-use Rattle.search.specs.Path.{entryOf}
+use Rattle.search.specs.Answer.{Answered, written, entryOf}
 use Rattle.search.specs.Town.{Leaving, town-of, leaving}
-use Rattle.search.specs.Promise.{arrived, waiting, no-way, at-home, before-never}
+use Rattle.search.specs.Promise.{arrived, arrives, waiting, no-way, at-home, before-never}
 use Rattle.search.specs.Trim.{shown}
 use Rattle.trips.specs.declared.answer.Arrival.{Arrival}
 use Rattle.trips.specs.declared.answer.Answer.{Answer}
@@ -138,3 +137,8 @@ module _ (file : List ℕ) (h : Header) (p : Permit) (s t x : ℕ) (arrivals₀ 
   -- from a node to itself: at once, by no road
   pub trip-home : s ≡ t → a ≡ answer.Arrived (record { tick = x; count = 0 })
   trip-home q = e ∙ ap told (at-home leave target found q)
+
+  -- where there is a path and room for the chosen one, the trip arrives
+  pub trip-reaches : Reachable (graphOf n) p s t → length (chosen (graphOf n) p s (labels (graphOf n) p s x) t) ≤ length roads₀ → (r : Arrival) × (a ≡ answer.Arrived r)
+  trip-reaches c m =
+      (record { tick = label (labels (graphOf n) p s x) t; count = length (chosen (graphOf n) p s (labels (graphOf n) p s x) t) }, e ∙ ap told (arrives leave target found c m))

@@ -1,6 +1,6 @@
 -- `search::trim` meets its contract: the invariant is the contract itself at the nodes passed.
 -- Assumes nothing.
-use mathlib.Core.Path.{_≡_}
+use mathlib.Core.Path.{_≡_, refl}
 use Prim.Native.Nat.{_≤_, _-_}
 use lib.ListN.{length}
 use Rattle.loops.specs.Fill.{Filled, fills}
@@ -46,7 +46,10 @@ loop-less : tie.Need-loop-less Inv-loop μ-loop
 loop-less c = search needs
 
 loop-again : tie.Need-loop-again Inv-loop μ-loop
-loop-again c = (search needs, search needs, search (trim-more, needs))
+loop-again c =
+    let k = c .before .before .before in
+    let s = k .before .before .before in
+    (search needs, search needs, trim-more _ _ _ _ _ _ (k .loop .inv .2) (s .pre) (search needs) refl (c .shown-label .ensures))
 
 same-length : tie.Need-same-length Inv-loop μ-loop
 same-length c = search needs

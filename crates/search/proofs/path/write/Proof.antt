@@ -1,9 +1,10 @@
 -- `search::path::write` meets its contract: the loop goes back along the chosen path, and writes each arc before those written.
 -- Assumes nothing.
 use Prim.Native.Nat.{_-_}
+use native.Mathlib.Omega.{arith}
 use Rattle.network.specs.Network.{head}
 use Rattle.network.specs.Decode.{decode}
-use Rattle.search.specs.Path.{Writing, writes}
+use Rattle.search.specs.Path.{Writing, writes, write-room}
 use Rattle.search.specs.Chain.{Chained}
 use borrow.Author.Needs.{needs}
 use Rattle.search.proofs.path.write.Statement.{statement}
@@ -32,10 +33,10 @@ sub-roads-2 : tie.Need-sub-roads-2 Inv-loop μ-loop
 sub-roads-2 c = search needs
 
 mul-roads : tie.Need-mul-roads Inv-loop μ-loop
-mul-roads c = search writes
+mul-roads c = omega (arith, write-room (c .before .before .loop .inv .1))
 
 slice-write-roads : tie.Need-slice-write-roads Inv-loop μ-loop
-slice-write-roads c = search writes
+slice-write-roads c = omega (arith, write-room (c .before .before .loop .inv .1))
 
 tail-requires : tie.Need-tail-requires Inv-loop μ-loop
 tail-requires c κs = (search needs, search writes)

@@ -1,7 +1,6 @@
 -- `search::reach::reach` meets its contract: by the chain of the arcs out of each node, and from the source's label alone, all is settled.
 -- Assumes nothing.
-use mathlib.Core.Path.{_∙_}
-use Rattle.search.specs.Reach.{started-own, started-source}
+use Rattle.search.specs.Reach.{started-own, started-below, started-kept}
 use Rattle.search.specs.Town.{fresh-tables}
 use borrow.Author.Needs.{needs}
 use Rattle.search.proofs.reach.reach.Statement.{statement}
@@ -16,10 +15,9 @@ start-requires c κs = search needs
 settle-all-requires : tie.Need-settle-all-requires
 settle-all-requires c κs =
     let r = c .before .before .before .before .before in
-    let s = r .before .before .before .before .before .before .before .before in
-    let n = s .pre .1 in
+    let n = r .before .before .before .before .before .before .before .before .pre .1 in
     let a = r .start .ensures in
-    (search needs, (search needs, ((n .0, started-source (s .args .labels .now) a (n .1)), started-own (s .args .labels .now) (n .2) a)))
+    (search needs, (search needs, ((n .0, started-below a (n .1)), started-own a (n .2))))
 
 same-length : tie.Need-same-length
 same-length c = search needs
@@ -28,7 +26,7 @@ returns : tie.Need-returns
 returns c =
     let t = c .before .before in
     let r = t .before .before .before .before .before .before in
-    (t .settle-all .ensures .0, t .settle-all .ensures .1 ∙ r .start .ensures .source)
+    (t .settle-all .ensures .0, search (started-kept, r .start .ensures, t .settle-all .ensures .1))
 
 pub reach-spec : {M : Type 1} → statement M
 reach-spec =

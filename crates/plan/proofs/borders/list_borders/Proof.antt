@@ -1,0 +1,71 @@
+-- `plan::borders::list_borders` meets its contract: the marked nodes passed are listed. The two arms of the branch meet, so each is taken by itself.
+use mathlib.Core.Logic.{⊎-elim}
+use mathlib.Core.Path.{_≡_}
+use Prim.Native.Nat.{_≤_, _-_}
+use native.Mathlib.Omega.{arith}
+use lib.ListN.{length}
+use borrow.Author.Needs.{needs}
+use Rattle.loops.specs.Select.{Chosen, chooses, choose-yes, choose-no, choose-end}
+use Rattle.network.specs.Network.{nodes, arcs}
+use Rattle.network.specs.Decode.{decode, laid-sizes, laid-small}
+use Rattle.plan.specs.Border.{isBorder}
+use Rattle.plan.specs.Marks.{Marked, mark-none, border-yes, border-no, borders-listed}
+use Rattle.plan.proofs.borders.list_borders.Statement.{statement}
+use Rattle.plan.proofs.borders.list_borders.Tie as tie
+
+abbrev Inv-loop : tie.InvT-loop
+Inv-loop network out₀ marks count₀ v₀ v-end out count v = (v ≤ v-end) × (v-end ≡ nodes (decode network)) × (v-end ≤ 512) × Marked (decode network) (arcs (decode network)) marks × (length out₀ ≡ 512) × Chosen v (isBorder (decode network)) count out₀ out
+
+abbrev μ-loop : tie.MeasureT-loop
+μ-loop network out₀ marks count₀ v₀ v-end out count v = v-end - v
+
+mark-heads-requires : tie.Need-mark-heads-requires Inv-loop μ-loop
+mark-heads-requires c κs = (search needs, (search needs, mark-none _))
+
+loop-holds : tie.Need-loop-holds Inv-loop μ-loop
+loop-holds c = let s = c .before .before .before .pre .0 in (search needs, laid-sizes s .nodes, laid-small s .nodes-most, search needs, c .before .before .before .pre .1 .1, search chooses)
+
+array-read-if1 : tie.Need-array-read-if1 Inv-loop μ-loop
+array-read-if1 c = search needs
+
+cast-out : tie.Need-cast-out Inv-loop μ-loop
+cast-out c = search needs
+
+mul-out : tie.Need-mul-out Inv-loop μ-loop
+mul-out c = search needs
+
+element-write-out : tie.Need-element-write-out Inv-loop μ-loop
+element-write-out c = search needs
+
+add-count : tie.Need-add-count Inv-loop μ-loop
+add-count c = search needs
+
+add-v : tie.Need-add-v Inv-loop μ-loop
+add-v c = search needs
+
+loop-less : tie.Need-loop-less Inv-loop μ-loop
+loop-less c = search needs
+
+loop-again : tie.Need-loop-again Inv-loop μ-loop
+loop-again c = let i = c .before .before .loop .inv in (search needs, search needs, search needs, search needs, search needs, ⊎-elim (λ w. rw (w .1, w .2) (choose-yes _ _ _ _ _ (i .5) (omega (arith, i .5 .few)) (border-yes _ _ (i .3) _ (omega arith) (w .0 .taken)))) (λ w. rw (w .1, w .2) (choose-no _ _ _ _ _ (i .5) (border-no _ _ (i .3) _ (omega arith) (w .0 .left)))) (c .if1 .came))
+
+returns : tie.Need-returns Inv-loop μ-loop
+returns c = let i = c .before .loop .inv in borders-listed _ _ _ _ (choose-end _ _ _ _ _ _ (i .5) (omega arith) (omega arith))
+
+pub list-borders-spec : {M : Type 1} → statement M
+list-borders-spec =
+    tie.close
+    (tie.spec
+    Inv-loop
+    μ-loop
+    mark-heads-requires
+    loop-holds
+    array-read-if1
+    cast-out
+    mul-out
+    element-write-out
+    add-count
+    add-v
+    loop-less
+    loop-again
+    returns)

@@ -1,0 +1,31 @@
+-- Plans and their check: what a plan is (Border, Plan), what the check tests (Tests, Check) and that it is exact (Borders, Meaning, Exact, Promise),
+-- and the form of a plan file (the others).
+pub mod Border
+pub mod Borders
+pub mod Plan
+pub mod Tests
+pub mod Check
+pub mod Meaning
+pub mod Exact
+pub mod Promise
+pub mod PlanHeader
+pub mod PlanLayout
+pub mod Marks
+pub mod Cursor
+pub mod PlanDecode
+pub mod PlanRules
+pub mod PlanScan
+pub mod PlanScanAll
+pub mod PlanValidate
+pub mod PlanMatch
+pub mod WellFormed
+pub mod PlanValid
+pub mod CheckPlan
+pub mod Checkable
+pub mod Value
+pub mod Starts
+pub mod Giving
+pub mod Passing
+pub mod Failing
+pub mod Finding
+pub mod Checking

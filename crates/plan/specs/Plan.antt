@@ -1,0 +1,51 @@
+-- What a plan is: a flag word for each arc, and for each border and each node a profile, the points of all profiles one behind the other.
+-- Profile number i × nodes + u is that of border number i and node u.
+use mathlib.Core.Bool.{Bool, cond}
+use mathlib.Core.List.{List}
+use Prim.Native.Nat.{ℕ, _+_, _*_, _/_, _%_, _^_}
+use lib.ListN.{getD}
+use lib.Dec.{eqb}
+use Rattle.loops.specs.Total.{total}
+use Rattle.paths.specs.Profiles.{Travel, unreachable, ticks, Profile}
+use Rattle.travel.specs.Day.{dayValue}
+use Rattle.travel.specs.Table.{entryAt}
+use Rattle.network.specs.Network.{Network, nodes}
+use Rattle.plan.specs.Border.{borderIndex}
+
+pub record Plan : Type 0 where
+  pub flagWords : List ℕ
+  pub counts : List ℕ
+  pub ticks : List ℕ
+  pub travels : List ℕ
+
+-- arc a has the flag of cell c: bit c of its flag word
+abbrev pub bit : ℕ → ℕ → Bool
+bit word c = eqb (word / 2 ^ c % 2) 1
+
+abbrev pub flag : Plan → ℕ → ℕ → Bool
+flag p a c = bit (getD (p .flagWords) a 0) c
+
+-- profile number k: how many points it has, where they start, their ticks and travels
+abbrev pub pointCount : Plan → ℕ → ℕ
+pointCount p k = getD (p .counts) k 0
+
+unfoldable pub pointStart : Plan → ℕ → ℕ
+pointStart p k = total k (pointCount p)
+
+abbrev pub pointTicks : Plan → ℕ → ℕ → ℕ
+pointTicks p k = entryAt (p .ticks) (pointStart p k)
+
+abbrev pub pointTravels : Plan → ℕ → ℕ → ℕ
+pointTravels p k = entryAt (p .travels) (pointStart p k)
+
+-- its value at a tick below the period: never where it has no points, else on the line
+unfoldable pub profileValue : ℕ → Plan → ℕ → ℕ → Travel
+profileValue period p k x =
+    cond (eqb (pointCount p k) 0) unreachable (ticks (dayValue (pointTicks p k) (pointTravels p k) (pointCount p k) period x))
+
+-- the profile to border number i, and to the border b
+abbrev pub profile : Network → Plan → ℕ → Profile
+profile n p i u x = profileValue (n .period) p (i * nodes n + u) x
+
+abbrev pub profileTo : Network → Plan → ℕ → Profile
+profileTo n p b = profile n p (borderIndex n b)

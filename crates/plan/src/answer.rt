@@ -1,0 +1,24 @@
+// What validation of a plan and the check answer.
+use crate::header::PlanHeader;
+use network::answer::Refusal;
+use network::answer::refuse;
+ghost use mathlib.Core.Path.{_≡_};
+ghost use Rattle.plan.specs.PlanValidate;
+
+// What validation says of a plan file.
+pub enum Planning {
+    WellFormed(PlanHeader),
+    Refused(Refusal),
+}
+
+pub enum Checking {
+    Accepted,
+    Refused(Refusal),
+}
+
+// A plan that is refused at one place.
+pub fn refused(number: u32, place: u32) -> Planning
+    ensures { λ r. ⌜ r ≡ PlanValidate.refused number place ⌝ }
+{
+    Planning::Refused(refuse(number, place))
+}

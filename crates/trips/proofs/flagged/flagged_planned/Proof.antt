@@ -1,0 +1,46 @@
+use mathlib.Core.Path.{refl}
+use Rattle.trips.specs.Flagged.{stages}
+use borrow.Author.Needs.{needs}
+use Rattle.trips.proofs.flagged.flagged_planned.Statement.{statement}
+use Rattle.trips.proofs.flagged.flagged_planned.Tie as tie
+
+layout-requires : tie.Need-layout-requires
+layout-requires c κs = search needs
+
+validate-plan-requires : tie.Need-validate-plan-requires
+validate-plan-requires c κs = search needs
+
+enum-known-r : tie.Need-enum-known-r
+enum-known-r c = search needs
+
+enum-known-k : tie.Need-enum-known-k
+enum-known-k c = search needs
+
+flagged-asked-requires : tie.Need-flagged-asked-requires
+flagged-asked-requires c κs = (search needs, search stages)
+
+returns : tie.Need-returns
+returns c = (search stages, (search stages, refl))
+
+same-length : tie.Need-same-length
+same-length c = search needs
+
+same-length-2 : tie.Need-same-length-2
+same-length-2 c = search needs
+
+returns-2 : tie.Need-returns-2
+returns-2 c = (search stages, (search stages, search needs))
+
+pub flagged-planned-spec : {M : Type 1} → statement M
+flagged-planned-spec =
+    tie.close
+    (tie.spec
+    layout-requires
+    validate-plan-requires
+    enum-known-r
+    enum-known-k
+    flagged-asked-requires
+    returns
+    same-length
+    same-length-2
+    returns-2)
