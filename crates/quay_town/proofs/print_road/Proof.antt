@@ -1,30 +1,43 @@
--- `quay_town::print_road` is safe and ends: the ticks are counted up to the period.
--- Assumes nothing.
-use Prim.Native.Nat.{_-_, _≤_}
+use Prim.Native.Nat.{_≤_, _-_}
 use borrow.Author.Needs.{needs}
 use Rattle.quay_town.proofs.print_road.Statement.{statement}
 use Rattle.quay_town.proofs.print_road.Tie as tie
+use Rattle.quay_town.proofs.print_road.Reads as reads
+use Rattle.quay_town.proofs.print_road.Lts as lts
+use Rattle.quay_town.proofs.print.end_line.Reads as end-line-reads
+use Rattle.quay_town.proofs.print.print_number.Reads as print-number-reads
+use Rattle.quay_town.proofs.print.say.Reads as say-reads
+use Rattle.quay_town.proofs.travel_at.Reads as travel-at-reads
 
 abbrev Inv-loop : tie.InvT-loop
-Inv-loop tick₀ t2 t3 tick = tick ≤ 10
+Inv-loop tick₀ t3 tick = tick ≤ 10
 
 abbrev μ-loop : tie.MeasureT-loop
-μ-loop tick₀ t2 t3 tick = 10 - tick
+μ-loop tick₀ t3 tick = 10 - tick
 
-print-travel-requires : tie.Need-print-travel-requires Inv-loop μ-loop
-print-travel-requires c κs = search needs
+slice-aggregate-say : tie.Need-slice-aggregate-say Inv-loop μ-loop
+slice-aggregate-say c = search needs
+
+say-requires : tie.Need-say-requires Inv-loop μ-loop
+say-requires c κs = search needs
 
 loop-holds : tie.Need-loop-holds Inv-loop μ-loop
 loop-holds c = search needs
 
-slice-aggregate-write-all : tie.Need-slice-aggregate-write-all Inv-loop μ-loop
-slice-aggregate-write-all c = search needs
+slice-aggregate-say-2 : tie.Need-slice-aggregate-say-2 Inv-loop μ-loop
+slice-aggregate-say-2 c = search needs
 
-write-all-requires : tie.Need-write-all-requires Inv-loop μ-loop
-write-all-requires c κs = search needs
+say-requires-2 : tie.Need-say-requires-2 Inv-loop μ-loop
+say-requires-2 c κs = search needs
 
-print-travel-requires-2 : tie.Need-print-travel-requires-2 Inv-loop μ-loop
-print-travel-requires-2 c κs = search needs
+cast-travel-at : tie.Need-cast-travel-at Inv-loop μ-loop
+cast-travel-at c = search needs
+
+travel-at-requires : tie.Need-travel-at-requires Inv-loop μ-loop
+travel-at-requires c κs = search needs
+
+print-number-requires : tie.Need-print-number-requires Inv-loop μ-loop
+print-number-requires c κs = search needs
 
 add-tick : tie.Need-add-tick Inv-loop μ-loop
 add-tick c = search needs
@@ -35,11 +48,8 @@ loop-less c = search needs
 loop-again : tie.Need-loop-again Inv-loop μ-loop
 loop-again c = search needs
 
-slice-aggregate-write-all-2 : tie.Need-slice-aggregate-write-all-2 Inv-loop μ-loop
-slice-aggregate-write-all-2 c = search needs
-
-write-all-requires-2 : tie.Need-write-all-requires-2 Inv-loop μ-loop
-write-all-requires-2 c κs = search needs
+end-line-requires : tie.Need-end-line-requires Inv-loop μ-loop
+end-line-requires c κs = search needs
 
 returns : tie.Need-returns Inv-loop μ-loop
 returns c = search needs
@@ -50,14 +60,16 @@ print-road-spec =
     (tie.spec
     Inv-loop
     μ-loop
-    print-travel-requires
+    slice-aggregate-say
+    say-requires
     loop-holds
-    slice-aggregate-write-all
-    write-all-requires
-    print-travel-requires-2
+    slice-aggregate-say-2
+    say-requires-2
+    cast-travel-at
+    travel-at-requires
+    print-number-requires
     add-tick
     loop-less
     loop-again
-    slice-aggregate-write-all-2
-    write-all-requires-2
+    end-line-requires
     returns)
