@@ -7,7 +7,8 @@ use native.Mathlib.Nat.{add-zero}
 use native.Mathlib.Decide.{decLt}
 use native.Mathlib.Omega.{arith}
 use lib.ListN.{length, getD, set, length-set}
-use Rattle.loops.specs.Fill.{Filled, fill-none, fill-up, fill-end}
+use lib.Seq.{sets}
+use Rattle.loops.specs.Fill.{Filled, tab, fill-none, fill-up, fill-end}
 use Rattle.blocks.specs.Fields.{number, byteOf, number-byteOf, number-same}
 
 -- the list with the w bytes of v at byte o and after
@@ -19,6 +20,14 @@ pub length-put : (w : ℕ) (s : List ℕ) (o v : ℕ) → length (put w s o v) �
 unfolding put
 length-put zero s o v = refl
 length-put (suc w) s o v = length-put w (set s o (v % 256)) (o + 1) (v / 256) ∙ length-set s o (v % 256)
+
+-- it stores the bytes one after the other
+pub put-stores : (w : ℕ) (s : List ℕ) (o v : ℕ) → put w s o v ≡ sets s o (tab w (byteOf v))
+unfolding put byteOf tab
+put-stores zero s o v = refl
+put-stores (suc w) s o v =
+    let q : o + 1 ≡ suc o = omega arith in
+    rw q (put-stores w (set s o (v % 256)) (suc o) (v / 256))
 
 -- a part that is written from a up to o is written w bytes further by a put at o
 pub fill-put : (w : ℕ) (f : ℕ → ℕ) (a o v : ℕ) (old new : List ℕ) → Filled a o f old new

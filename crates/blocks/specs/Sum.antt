@@ -1,5 +1,5 @@
 -- A block's check, as document 01 words it: over 254 sixteen-bit words, A and then B, each reduced at every step.
--- The code adds plain numbers, both halves of the words at once, and reduces once: the laws below say that this is the same.
+-- The code adds plain numbers, four columns of the words at once, and reduces once: the laws below say that this is the same.
 use mathlib.Core.Path.{_≡_, refl, sym, _∙_}
 use mathlib.Core.Bool.{Bool, _&&_}
 use mathlib.Core.List.{List}
@@ -51,38 +51,57 @@ summed-more s n a b w h e = rw add-one (record { a-is = a′; b-is = add-mod b (
     a′ : (a + w) % 65535 ≡ (sums s n .a + le16 s (2 * n)) % 65535
     a′ = sym (mod-add-mod a 65535 w) ∙ rw (h .a-is, e)
 
--- FOR THE LOOP, which adds up both halves of the words at once, so that neither waits for the other: a and b are the first half's sums after
--- n words, and c and d what n words of the second half add to any sums x and y of the whole first half
-pub record Halves (s : List ℕ) (n a b c d : ℕ) : Type 0 where
-  pub low : Summed s n a b
-  pub high : (x y : ℕ) → Summed s 127 x y → Summed s (127 + n) (x + c) (y + n * x + d)
+-- four words more
+pub summed-row : (s : List ℕ) (n a b w x y z : ℕ) → Summed s n a b → w ≡ le16 s (2 * n) → x ≡ le16 s (2 * (n + 1)) → y ≡ le16 s (2 * (n + 2)) → z ≡ le16 s (2 * (n + 3))
+    → Summed s (n + 4) (a + w + x + y + z) (b + 4 * a + 4 * w + 3 * x + 2 * y + z)
+summed-row s n a b w x y z h e f g k =
+    let n₂ : n + 1 + 1 ≡ n + 2 = omega arith in
+    let n₃ : n + 2 + 1 ≡ n + 3 = omega arith in
+    let n₄ : n + 3 + 1 ≡ n + 4 = omega arith in
+    let h₁ : Summed s (n + 1) (a + w) (b + (a + w)) = summed-more s n a b w h e in
+    let h₂ : Summed s (n + 2) (a + w + x) (b + (a + w) + (a + w + x)) = rw n₂ at (summed-more s (n + 1) (a + w) (b + (a + w)) x h₁ f) in
+    let h₃ = rw n₃ at (summed-more s (n + 2) (a + w + x) (b + (a + w) + (a + w + x)) y h₂ g) in
+    let h₄ = rw n₄ at (summed-more s (n + 3) (a + w + x + y) (b + (a + w) + (a + w + x) + (a + w + x + y)) z h₃ k) in
+    let q : b + (a + w) + (a + w + x) + (a + w + x + y) + (a + w + x + y + z) ≡ b + 4 * a + 4 * w + 3 * x + 2 * y + z = omega arith in
+    rw q at h₄
 
-pub halves-none : (s : List ℕ) → Halves s 0 1 0 0 0
-halves-none s =
-    record { low = summed-none s; high = λ x y h. let p : x + 0 ≡ x = omega arith in let q : y + 0 * x + 0 ≡ y = omega arith in rw (p, q) h }
+-- FOR THE LOOP, which adds up four columns of the words: a₀ to a₃ are the columns' sums after i rows and b₀ to b₃ the sums of those sums
+pub record Columns (s : List ℕ) (i a₀ a₁ a₂ a₃ b₀ b₁ b₂ b₃ : ℕ) : Type 0 where
+  pub before : a₁ + 2 * a₂ + 3 * a₃ ≤ 4 * i + 4 * (b₀ + b₁ + b₂ + b₃)
+  pub is : Summed s (4 * i) (1 + a₀ + a₁ + a₂ + a₃) (4 * i + 4 * (b₀ + b₁ + b₂ + b₃) - (a₁ + 2 * a₂ + 3 * a₃))
 
-pub halves-more : (s : List ℕ) (n a b c d v w : ℕ) → Halves s n a b c d → v ≡ le16 s (2 * n) → w ≡ le16 s (2 * n + 254)
-    → Halves s (n + 1) (a + v) (b + (a + v)) (c + w) (d + (c + w))
-halves-more s n a b c d v w h e f =
-    record {
-      low = summed-more s n a b v (h .low) e;
-      high = λ x y g.
-          let o : 2 * n + 254 ≡ 2 * (127 + n) = omega arith in
-          let m : 127 + n + 1 ≡ 127 + (n + 1) = omega arith in
-          let p : x + c + w ≡ x + (c + w) = omega arith in
-          let q : y + n * x + d + (x + (c + w)) ≡ y + (n + 1) * x + (d + (c + w)) = omega arith in
-          let r : Summed s (127 + n + 1) (x + c + w) (y + n * x + d + (x + c + w)) = summed-more s (127 + n) (x + c) (y + n * x + d) w (h .high x y g) (f ∙ rw o) in
-          rw (m, p, q) at r;
-    }
+pub columns-none : (s : List ℕ) → Columns s 0 0 0 0 0 0 0 0 0
+columns-none s = record { before = omega arith; is = summed-none s }
 
--- and at the end the two remainders are the sums
-pub halves-end : (s : List ℕ) (n a b c d : ℕ) → Halves s n a b c d → n ≤ 127 → 127 ≤ n
-    → _≡_ {A = Sums} (record { a = (a + c) % 65535; b = (b + 127 * a + d) % 65535 }) (sums s 254)
-halves-end s n a b c d h l m =
-    let e : n ≡ 127 = omega arith in
-    let g : Halves s 127 a b c d = rw e at h in
-    let r : Summed s 254 (a + c) (b + 127 * a + d) = g .high a b (g .low) in
-    λ j. record { a = r .a-is j; b = r .b-is j }
+pub columns-more : (s : List ℕ) (i a₀ a₁ a₂ a₃ b₀ b₁ b₂ b₃ w x y z : ℕ) → Columns s i a₀ a₁ a₂ a₃ b₀ b₁ b₂ b₃
+    → w ≡ le16 s (8 * i) → x ≡ le16 s (8 * i + 2) → y ≡ le16 s (8 * i + 4) → z ≡ le16 s (8 * i + 6)
+    → Columns s (i + 1) (a₀ + w) (a₁ + x) (a₂ + y) (a₃ + z) (b₀ + (a₀ + w)) (b₁ + (a₁ + x)) (b₂ + (a₂ + y)) (b₃ + (a₃ + z))
+columns-more s i a₀ a₁ a₂ a₃ b₀ b₁ b₂ b₃ w x y z h e f g k =
+    let o : 8 * i ≡ 2 * (4 * i) = omega arith in
+    let p : 8 * i + 2 ≡ 2 * (4 * i + 1) = omega arith in
+    let q : 8 * i + 4 ≡ 2 * (4 * i + 2) = omega arith in
+    let r : 8 * i + 6 ≡ 2 * (4 * i + 3) = omega arith in
+    let m : 4 * i + 4 ≡ 4 * (i + 1) = omega arith in
+    let l = h .before in
+    let u : 1 + a₀ + a₁ + a₂ + a₃ + w + x + y + z ≡ 1 + (a₀ + w) + (a₁ + x) + (a₂ + y) + (a₃ + z) = omega arith in
+    let v : 4 * i + 4 * (b₀ + b₁ + b₂ + b₃) - (a₁ + 2 * a₂ + 3 * a₃) + 4 * (1 + a₀ + a₁ + a₂ + a₃) + 4 * w + 3 * x + 2 * y + z
+    ≡ 4 * (i + 1) + 4 * (b₀ + (a₀ + w) + (b₁ + (a₁ + x)) + (b₂ + (a₂ + y)) + (b₃ + (a₃ + z))) - (a₁ + x + 2 * (a₂ + y) + 3 * (a₃ + z)) = omega arith in
+    let t = summed-row s (4 * i) (1 + a₀ + a₁ + a₂ + a₃) (4 * i + 4 * (b₀ + b₁ + b₂ + b₃) - (a₁ + 2 * a₂ + 3 * a₃)) w x y z (h .is)
+    (rw o at e) (rw p at f) (rw q at g) (rw r at k) in
+    record { before = omega arith; is = rw (m, u, v) at t }
+
+-- and at the end, with the last two words, the two remainders are the sums
+pub columns-end : (s : List ℕ) (i a₀ a₁ a₂ a₃ b₀ b₁ b₂ b₃ x y : ℕ) → Columns s i a₀ a₁ a₂ a₃ b₀ b₁ b₂ b₃ → i ≤ 63 → 63 ≤ i → x ≡ le16 s 504 → y ≡ le16 s 506
+    → _≡_ {A = Sums} (record { a = (1 + a₀ + a₁ + a₂ + a₃ + x + y) % 65535; b = (252 + 4 * (b₀ + b₁ + b₂ + b₃) - (a₁ + 2 * a₂ + 3 * a₃) + 2 * (1 + a₀ + a₁ + a₂ + a₃) + 2 * x + y) % 65535 }) (sums s 254)
+columns-end s i a₀ a₁ a₂ a₃ b₀ b₁ b₂ b₃ x y h l m e f =
+    let n : i ≡ 63 = omega arith in
+    let g : Columns s 63 a₀ a₁ a₂ a₃ b₀ b₁ b₂ b₃ = rw n at h in
+    let A = 1 + a₀ + a₁ + a₂ + a₃ in
+    let B = 252 + 4 * (b₀ + b₁ + b₂ + b₃) - (a₁ + 2 * a₂ + 3 * a₃) in
+    let r : Summed s 254 (A + x + y) (B + (A + x) + (A + x + y)) = summed-more s 253 (A + x) (B + (A + x)) y (summed-more s 252 A B x (g .is) e) f in
+    let q : B + (A + x) + (A + x + y) ≡ B + 2 * A + 2 * x + y = omega arith in
+    let t : Summed s 254 (A + x + y) (B + 2 * A + 2 * x + y) = rw q at r in
+    λ j. record { a = t .a-is j; b = t .b-is j }
 
 -- FOR THE CHECK OF A BLOCK, by two comparisons, with the part's length as the code works it out: the first decides, or leaves it to the second
 module _ (file : List ℕ) (b : ℕ) (r : Sums) (e : r ≡ sums (take (512 * b + 508 - 512 * b) (drop (512 * b) file)) 254) where

@@ -5,3 +5,4 @@ pub mod Triple
 pub mod Fill
 pub mod Total
 pub mod Select
+pub mod Stores

@@ -73,6 +73,16 @@ module _ {A : Type 0} where
   unfolding firstRung
   rung-clear k n p b h = rw (le-ltb (first n p) n (omega (arith, all-clear p n h)))
 
+-- what every answer of a ladder has, the ladder has
+module _ {A : Type 0} (P : A → Type 0) where
+  pub cond-holds : (t : Bool) (a b : A) → P a → P b → P (cond t a b)
+  cond-holds true a b h k = h
+  cond-holds false a b h k = k
+
+  pub rung-holds : (k : ℕ → A) (n : ℕ) (p : ℕ → Bool) (b : A) → ((i : ℕ) → P (k i)) → P b → P (firstRung k n p b)
+  unfolding firstRung
+  rung-holds k n p b h q = cond-holds (any n p) (k (first n p)) b (h (first n p)) q
+
 pub or-passed : (a b : Bool) → (a || b) ≡ false → (a ≡ false) × (b ≡ false)
 or-passed true b e = let z : _≡_ {A = ℕ} 0 1 = cc in absurd (omega arith)
 or-passed false b e = (refl, e)

@@ -10,6 +10,7 @@ pub mod Sound
 pub mod Judge
 pub mod Validate
 pub mod Valid
+pub mod Numbers
 pub mod Open
 pub mod Encode
 pub mod Holds

@@ -21,6 +21,7 @@ pub mod PlanMatch
 pub mod WellFormed
 pub mod PlanValid
 pub mod CheckPlan
+pub mod Numbers
 pub mod Checkable
 pub mod Value
 pub mod Starts

@@ -1,13 +1,9 @@
--- Road 1 of Quay town, from place 1 to place 2, with the points (0, 3) and (5, 7) in a period of 10: its travel at every tick.
--- Owns the road's points as lists, that they are a day's points, and the row of its travels.
-use mathlib.Core.Path.{_≡_, refl}
-use mathlib.Core.List.{List, [], _∷_, map}
+-- Road 1 of Quay town as the program has it, from place 1 to place 2, with the points (0, 3) and (5, 7) in a period of 10.
+-- Owns the points as lists, that they are a day's points, and the travel by them, which the contract of `travel_at` cites.
+use mathlib.Core.Path.{refl}
+use mathlib.Core.List.{List, [], _∷_}
 use Prim.Native.Nat.{ℕ, zero, suc, _<_}
 use native.Mathlib.Omega.{arith}
-use Rattle.loops.specs.First.{first}
-use Rattle.travel.specs.Line.{line}
-use Rattle.travel.specs.Points.{segment, value}
-use Rattle.travel.specs.Day.{closed, dayValue}
 use Rattle.travel.specs.Table.{Table, entryAt, valueAt}
 
 abbrev pub ticks : List ℕ
@@ -39,8 +35,3 @@ road-points = record {
 -- the travel at a tick below the period
 abbrev pub roadTravel : ℕ → ℕ
 roadTravel x = valueAt ticks travels 0 2 10 x
-
--- ticks 0 to 9. On the falling line from (5, 7) to (10, 3) tick 6 is 6: its drop of 4/5 is rounded up
-pub road-travels : map roadTravel (0 ∷ 1 ∷ 2 ∷ 3 ∷ 4 ∷ 5 ∷ 6 ∷ 7 ∷ 8 ∷ 9 ∷ []) ≡ 3 ∷ 3 ∷ 4 ∷ 5 ∷ 6 ∷ 7 ∷ 6 ∷ 5 ∷ 4 ∷ 3 ∷ []
-unfolding first line segment value closed dayValue entryAt
-road-travels = refl

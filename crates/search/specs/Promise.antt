@@ -98,6 +98,24 @@ module _ {g : Graph} {s x : ℕ} (d : Leaving g s x) where
     known : t < g .nodes → label (labels g p s x) t ≢ never → Known g (labels g p s x) never t
     known l ne = record { node = l; upto = true-capped d p t; known = omega (arith, true-capped d p t) }
 
+    -- the chosen path has fewer arcs than there are nodes, so an arrival counts fewer, and a list with room for so many is never too short
+    abbrev outcome : ℕ → Outcome
+    outcome room = outcomeOf (label (labels g p s x) t) (length (chosen g p s (labels g p s x) t)) room
+
+    chosen-few : t < g .nodes → label (labels g p s x) t ≢ never → length (chosen g p s (labels g p s x) t) ≤ g .nodes - 1
+    chosen-few l ne = chosen-path (d .ok) (labels g p s x) (true-exact d p) (known l ne) .short
+
+    pub arrived-few : t < g .nodes → (room : ℕ) (a : Trip) → Arrived a ≡ outcome room → a .count ≤ g .nodes - 1
+    arrived-few l room a e =
+        let c = in-arrived (label (labels g p s x) t) (length (chosen g p s (labels g p s x) t)) room a e in
+        let m : a .count ≡ length (chosen g p s (labels g p s x) t) = ap (λ (b : Trip). b .count) (c .is) in
+        omega (arith, chosen-few l (c .known))
+
+    pub never-short : t < g .nodes → (room : ℕ) → g .nodes - 1 ≤ room → Short ≡ outcome room → ⊥
+    never-short l room h e =
+        let (k, m) = in-short (label (labels g p s x) t) (length (chosen g p s (labels g p s x) t)) room e in
+        omega (arith, chosen-few l k)
+
 module _ {g : Graph} {p : Permit} {s x t : ℕ} (d : Leaving g s x) (l : t < g .nodes)
     {arrivals₀ arrivals roads₀ roads : List ℕ} {r : Outcome} (q : Answered g p s x t arrivals₀ arrivals roads₀ roads r) where
   abbrev told : r ≡ outcomeOf (label (labels g p s x) t) (length (chosen g p s (labels g p s x) t)) (length roads₀)

@@ -49,7 +49,7 @@ zero-one : _≡_ {A = ℕ} 0 1 → ⊥
 zero-one z = omega arith
 
 -- which outcome an answer tells
-told-trip : (o : Outcome) (r : Arrival) → told o ≡ answer.Arrived r → (a : Trip) × (o ≡ Arrived a) × (a .tick ≡ r .tick) × (a .count ≡ r .count)
+pub told-trip : (o : Outcome) (r : Arrival) → told o ≡ answer.Arrived r → (a : Trip) × (o ≡ Arrived a) × (a .tick ≡ r .tick) × (a .count ≡ r .count)
 told-trip (Arrived a) r e =
     let q : record { tick = a .tick; count = a .count } ≡ r = same-arrival _ r e in
     (a, refl, ap (λ (k : Arrival). k .tick) q, ap (λ (k : Arrival). k .count) q)

@@ -1,0 +1,168 @@
+//! Both contestants give the same answers, or nothing is measured: on the files of a town, and on files with one byte changed.
+use crate::files::{header, lists, Files};
+use crate::library;
+use crate::plain::blocks::{sums, BLOCK};
+use crate::plain::network::{self, Header, Tables};
+use crate::plain::trips::{self, Ask};
+use crate::plain::{check, pack, Refusal};
+use crate::town::{Dice, Town};
+
+/// Owned tables for Open.
+#[derive(Clone, PartialEq, Eq, Debug)]
+pub struct Opened {
+    cells: Vec<u16>,
+    tails: Vec<u16>,
+    heads: Vec<u16>,
+    counts: Vec<u16>,
+    ticks: Vec<u16>,
+    travels: Vec<u16>,
+}
+
+impl Opened {
+    pub fn room() -> Opened {
+        Opened {
+            cells: vec![0; 512],
+            tails: vec![0; 2048],
+            heads: vec![0; 2048],
+            counts: vec![0; 2048],
+            ticks: vec![0; 65_535],
+            travels: vec![0; 65_535],
+        }
+    }
+
+    pub fn lend(&mut self) -> Tables<'_> {
+        Tables {
+            cells: &mut self.cells,
+            tails: &mut self.tails,
+            heads: &mut self.heads,
+            counts: &mut self.counts,
+            ticks: &mut self.ticks,
+            travels: &mut self.travels,
+        }
+    }
+}
+
+/// What a trip leaves: its outcome, arrivals and roads.
+type Left = (Result<(u32, usize), Refusal>, Vec<u32>, Vec<u16>);
+
+fn leave(trip: impl FnOnce(&mut [u32], &mut [u16]) -> Result<(u32, usize), Refusal>) -> Left {
+    let mut arrivals = vec![7; 520];
+    let mut roads = vec![9; 520];
+    let outcome = trip(&mut arrivals, &mut roads);
+    (outcome, arrivals, roads)
+}
+
+pub fn plain_trips(network: &[u8], ask: &Ask) -> Left {
+    let left = leave(|arrivals, roads| library::plain_trip_lists(network, ask, arrivals, roads));
+    let ours = leave(|arrivals, roads| trips::plain_trip_lists(network, ask, arrivals, roads));
+    assert_eq!(left, ours, "plain trip {ask:?}");
+    left
+}
+
+pub fn flagged_trips(network: &[u8], plan: &[u8], ask: &Ask) -> Left {
+    let left = leave(|arrivals, roads| library::flagged_trip_lists(network, plan, ask, arrivals, roads));
+    let ours = leave(|arrivals, roads| trips::flagged_trip_lists(network, plan, ask, arrivals, roads));
+    assert_eq!(left, ours, "flagged trip {ask:?}");
+    left
+}
+
+/// The same in document 01's bytes.
+fn byte_trips(network: &[u8], plan: &[u8], ask: &Ask) {
+    let (mut left, mut ours) = ([3; 1040], [3; 1040]);
+    assert_eq!(library::plain_trip(network, &mut left, ask), trips::plain_trip(network, &mut ours, ask));
+    assert_eq!(left, ours, "plain trip in bytes {ask:?}");
+    assert_eq!(library::flagged_trip(network, plan, &mut left, ask), trips::flagged_trip(network, plan, &mut ours, ask));
+    assert_eq!(left, ours, "flagged trip in bytes {ask:?}");
+}
+
+fn opens(file: &[u8]) -> (Result<Header, Refusal>, Opened) {
+    let (mut left, mut ours) = (Opened::room(), Opened::room());
+    let header = library::open(file, left.lend());
+    assert_eq!(header, network::open(file, ours.lend()), "open");
+    assert!(left == ours, "tables of open");
+    (header, left)
+}
+
+fn packs(header: &Header, town: &Town) -> Result<usize, Refusal> {
+    let (mut left, mut ours) = (vec![5; 283_650], vec![5; 283_650]);
+    let long = library::pack(header, &lists(town), &mut left);
+    assert_eq!(long, pack::pack(header, &lists(town), &mut ours), "pack");
+    assert!(left == ours, "bytes of pack");
+    long
+}
+
+/// Trips on a valid network and plan: all answers the same, and the flagged arrival the plain one's.
+pub fn on_trips(files: &Files, asks: &[Ask]) {
+    for ask in asks {
+        let plain = plain_trips(&files.network, ask);
+        for plan in [&files.plan, &files.light_plan] {
+            let flagged = flagged_trips(&files.network, plan, ask);
+            assert_eq!(plain.0.map(|(tick, _)| tick), flagged.0.map(|(tick, _)| tick), "{ask:?}");
+        }
+        byte_trips(&files.network, &files.plan, ask);
+    }
+}
+
+pub fn on_tables(town: &Town, files: &Files) {
+    let header = header(town);
+    assert_eq!(opens(&files.network).0, Ok(header));
+    assert_eq!(packs(&header, town), Ok(files.network.len()));
+    assert_eq!(packs(&Header { points: header.points - 1, ..header }, town).map_err(|refusal| refusal.number), Err(8));
+}
+
+/// A file with one byte changed at random; mostly its block's check is mended, so that later rules speak.
+fn damage(file: &[u8], dice: &mut Dice) -> Vec<u8> {
+    let mut file = file.to_vec();
+    let block = match dice.within(0, 3) {
+        0 => dice.within(0, 3.min(file.len() as u64 / BLOCK as u64 - 1)),
+        _ => dice.within(0, file.len() as u64 / BLOCK as u64 - 1),
+    } as usize;
+    let at = BLOCK * block + dice.within(0, 511) as usize;
+    file[at] = match dice.within(0, 2) {
+        0 => file[at] ^ 1,
+        1 => file[at].wrapping_add(1),
+        _ => dice.within(0, 255) as u8,
+    };
+    if dice.within(0, 4) > 0 {
+        mend(&mut file, block);
+    }
+    file
+}
+
+pub fn mend(file: &mut [u8], block: usize) {
+    let block = &mut file.as_chunks_mut::<BLOCK>().0[block];
+    let (a, b) = sums(block);
+    block[508..510].copy_from_slice(&a.to_le_bytes());
+    block[510..512].copy_from_slice(&b.to_le_bytes());
+}
+
+/// The same refusals, of whatever number and places.
+pub fn on_damaged_files(files: &Files, asks: &[Ask], cases: usize) -> [usize; 32] {
+    let mut dice = Dice::new(4);
+    let mut seen = [0; 32];
+    for case in 0..cases {
+        let ask = &asks[case % asks.len()];
+        let network = damage(&files.network, &mut dice);
+        let outcome = plain_trips(&network, ask).0;
+        seen[outcome.err().map_or(0, |refusal| refusal.number as usize)] += 1;
+        assert_eq!(opens(&network).0.is_ok(), outcome.is_ok(), "open and trip");
+        let plan = damage(if case % 2 == 0 { &files.plan } else { &files.light_plan }, &mut dice);
+        let outcome = flagged_trips(&files.network, &plan, ask).0;
+        seen[outcome.err().map_or(0, |refusal| refusal.number as usize)] += 1;
+    }
+    seen
+}
+
+/// The same verdicts of the check, by both plain checks.
+pub fn on_checks(files: &Files, cases: usize) -> [usize; 32] {
+    let mut dice = Dice::new(5);
+    let mut seen = [0; 32];
+    for case in 0..cases {
+        let plan = if case == 0 { files.plan.clone() } else { damage(&files.plan, &mut dice) };
+        let verdict = library::check_plan(&files.network, &plan);
+        assert_eq!(verdict, check::check_swept(&files.network, &plan), "check, swept");
+        assert_eq!(verdict, check::check_each_tick(&files.network, &plan), "check at each tick");
+        seen[verdict.err().map_or(0, |refusal| refusal.number as usize)] += 1;
+    }
+    seen
+}

@@ -1,0 +1,90 @@
+-- The numbers of refusals: those of a network file lie between 1 and 10, and those of its rules between 7 and 10.
+use mathlib.Core.Path.{_≡_, refl, ap}
+use mathlib.Core.List.{List}
+use Prim.Native.Nat.{ℕ, _*_, _≤_}
+use native.Mathlib.Omega.{arith}
+use lib.ListN.{length}
+use lib.Dec.{eqb, ltb}
+use Rattle.loops.specs.Pick.{cond-holds, rung-holds}
+use Rattle.blocks.specs.Form.{formed}
+use Rattle.network.specs.declared.answer.Refusal.{Refusal}
+use Rattle.network.specs.declared.answer.Judged.{Judged}
+use Rattle.network.specs.declared.answer.Judged.the-variants.{Sound, Faulty}
+use Rattle.network.specs.declared.answer.Opening.{Opening}
+use Rattle.network.specs.declared.answer.Opening.the-variants.{Refused}
+use Rattle.network.specs.declared.header.Header.{Header}
+use Rattle.network.specs.declared.header.Made.{Made}
+use Rattle.network.specs.declared.header.Made.the-variants.{Inside, Outside}
+use Rattle.network.specs.Layout.{allBlocks}
+use Rattle.network.specs.Network.{Network, arcs, points, start}
+use Rattle.network.specs.Decode.{decode}
+use Rattle.network.specs.Rules.{refusal, firstPoint, badPointOf, overtakenOf, judgedPoints, judgedSum, judgedArcs, judged}
+use Rattle.network.specs.Validate.{badLength, firstUnformed, madeAt, validatedRules, validatedForm, validatedLength, validatedHeader, validatedFirst, validated}
+
+-- Answers of a kind whose refusals are R: one that is refused has a number from low to high. It is said once for every kind of answer.
+module _ {A : Type 0} (R : Refusal → A) (low high : ℕ) where
+  abbrev pub Numbered : A → Type 0
+  Numbered a = (r : Refusal) → a ≡ R r → (low ≤ r .number) × (r .number ≤ high)
+
+  pub numbered : ((q r : Refusal) → R q ≡ R r → q ≡ r) → (q : Refusal) → low ≤ q .number → q .number ≤ high → Numbered (R q)
+  numbered same q l h r e =
+      let z : q .number ≡ r .number = ap (λ (k : Refusal). k .number) (same q r e) in
+      (omega arith, omega arith)
+
+same-refused : (q r : Refusal) → Refused q ≡ Refused r → q ≡ r
+same-refused q r e = cc
+
+pub same-faulty : (q r : Refusal) → Faulty q ≡ Faulty r → q ≡ r
+same-faulty q r e = cc
+
+abbrev Judges : Judged → Type 0
+Judges = Numbered Faulty 7 10
+
+pub judged-numbers : (n : Network) → Numbered Faulty 7 10 (judged n)
+unfolding judged judgedArcs judgedSum judgedPoints
+judged-numbers n =
+    rung-holds Judges _ _ _ _ (λ i. is 7 i (omega arith) (omega arith))
+    (rung-holds Judges _ _ _ _ (λ i. is 8 i (omega arith) (omega arith))
+    (cond-holds Judges (eqb (start n (arcs n)) (points n)) _ _
+    (cond-holds Judges (ltb bad (points n)) _ _ (is 9 bad (omega arith) (omega arith))
+    (cond-holds Judges (ltb overtaken (points n)) _ _ (is 10 overtaken (omega arith) (omega arith)) sound))
+    (is 8 (arcs n) (omega arith) (omega arith))))
+  where
+    bad : ℕ
+    bad = firstPoint n (badPointOf n) (arcs n)
+
+    overtaken : ℕ
+    overtaken = firstPoint n (overtakenOf n) (arcs n)
+
+    is : (number place : ℕ) → 7 ≤ number → number ≤ 10 → Judges (Faulty (refusal number place))
+    is number place l h = numbered Faulty 7 10 same-faulty (refusal number place) l h
+
+    sound : Judges Sound
+    sound r e = let z : _≡_ {A = ℕ} 0 1 = cc in absurd (omega arith)
+
+abbrev Opens : Opening → Type 0
+Opens = Numbered Refused 1 10
+
+is-numbered : (number place : ℕ) → 1 ≤ number → number ≤ 10 → Opens (Refused (refusal number place))
+is-numbered number place l h = numbered Refused 1 10 same-refused (refusal number place) l h
+
+pub validated-numbers : (file : List ℕ) → Numbered Refused 1 10 (validated file)
+unfolding validated validatedFirst validatedLength validatedForm
+validated-numbers file =
+    cond-holds Opens (badLength (length file)) _ _ (is-numbered 1 0 (omega arith) (omega arith))
+    (rung-holds Opens _ _ _ _ (λ i. is-numbered 2 i (omega arith) (omega arith))
+    (cond-holds Opens (formed file 0 1 1 24) _ _ (by-header (madeAt file)) (is-numbered 3 0 (omega arith) (omega arith))))
+  where
+    by-rules : (h : Header) (j : Judged) → Judges j → Opens (validatedRules h j)
+    by-rules h Sound n = λ r e. let z : _≡_ {A = ℕ} 0 1 = cc in absurd (omega arith)
+    by-rules h (Faulty q) n =
+        let (x, y) = n q refl in
+        numbered Refused 1 10 same-refused q (omega arith) (omega arith)
+
+    by-header : (m : Made) → Opens (validatedHeader file m)
+    by-header (Inside h) =
+        cond-holds Opens (eqb (length file) (512 * allBlocks h)) _ _
+        (cond-holds Opens (ltb (firstUnformed file h) (allBlocks h)) _ _ (is-numbered 6 (firstUnformed file h) (omega arith) (omega arith))
+        (by-rules h (judged (decode file)) (judged-numbers (decode file))))
+        (is-numbered 5 0 (omega arith) (omega arith))
+    by-header Outside = is-numbered 4 0 (omega arith) (omega arith)

@@ -1,0 +1,129 @@
+-- The numbers of refusals: those of a plan file lie between 11 and 19, those of the tests between 20 and 24, and those of the check between 1 and 24.
+use mathlib.Core.Path.{_≡_, refl}
+use mathlib.Core.List.{List}
+use Prim.Native.Nat.{ℕ, _*_, _≤_}
+use native.Mathlib.Omega.{arith}
+use lib.ListN.{length}
+use lib.Dec.{eqb, ltb}
+use Rattle.loops.specs.Pick.{cond-holds, rung-holds}
+use Rattle.loops.specs.Triple.{anyTriple}
+use Rattle.network.specs.declared.answer.Refusal.{Refusal}
+use Rattle.network.specs.declared.answer.Judged.{Judged}
+use Rattle.network.specs.declared.answer.Judged.the-variants.{Sound, Faulty}
+use Rattle.network.specs.declared.answer.Opening.{Opening}
+use Rattle.network.specs.declared.answer.Opening.the-variants as opening
+use Rattle.network.specs.declared.header.Header.{Header}
+use Rattle.network.specs.Network.{Network, nodes}
+use Rattle.network.specs.Decode.{decode}
+use Rattle.network.specs.Rules.{refusal}
+use Rattle.network.specs.Validate.{validated}
+use Rattle.network.specs.Numbers.{Numbered, numbered, same-faulty, validated-numbers}
+use Rattle.plan.specs.declared.answer.Planning.{Planning}
+use Rattle.plan.specs.declared.answer.Planning.the-variants as planning
+use Rattle.plan.specs.declared.answer.Checking.{Checking}
+use Rattle.plan.specs.declared.answer.Checking.the-variants as checking
+use Rattle.plan.specs.declared.header.PlanHeader.{PlanHeader}
+use Rattle.plan.specs.Border.{borderCount}
+use Rattle.plan.specs.Plan.{Plan, pointStart}
+use Rattle.plan.specs.PlanHeader.{planHeaderAt}
+use Rattle.plan.specs.PlanLayout.{planBlocks, planLayoutOf}
+use Rattle.plan.specs.PlanDecode.{decodePlan, pointTotal}
+use Rattle.plan.specs.PlanRules.{judgedTicks, judgedSum, judgedCounts, judgedFlags, planJudged}
+use Rattle.plan.specs.PlanValidate.{badPlanLength, firstUnformed, plannedRules, plannedForm, plannedLength, matching, plannedHeader, firstFormed, plannedFirst, planned}
+use Rattle.plan.specs.Tests.{fails}
+use Rattle.plan.specs.Check.{tripleRung, checked}
+use Rattle.plan.specs.CheckPlan.{checkedBy, checkedOver, checking as checkingOf}
+
+-- THE RULES 17 TO 19
+abbrev Judges : Judged → Type 0
+Judges = Numbered Faulty 17 19
+
+pub flags-numbers : (arcs cells period profiles : ℕ) (p : Plan) → Numbered Faulty 17 19 (judgedFlags arcs cells period profiles p)
+unfolding judgedFlags judgedCounts judgedSum judgedTicks
+flags-numbers arcs cells period profiles p =
+    rung-holds Judges _ _ _ _ (λ i. is 17 i (omega arith) (omega arith))
+    (rung-holds Judges _ _ _ _ (λ i. is 18 i (omega arith) (omega arith))
+    (cond-holds Judges (eqb (pointStart p profiles) (pointTotal p)) _ _
+    (rung-holds Judges _ _ _ _ (λ i. is 19 _ (omega arith) (omega arith)) sound)
+    (is 18 profiles (omega arith) (omega arith))))
+  where
+    is : (number place : ℕ) → 17 ≤ number → number ≤ 19 → Judges (Faulty (refusal number place))
+    is number place l h = numbered Faulty 17 19 same-faulty (refusal number place) l h
+
+    sound : Judges Sound
+    sound r e = let z : _≡_ {A = ℕ} 0 1 = cc in absurd (omega arith)
+
+-- THE FORM, 11 to 19
+abbrev Plans : Planning → Type 0
+Plans = Numbered planning.Refused 11 19
+
+same-planning : (q r : Refusal) → planning.Refused q ≡ planning.Refused r → q ≡ r
+same-planning q r e = cc
+
+plan-numbered : (number place : ℕ) → 11 ≤ number → number ≤ 19 → Plans (planning.Refused (refusal number place))
+plan-numbered number place l h = numbered planning.Refused 11 19 same-planning (refusal number place) l h
+
+by-rules : (k : PlanHeader) (j : Judged) → Judges j → Plans (plannedRules k j)
+by-rules k Sound n = λ r e. let z : _≡_ {A = ℕ} 0 1 = cc in absurd (omega arith)
+by-rules k (Faulty q) n =
+    let (x, y) = n q refl in
+    numbered planning.Refused 11 19 same-planning q (omega arith) (omega arith)
+
+pub planned-numbers : (h : Header) (n : Network) (file : List ℕ) → Numbered planning.Refused 11 19 (planned h n file)
+unfolding planned plannedFirst plannedHeader plannedLength plannedForm
+planned-numbers h n file =
+    cond-holds Plans (badPlanLength (length file)) _ _ (plan-numbered 11 0 (omega arith) (omega arith))
+    (rung-holds Plans _ _ _ _ (λ i. plan-numbered 12 i (omega arith) (omega arith))
+    (cond-holds Plans (firstFormed file) _ _
+    (cond-holds Plans (matching h (borderCount n) k) _ _
+    (cond-holds Plans (eqb (length file) (512 * planBlocks k)) _ _
+    (cond-holds Plans (ltb bad (planBlocks k)) _ _ (plan-numbered 16 bad (omega arith) (omega arith)) (by-rules k (planJudged n (decodePlan file)) (flags-numbers _ _ _ _ _)))
+    (plan-numbered 15 0 (omega arith) (omega arith)))
+    (plan-numbered 14 0 (omega arith) (omega arith)))
+    (plan-numbered 13 0 (omega arith) (omega arith))))
+  where
+    k : PlanHeader
+    k = planHeaderAt file
+
+    bad : ℕ
+    bad = firstUnformed file (planLayoutOf k)
+
+-- THE TESTS, 20 to 24
+same-checking : (q r : Refusal) → checking.Refused q ≡ checking.Refused r → q ≡ r
+same-checking q r e = cc
+
+abbrev Checks : Checking → Type 0
+Checks = Numbered checking.Refused 20 24
+
+triple-numbered : (number : ℕ) (n : Network) (p : Plan) (next : Checking) → 20 ≤ number → number ≤ 24 → Checks next → Checks (tripleRung number n p next)
+unfolding tripleRung
+triple-numbered number n p next l h q =
+    cond-holds Checks (anyTriple (borderCount n) (nodes n) (n .period) (fails number n p)) _ _ (numbered checking.Refused 20 24 same-checking _ l h) q
+
+pub checked-numbers : (n : Network) (p : Plan) → Numbered checking.Refused 20 24 (checked n p)
+unfolding checked
+checked-numbers n p =
+    rung-holds Checks _ _ _ _ (λ i. numbered checking.Refused 20 24 same-checking _ (omega arith) (omega arith))
+    (triple-numbered 21 n p _ (omega arith) (omega arith)
+    (triple-numbered 22 n p _ (omega arith) (omega arith)
+    (triple-numbered 23 n p _ (omega arith) (omega arith)
+    (triple-numbered 24 n p _ (omega arith) (omega arith) accepted))))
+  where
+    accepted : Checks checking.Accepted
+    accepted r e = let z : _≡_ {A = ℕ} 0 1 = cc in absurd (omega arith)
+
+-- THE CHECK, 1 to 24
+pub check-numbers : (network plan : List ℕ) → Numbered checking.Refused 1 24 (checkingOf network plan)
+check-numbers network plan = over (validated network) (validated-numbers network)
+  where
+    by : (n : Network) (p : Plan) (m : Planning) → Numbered planning.Refused 11 19 m → Numbered checking.Refused 1 24 (checkedBy n p m)
+    by n p (planning.Refused q) h =
+        let (x, y) = h q refl in
+        numbered checking.Refused 1 24 same-checking q (omega arith) (omega arith)
+    by n p (planning.WellFormed k) h = λ r e. let (x, y) = checked-numbers n p r e in (omega arith, omega arith)
+
+    over : (o : Opening) → Numbered opening.Refused 1 10 o → Numbered checking.Refused 1 24 (checkedOver network plan o)
+    over (opening.Refused q) h =
+        let (x, y) = h q refl in
+        numbered checking.Refused 1 24 same-checking q (omega arith) (omega arith)
+    over (opening.Opened k) h = by (decode network) (decodePlan plan) _ (planned-numbers k (decode network) plan)

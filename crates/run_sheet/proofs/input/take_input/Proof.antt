@@ -1,0 +1,54 @@
+use mathlib.Core.Path.{_≡_}
+use lib.ListN.{length}
+use borrow.Author.Needs.{needs}
+use Rattle.run_sheet.proofs.input.take_input.Statement.{statement}
+use Rattle.run_sheet.proofs.input.take_input.Tie as tie
+
+abbrev Inv-loop : tie.InvT-loop
+Inv-loop network plan out₀ reading₀ more₀ turns₀ out reading more turns = length out ≡ length out₀
+
+abbrev μ-loop : tie.MeasureT-loop
+μ-loop network plan out₀ reading₀ more₀ turns₀ out reading more turns = turns
+
+loop-holds : tie.Need-loop-holds Inv-loop μ-loop
+loop-holds c = search needs
+
+same-length : tie.Need-same-length Inv-loop μ-loop
+same-length c = search needs
+
+returns : tie.Need-returns Inv-loop μ-loop
+returns c = search needs
+
+take-piece-requires : tie.Need-take-piece-requires Inv-loop μ-loop
+take-piece-requires c κs = search needs
+
+sub-turns : tie.Need-sub-turns Inv-loop μ-loop
+sub-turns c = search needs
+
+loop-less : tie.Need-loop-less Inv-loop μ-loop
+loop-less c = search needs
+
+loop-again : tie.Need-loop-again Inv-loop μ-loop
+loop-again c = search needs
+
+same-length-2 : tie.Need-same-length-2 Inv-loop μ-loop
+same-length-2 c = search needs
+
+returns-2 : tie.Need-returns-2 Inv-loop μ-loop
+returns-2 c = search needs
+
+pub take-input-spec : {M : Type 1} → statement M
+take-input-spec =
+    tie.close
+    (tie.spec
+    Inv-loop
+    μ-loop
+    loop-holds
+    same-length
+    returns
+    take-piece-requires
+    sub-turns
+    loop-less
+    loop-again
+    same-length-2
+    returns-2)

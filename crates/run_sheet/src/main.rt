@@ -1,0 +1,19 @@
+// run_sheet: the program over `sheet`. It reads the two files of its folder, prints the first line, and then takes standard input a byte at a time,
+// with an answer at the end of each line, up to the 64th.
+//   files  a file of the folder, read as far as there is room
+//   input  standard input, in pieces, and what each byte prints
+mod files;
+mod input;
+
+use files::ROOM;
+use files::read;
+use input::answer;
+
+fn main() {
+    let mut network = [0u8; ROOM];
+    let mut plan = [0u8; ROOM];
+    let long = read(b"network.blk", &mut network);
+    let planned = read(b"plan.blk", &mut plan);
+    let mut out = [0u8; 4096];
+    answer(&network[..long], &plan[..planned], &mut out);
+}

@@ -1,0 +1,39 @@
+use Rattle.varnwalnut.specs.Calling.{callings, kept-enough, desk-code, desk-numbers, desk-roads, flagged-count}
+use Rattle.varnwalnut.specs.Reply.{tripCode, tripNumbers}
+use native.Mathlib.Omega.{arith}
+use borrow.Author.Needs.{needs}
+use Rattle.varnwalnut.proofs.desk.varnwalnut_flagged_trip_lists.Statement.{statement}
+use Rattle.varnwalnut.proofs.desk.varnwalnut_flagged_trip_lists.Tie as tie
+
+returns : tie.Need-returns
+returns c = (search callings, (search callings, (search callings, search callings)))
+
+flagged-trip-requires : tie.Need-flagged-trip-requires
+flagged-trip-requires c κs = search needs
+
+write-lists-requires : tie.Need-write-lists-requires
+write-lists-requires c κs = (flagged-count _ _ _ _ _ _ _ _ (c .before .before .before .before .before .flagged-trip .ensures .0), search needs)
+
+same-length : tie.Need-same-length
+same-length c = search needs
+
+same-length-2 : tie.Need-same-length-2
+same-length-2 c = search needs
+
+same-length-3 : tie.Need-same-length-3
+same-length-3 c = search needs
+
+returns-2 : tie.Need-returns-2
+returns-2 c = (desk-code 5 tripCode _ _ _ _ (c .before .before .before .before .before .before .before .before .flagged-trip .ensures .0) (omega arith) (c .before .before .write-lists .ensures .0), (desk-numbers 5 tripNumbers _ _ _ _ (c .before .before .before .before .before .before .before .before .flagged-trip .ensures .0) (omega arith) (c .before .before .write-lists .ensures .1), (kept-enough _ _ _ _ _ (omega arith) (c .before .before .before .before .before .before .before .before .flagged-trip .ensures .1 .0), desk-roads _ _ _ _ _ _ _ _ _ _ (c .before .before .before .before .before .before .before .before .flagged-trip .ensures .0) (omega arith) (c .before .before .before .before .before .before .before .before .flagged-trip .ensures .1 .1))))
+
+pub varnwalnut-flagged-trip-lists-spec : {M : Type 1} → statement M
+varnwalnut-flagged-trip-lists-spec =
+    tie.close
+    (tie.spec
+    returns
+    flagged-trip-requires
+    write-lists-requires
+    same-length
+    same-length-2
+    same-length-3
+    returns-2)

@@ -1,0 +1,30 @@
+-- What the tablet's two calls never answer: its list of 512 arrivals has room for every network's nodes and 511 roads for every chosen path, so neither
+-- 27 nor 29 occurs. A refusal of theirs is 1 to 26, or 28.
+use mathlib.Core.Path.{_≡_}
+use mathlib.Core.Logic.{_⊎_}
+use mathlib.Core.List.{List}
+use Prim.Native.Nat.{ℕ, _≤_}
+use native.Mathlib.Omega.{arith}
+use Rattle.paths.specs.Graph.{all}
+use Rattle.network.specs.declared.answer.Refusal.{Refusal}
+use Rattle.network.specs.Decode.{decode}
+use Rattle.plan.specs.PlanDecode.{decodePlan}
+use Rattle.plan.specs.Promise.{towards}
+use Rattle.trips.specs.declared.answer.Answer.the-variants as answer
+use Rattle.trips.specs.Plain.{plainBegin, begun}
+use Rattle.trips.specs.Flagged.{flaggedBegin}
+use Rattle.trips.specs.Numbers.{plain-before, plain-roomy, flagged-before, flagged-roomy, flagged-begun, no-short}
+use Rattle.varnwalnut.specs.Calls.{plainCall, flaggedCall}
+
+pub plain-never-short : (network : List ℕ) (from to departure : ℕ) (r : Refusal) → plainCall network from to departure ≡ answer.Refused r
+    → (r .number ≤ 26) ⊎ (r .number ≡ 28)
+plain-never-short network from to departure r =
+    no-short network all from to departure 512 511 (plainBegin network from to departure 512) (plain-before network from to departure 512)
+    (λ h. begun network h from to departure 512) (omega arith) 26 (plain-roomy network from to departure 512 (omega arith)) r
+
+pub flagged-never-short : (network plan : List ℕ) (from to departure : ℕ) (r : Refusal) → flaggedCall network plan from to departure ≡ answer.Refused r
+    → (r .number ≤ 26) ⊎ (r .number ≡ 28)
+flagged-never-short network plan from to departure r =
+    no-short network (towards (decode network) (decodePlan plan) to) from to departure 512 511 (flaggedBegin network plan from to departure 512)
+    (flagged-before network plan from to departure 512) (λ h. flagged-begun network plan h from to departure 512) (omega arith) 26
+    (flagged-roomy network plan from to departure 512 (omega arith)) r

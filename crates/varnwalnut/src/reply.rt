@@ -1,0 +1,78 @@
+// How an answer is written into lent numbers and lent bytes.
+use blocks::fields::put16;
+use blocks::fields::put32;
+use trips::answer::Answer;
+use trips::answer::Arrival;
+ghost use mathlib.Core.Path.{_≡_};
+ghost use Prim.Native.Nat.{_≤_};
+ghost use mathlib.Core.List.{_++_};
+ghost use lib.ListN.{length, take};
+ghost use lib.Seq.{sets};
+ghost use Rattle.network.specs.Open.{overwritten};
+ghost use Rattle.trips.specs.declared.answer.Answer.the-variants as answered;
+ghost use Rattle.varnwalnut.specs.Reply.{bytes, roadBytes, tripBytes, tripCode, tripCount};
+
+// The refusal of an answer for which there is too little room.
+pub const SHORT: u32 = 31;
+
+// The bytes of the longest answer to a trip, which lists 511 roads.
+pub const TRIP_BYTES: usize = 1032;
+
+// The numbers become the first of the lent ones.
+pub fn write(numbers: &[u32], answer: &mut [u32])
+    requires { ⌜ length (now numbers) ≤ length (now answer) ⌝ }
+    ensures { λ _. ⌜ now (answer .exit) ≡ overwritten (now (numbers .entry)) (now (answer .entry)) ⌝ }
+{
+    for i in 0..numbers.len() {
+        answer[i] = numbers[i];
+    }
+}
+
+// The first road numbers of a list.
+fn write_roads(roads: &[u16], count: usize, answer: &mut [u8])
+    requires { ⌜ (count ≤ 511) × (count ≤ length (now roads)) × (1032 ≤ length (now answer)) ⌝ }
+    ensures { λ _. ⌜ now (answer .exit) ≡ sets (now (answer .entry)) 10 (roadBytes (take count (now (roads .entry)))) ⌝ }
+{
+    for i in 0..count {
+        put16(answer, 10 + 2 * i, roads[i]);
+    }
+}
+
+// A refusal: its number, no arrival and no road.
+fn write_refused(number: u32, answer: &mut [u8])
+    requires { ⌜ 1032 ≤ length (now answer) ⌝ }
+    ensures { λ _. ⌜ now (answer .exit) ≡ sets (now (answer .entry)) 0 (bytes 4 number ++ bytes 4 0 ++ bytes 2 0) ⌝ }
+{
+    put32(answer, 0, number);
+    put32(answer, 4, 0);
+    put16(answer, 8, 0);
+}
+
+// An arrival: its tick, and its roads.
+fn write_arrived(a: Arrival, roads: &[u16], answer: &mut [u8])
+    requires { ⌜ (a .count ≤ 511) × (a .count ≤ length (now roads)) × (1032 ≤ length (now answer)) ⌝ }
+    ensures { λ _. ⌜ now (answer .exit) ≡ sets (now (answer .entry)) 0 (tripBytes (answered.Arrived a) (take (a .count) (now (roads .entry)))) ⌝ }
+{
+    put32(answer, 0, 0);
+    put32(answer, 4, a.tick);
+    put16(answer, 8, a.count as u16);
+    write_roads(roads, a.count, answer);
+}
+
+// The answer to a trip whose roads stand in a list, and its refusal or 0.
+pub fn write_trip(trip: Answer, roads: &[u16], answer: &mut [u8]) -> u32
+    requires { ⌜ (tripCount trip ≤ 511) × (511 ≤ length (now roads)) × (1032 ≤ length (now answer)) ⌝ }
+    ensures code { λ r. ⌜ r ≡ tripCode trip ⌝ }
+    ensures bytes { λ _. ⌜ now (answer .exit) ≡ sets (now (answer .entry)) 0 (tripBytes trip (take (tripCount trip) (now (roads .entry)))) ⌝ }
+{
+    match trip {
+        Answer::Arrived(a) => {
+            write_arrived(a, roads, answer);
+            0
+        }
+        Answer::Refused(r) => {
+            write_refused(r.number, answer);
+            r.number
+        }
+    }
+}

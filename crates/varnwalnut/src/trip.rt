@@ -1,0 +1,65 @@
+// The tablet's two trips: numbers and byte lists in, an answer in lent bytes. Below 1,032 bytes the answer is 31 and nothing is written.
+use crate::reply::SHORT;
+use crate::reply::TRIP_BYTES;
+use crate::reply::write_trip;
+use trips::flagged::flagged_trip;
+use trips::plain::plain_trip;
+ghost use mathlib.Core.Path.{_≡_};
+ghost use lib.ListN.{length};
+ghost use Rattle.network.specs.Open.{overwritten};
+ghost use Rattle.varnwalnut.specs.Reply.{tripBytes, tripCode, roomed, kept};
+ghost use Rattle.varnwalnut.specs.Calls.{plainCall, plainPath, flaggedCall, flaggedPath};
+
+// The arrival of a node that is not reached.
+pub const NEVER: u32 = 4294967295;
+
+// From one node to another over all roads.
+#[no_mangle]
+pub extern "C" fn varnwalnut_plain_trip(
+    network: &[u8],
+    answer: &mut [u8],
+    from: u32,
+    to: u32,
+    departure: u32,
+) -> u32
+    ensures code { λ r. ⌜ r ≡ roomed 1032 (length (now (answer .entry))) (tripCode (plainCall (now (network .entry)) from to departure)) ⌝ }
+    ensures bytes { λ _. ⌜ now (answer .exit) ≡ kept 1032 (length (now (answer .entry))) (now (answer .entry)) (overwritten (tripBytes (plainCall (now (network .entry)) from to departure) (plainPath (now (network .entry)) from to departure)) (now (answer .entry))) ⌝ }
+{
+    if answer.len() < TRIP_BYTES {
+        return SHORT;
+    }
+    let mut arrivals = [NEVER; 512];
+    let mut roads = [0u16; 511];
+    let trip = plain_trip(network, from, to, departure, &mut arrivals, &mut roads);
+    write_trip(trip, &roads, answer)
+}
+
+// From one node to another over the roads with the flag of the target's cell.
+#[no_mangle]
+pub extern "C" fn varnwalnut_flagged_trip(
+    network: &[u8],
+    plan: &[u8],
+    answer: &mut [u8],
+    from: u32,
+    to: u32,
+    departure: u32,
+) -> u32
+    ensures code { λ r. ⌜ r ≡ roomed 1032 (length (now (answer .entry))) (tripCode (flaggedCall (now (network .entry)) (now (plan .entry)) from to departure)) ⌝ }
+    ensures bytes { λ _. ⌜ now (answer .exit) ≡ kept 1032 (length (now (answer .entry))) (now (answer .entry)) (overwritten (tripBytes (flaggedCall (now (network .entry)) (now (plan .entry)) from to departure) (flaggedPath (now (network .entry)) (now (plan .entry)) from to departure)) (now (answer .entry))) ⌝ }
+{
+    if answer.len() < TRIP_BYTES {
+        return SHORT;
+    }
+    let mut arrivals = [NEVER; 512];
+    let mut roads = [0u16; 511];
+    let trip = flagged_trip(
+        network,
+        plan,
+        from,
+        to,
+        departure,
+        &mut arrivals,
+        &mut roads,
+    );
+    write_trip(trip, &roads, answer)
+}

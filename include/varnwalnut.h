@@ -1,0 +1,181 @@
+/*
+ * Varnwalnut: routes through small towns whose roads take as long as the hour makes them take.
+ *
+ * A network file holds a town's places, roads and travels; a plan file holds flags and profiles that make searches short. Each call takes whole
+ * files as bytes and validates them first; it reads nothing else, keeps nothing between calls and allocates nothing.
+ *
+ * Every function returns 0, or the number of a refusal (below). Every one ends, on any bytes and any numbers, and changes nothing but the buffers
+ * that it names as written. These things are proved; so is what each buffer holds afterwards.
+ *
+ * A list is a pointer and then a count of ELEMENTS (not of bytes). Pointers are never NULL, also where the count is 0. No written list overlaps another
+ * list of the same call. Numbers in files are low byte first; numbers in lists of uint16_t and uint32_t are the machine's own.
+ *
+ * Threads: the functions have no state and may run at once on any number of threads, also on the same files.
+ * Stack: below 20 KB for each function but varnwalnut_pack_network, which needs about 280 KB.
+ *
+ * Link with libvarnwalnut.a: cc program.c -Iinclude target/staticlib/libvarnwalnut.a
+ */
+#ifndef VARNWALNUT_H
+#define VARNWALNUT_H
+
+#include <stddef.h>
+#include <stdint.h>
+
+#ifdef __cplusplus
+extern "C" {
+#endif
+
+/* Limits. */
+enum {
+    VARNWALNUT_MOST_TICKS = 2880,  /* the period: ticks of half a minute in a day */
+    VARNWALNUT_MOST_PLACES = 512,
+    VARNWALNUT_MOST_ROADS = 2048,
+    VARNWALNUT_MOST_CELLS = 64,
+    VARNWALNUT_MOST_POINTS = 65535,
+    VARNWALNUT_TRIP_BYTES = 1032,  /* the longest answer to a trip: 511 roads */
+    VARNWALNUT_NETWORK_BYTES = 283648, /* the longest network file */
+    VARNWALNUT_PLAN_BYTES = 7023616    /* the longest plan file */
+};
+
+/* The arrival of a place that is not reached. */
+#define VARNWALNUT_NEVER UINT32_C(4294967295)
+
+/*
+ * Refusals. The lowest number wins, then the lowest place. In brackets: what the three places say; places that are not named are 0.
+ */
+enum {
+    VARNWALNUT_OK = 0,
+
+    /* the network file */
+    VARNWALNUT_NETWORK_LENGTH = 1,  /* its length is zero, no multiple of 512, or above 554 blocks */
+    VARNWALNUT_NETWORK_SUM = 2,     /* a block's check is wrong (block) */
+    VARNWALNUT_NETWORK_FIRST = 3,   /* the first block's kind, number, entries, byte 1 or fill */
+    VARNWALNUT_NETWORK_LIMITS = 4,  /* the header's numbers are outside the limits */
+    VARNWALNUT_NETWORK_SIZE = 5,    /* its length is not what the header calls for */
+    VARNWALNUT_NETWORK_FORM = 6,    /* a later block's kind, number, entries, byte 1 or fill (block) */
+    VARNWALNUT_NETWORK_CELL = 7,    /* a cell is not below the count of cells (place) */
+    VARNWALNUT_NETWORK_ROAD = 8,    /* a road's ends or point count (road), or the counts do not add up (count of roads) */
+    VARNWALNUT_NETWORK_POINT = 9,   /* a point's tick or travel (point) */
+    VARNWALNUT_NETWORK_FIFO = 10,   /* leaving later would arrive earlier (the earlier point) */
+
+    /* the plan file */
+    VARNWALNUT_PLAN_LENGTH = 11,    /* its length is zero, no multiple of 512, or above 13,718 blocks */
+    VARNWALNUT_PLAN_SUM = 12,       /* a block's check is wrong (block) */
+    VARNWALNUT_PLAN_FIRST = 13,     /* the first block's kind, number, entries, byte 1 or fill */
+    VARNWALNUT_PLAN_OTHER = 14,     /* it is for another network, or has too many profile points */
+    VARNWALNUT_PLAN_SIZE = 15,      /* its length is not what the header calls for */
+    VARNWALNUT_PLAN_FORM = 16,      /* a later block's kind, number, entries, byte 1 or fill (block) */
+    VARNWALNUT_PLAN_FLAG = 17,      /* a flag for a cell that is not there (road) */
+    VARNWALNUT_PLAN_COUNT = 18,     /* a profile's point count (profile), or the counts do not add up (count of profiles) */
+    VARNWALNUT_PLAN_TICK = 19,      /* a profile point's tick (point) */
+
+    /* the check of a plan; from 21 on (border index, place, tick) */
+    VARNWALNUT_CHECK_INSIDE = 20,   /* a road inside a cell has not that cell's flag (road) */
+    VARNWALNUT_CHECK_BORDER = 21,   /* a border's own profile is not 0 */
+    VARNWALNUT_CHECK_LESS = 22,     /* a road gives less travel than the profile says */
+    VARNWALNUT_CHECK_NO_ROAD = 23,  /* no road gives the travel that the profile says */
+    VARNWALNUT_CHECK_NO_FLAG = 24,  /* roads give it, none of them with the flag */
+
+    /* the call */
+    VARNWALNUT_PLACE = 25,          /* from, or else to, is no place (that number) */
+    VARNWALNUT_DEPARTURE = 26,      /* the departure is not below the period */
+    VARNWALNUT_ARRIVALS_SHORT = 27, /* the list of arrivals is shorter than the count of places */
+    VARNWALNUT_NO_WAY = 28,         /* there is no way */
+    VARNWALNUT_ROADS_SHORT = 29,    /* the list of roads is shorter than the chosen way */
+    VARNWALNUT_TABLE_SHORT = 30,    /* a lent table is shorter than its count */
+    VARNWALNUT_ANSWER_SHORT = 31    /* the answer, or the bytes for a file, are too few; nothing is written */
+};
+
+/*
+ * THE TABLET
+ *
+ * A trip from one place to another, leaving at a tick of the day. The answer stands in bytes, low byte first:
+ *   0..3 the refusal or 0 | 4..7 the tick of arrival | 8..9 the count of roads | 10.. the road numbers, 2 bytes each, from the first road to the last
+ * On a refusal the arrival and the count are 0. Bytes after the last road number (on a refusal: from byte 10 on) stay as they were. With fewer than
+ * VARNWALNUT_TRIP_BYTES answer bytes the call returns 31 before all else and writes nothing. 27 and 29 do not occur here.
+ * A tick of arrival may be after the period: it counts on from the day of leaving.
+ */
+
+/* Over all roads: the arrival is the earliest over all ways, with whatever waits. Refusals: 1 to 10, 25, 26, 28, 31. */
+uint32_t varnwalnut_plain_trip(const uint8_t *network, size_t network_length,
+                               uint8_t *answer, size_t answer_length,
+                               uint32_t from, uint32_t to, uint32_t departure);
+
+/*
+ * Over the roads with the flag of the target's cell. Under a plan that varnwalnut_check_plan accepts, the arrival is the earliest over all ways too, and
+ * 28 is said exactly when there is none. Refusals: 1 to 19, 25, 26, 28, 31.
+ */
+uint32_t varnwalnut_flagged_trip(const uint8_t *network, size_t network_length,
+                                 const uint8_t *plan, size_t plan_length,
+                                 uint8_t *answer, size_t answer_length,
+                                 uint32_t from, uint32_t to, uint32_t departure);
+
+/*
+ * THE DESK
+ *
+ * Here the answer is a list of numbers: first the three places of a refusal, then the answer's own numbers. On a refusal the numbers after the places
+ * are 0; on an answer the places are 0. With fewer answer numbers than named the call returns 31 before all else and writes nothing at all; numbers
+ * after those named stay as they were.
+ */
+
+/*
+ * Is the plan one that the flagged trips of this network may trust? 0 exactly when its profiles are the true least travels at every tick and its flags
+ * are enough. answer[0..3]: the places. Refusals: 1 to 24, 31.
+ */
+uint32_t varnwalnut_check_plan(const uint8_t *network, size_t network_length,
+                               const uint8_t *plan, size_t plan_length,
+                               uint32_t *answer, size_t answer_length);
+
+/*
+ * The tables of a network file: for each place its cell; for each road where it leads from and to and its count of points; for each point its tick and
+ * travel. answer[0..9]: the places, then network number, period, places, roads, cells, points. On a refusal every table stays as it was; else only the
+ * first entries of each change, as many as there are places, roads or points. Refusals: 1 to 10, 30, 31.
+ */
+uint32_t varnwalnut_open_network(const uint8_t *network, size_t network_length,
+                                 uint16_t *cells, size_t cells_length,
+                                 uint16_t *from, size_t from_length,
+                                 uint16_t *to, size_t to_length,
+                                 uint16_t *points, size_t points_length,
+                                 uint16_t *ticks, size_t ticks_length,
+                                 uint16_t *travels, size_t travels_length,
+                                 uint32_t *answer, size_t answer_length);
+
+/*
+ * The network file of such tables, of which only the first entries are looked at. answer[0..4]: the places, then the file's length in bytes. On a refusal
+ * no byte of `out` changes; else its first bytes become the file and the others stay. What is packed opens to the same tables, and the tables of an
+ * opened file pack to the same bytes. Refusals: 4, 30, 7 to 10, 31, in this order.
+ */
+uint32_t varnwalnut_pack_network(uint32_t number, uint32_t period, uint32_t place_count, uint32_t road_count, uint32_t cell_count, uint32_t point_count,
+                                 const uint16_t *cells, size_t cells_length,
+                                 const uint16_t *from, size_t from_length,
+                                 const uint16_t *to, size_t to_length,
+                                 const uint16_t *points, size_t points_length,
+                                 const uint16_t *ticks, size_t ticks_length,
+                                 const uint16_t *travels, size_t travels_length,
+                                 uint8_t *out, size_t out_length,
+                                 uint32_t *answer, size_t answer_length);
+
+/*
+ * The trips with lent lists. answer[0..5]: the places, then the tick of arrival and the count of roads. Up to 27 both lists stay as they were. On arrival
+ * and on 29 the first arrivals, one for each place, hold the earliest arrival where it is before the target's or the place is the target, else never; on
+ * 28 the earliest arrival of every place that can be reached, and never for the others. `roads` changes only on arrival, in its first entries, as many as
+ * are counted. Refusals: those of the tablet's trips, and 27 and 29.
+ */
+uint32_t varnwalnut_plain_trip_lists(const uint8_t *network, size_t network_length,
+                                     uint32_t from, uint32_t to, uint32_t departure,
+                                     uint32_t *arrivals, size_t arrivals_length,
+                                     uint16_t *roads, size_t roads_length,
+                                     uint32_t *answer, size_t answer_length);
+
+uint32_t varnwalnut_flagged_trip_lists(const uint8_t *network, size_t network_length,
+                                       const uint8_t *plan, size_t plan_length,
+                                       uint32_t from, uint32_t to, uint32_t departure,
+                                       uint32_t *arrivals, size_t arrivals_length,
+                                       uint16_t *roads, size_t roads_length,
+                                       uint32_t *answer, size_t answer_length);
+
+#ifdef __cplusplus
+}
+#endif
+
+#endif

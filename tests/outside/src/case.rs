@@ -1,0 +1,89 @@
+//! A case: one valid town with an exact plan and a call that no operation refuses, from which damage starts.
+
+use crate::draft::{Drafts, NetworkDraft, PlanDraft};
+use crate::generate::{town, Size};
+use crate::input::Input;
+use crate::planner::{exact_plan, work};
+use crate::reference::network::{self, Network};
+use crate::reference::trips::{least_arrivals, plain_trip, ListLengths, TripCall};
+use crate::rng::Rng;
+
+pub struct Case {
+    pub drafts: Drafts,
+    pub network: Network,
+    pub call: TripCall,
+    /// How many entries each lent list has beyond what is named.
+    pub spare: usize,
+    /// How many arcs the plain trip's chosen way has.
+    pub roads: usize,
+}
+
+/// What a case's exact plan may cost.
+fn most_work(rng: &mut Rng, size: Size) -> usize {
+    match size {
+        Size::Full => usize::MAX,
+        Size::Large if rng.once_in(200) => 30_000_000,
+        Size::Large => 1_000_000,
+        _ => 300_000,
+    }
+}
+
+pub fn generate(rng: &mut Rng, size: Size) -> Case {
+    let mut draft = town(rng, size);
+    let most_work = most_work(rng, size);
+    let (network, plan) = planned(rng, &draft, most_work)
+        .or_else(|| {
+            leave_few_borders(rng, &mut draft);
+            planned(rng, &draft, most_work)
+        })
+        .unwrap_or_else(|| {
+            draft.tables.cells.fill(0);
+            planned(rng, &draft, usize::MAX).expect("a town without borders has no profiles")
+        });
+    let call = reachable_pair(rng, &network);
+    let any_list = ListLengths { arrivals: 512, roads: 512 };
+    let roads = plain_trip(&network, call, any_list).answer.map_or(0, |arrived| arrived.roads.len());
+    Case { drafts: Drafts { network: draft, plan }, network, call, spare: rng.below(4), roads }
+}
+
+/// The opened town and its exact plan, unless that takes too much work or too many points.
+fn planned(rng: &mut Rng, draft: &NetworkDraft, most_work: usize) -> Option<(Network, PlanDraft)> {
+    let network = open(&draft.file());
+    (work(&network) <= most_work).then_some(())?;
+    let plan = exact_plan(rng, &network)?;
+    Some((network, plan))
+}
+
+/// All nodes in one cell but one, whose neighbours and itself are all the borders left.
+fn leave_few_borders(rng: &mut Rng, draft: &mut NetworkDraft) {
+    let cells = &mut draft.tables.cells;
+    let last = draft.header.cells as u16 - 1;
+    cells.fill(last);
+    let apart = rng.below(cells.len());
+    cells[apart] = 0;
+}
+
+fn open(file: &[u8]) -> Network {
+    network::open(file).expect("a generated town opens")
+}
+
+/// A pair with a way between them, the same node twice where chance or the town leaves no other.
+fn reachable_pair(rng: &mut Rng, network: &Network) -> TripCall {
+    let from = rng.below(network.nodes());
+    let departure = rng.below(network.header.period as usize) as u32;
+    let labels = least_arrivals(network, &vec![true; network.arcs.len()], from, u64::from(departure));
+    let reached: Vec<usize> = (0..network.nodes()).filter(|&node| labels[node].is_some()).collect();
+    let to = *reached.iter().max_by_key(|&&node| (rng.below(3), labels[node])).expect("a node reaches itself");
+    TripCall { from: from as u32, to: to as u32, departure }
+}
+
+impl Case {
+    /// The input of these drafts, every list as long as named for this case and `spare` longer.
+    pub fn input(&self, drafts: &Drafts) -> Input {
+        self.input_of_files(drafts.network.file(), drafts.plan.file())
+    }
+
+    pub fn input_of_files(&self, network: Vec<u8>, plan: Vec<u8>) -> Input {
+        Input::roomy(network, plan, self.call, self.network.header.table_lengths(), self.spare)
+    }
+}

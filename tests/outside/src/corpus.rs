@@ -1,0 +1,124 @@
+//! Inputs kept as files. A corpus file is the four bytes VWC1, 31 numbers of 32 bits, low byte first, the
+//! network's bytes and the plan's. The numbers: from, to, departure; pack's number, P, N, R, K, Q; the lengths
+//! of the arrival list, the road list, the C trips' answer, the answers of the lists, the check, open and pack,
+//! pack's out-bytes, open's six tables and pack's six; the network's length and the plan's.
+
+use crate::compare::{compare, Verdict};
+use crate::input::{Input, Lengths};
+use crate::library::OPERATIONS;
+use crate::reference::network::Header;
+use crate::reference::trips::TripCall;
+use std::path::{Path, PathBuf};
+use std::{fs, io};
+
+const MAGIC: &[u8; 4] = b"VWC1";
+const NUMBERS: usize = 31;
+/// No lent list of a corpus file is longer: a plan's most bytes and some.
+const MOST_LENGTH: u32 = 8_000_000;
+
+pub fn to_bytes(input: &Input) -> Vec<u8> {
+    let (call, pack, lengths) = (input.call, input.pack, input.lengths);
+    let mut numbers = vec![call.from, call.to, call.departure];
+    numbers.extend([pack.number, pack.period, pack.nodes, pack.arcs, pack.cells, pack.points]);
+    let mut counts = vec![
+        lengths.arrivals,
+        lengths.roads,
+        lengths.trip_answer,
+        lengths.lists_answer,
+        lengths.check_answer,
+        lengths.open_answer,
+        lengths.pack_answer,
+        lengths.pack_out,
+    ];
+    counts.extend(lengths.open_tables);
+    counts.extend(lengths.pack_tables);
+    counts.extend([input.network.len(), input.plan.len()]);
+    numbers.extend(counts.iter().map(|&count| count as u32));
+    let mut bytes = MAGIC.to_vec();
+    bytes.extend(numbers.iter().flat_map(|number| number.to_le_bytes()));
+    bytes.extend_from_slice(&input.network);
+    bytes.extend_from_slice(&input.plan);
+    bytes
+}
+
+pub fn from_bytes(bytes: &[u8]) -> Option<Input> {
+    let rest = bytes.strip_prefix(MAGIC)?;
+    let (head, files) = rest.split_at_checked(4 * NUMBERS)?;
+    let numbers: Vec<u32> =
+        head.chunks_exact(4).map(|word| u32::from_le_bytes([word[0], word[1], word[2], word[3]])).collect();
+    let count = |place: usize| (numbers[place] <= MOST_LENGTH).then_some(numbers[place] as usize);
+    let six = |first: usize| -> Option<[usize; 6]> {
+        Some([
+            count(first)?,
+            count(first + 1)?,
+            count(first + 2)?,
+            count(first + 3)?,
+            count(first + 4)?,
+            count(first + 5)?,
+        ])
+    };
+    let lengths = Lengths {
+        arrivals: count(9)?,
+        roads: count(10)?,
+        trip_answer: count(11)?,
+        lists_answer: count(12)?,
+        check_answer: count(13)?,
+        open_answer: count(14)?,
+        pack_answer: count(15)?,
+        pack_out: count(16)?,
+        open_tables: six(17)?,
+        pack_tables: six(23)?,
+    };
+    let (network, plan) = files.split_at_checked(count(29)?)?;
+    (plan.len() == count(30)?).then_some(())?;
+    Some(Input {
+        network: network.to_vec(),
+        plan: plan.to_vec(),
+        call: TripCall { from: numbers[0], to: numbers[1], departure: numbers[2] },
+        pack: Header {
+            number: numbers[3],
+            period: numbers[4],
+            nodes: numbers[5],
+            arcs: numbers[6],
+            cells: numbers[7],
+            points: numbers[8],
+        },
+        lengths,
+    })
+}
+
+/// The corpus files of a folder by name; what is no corpus file is named and left out.
+pub fn read_folder(folder: &Path) -> io::Result<Vec<(PathBuf, Input)>> {
+    let mut paths: Vec<PathBuf> =
+        fs::read_dir(folder)?.map(|entry| entry.map(|entry| entry.path())).collect::<Result<_, _>>()?;
+    paths.sort();
+    let mut inputs = Vec::new();
+    for path in paths {
+        match from_bytes(&fs::read(&path)?) {
+            Some(input) => inputs.push((path, input)),
+            None => println!("{}: no corpus file", path.display()),
+        }
+    }
+    Ok(inputs)
+}
+
+/// Runs every file of a folder through all functions; prints each one's refusals and returns the differences.
+pub fn replay(folder: &Path) -> io::Result<u64> {
+    let mut differences = 0;
+    let inputs = read_folder(folder)?;
+    for (path, input) in &inputs {
+        let verdict = compare(input);
+        println!("{} {}", path.display(), refusals(&verdict));
+        for text in &verdict.differences {
+            println!("DIFFERENCE {}: {text}", path.display());
+            differences += 1;
+        }
+    }
+    println!("outside: {} files, {differences} differences", inputs.len());
+    Ok(differences)
+}
+
+/// The seven operations' refusals, in order.
+fn refusals(verdict: &Verdict) -> String {
+    (0..OPERATIONS.len()).map(|operation| verdict.refusal(operation).to_string()).collect::<Vec<_>>().join(" ")
+}

@@ -1,0 +1,82 @@
+//! Which refusals occurred: for each operation and number, by a fault alone and beside a second one.
+//! At the end every refusal that document 01 lets an operation give must have occurred both ways.
+
+use crate::library::*;
+
+#[derive(Default)]
+pub struct Coverage {
+    alone: [[u64; 32]; 7],
+    second: [[u64; 32]; 7],
+}
+
+impl Coverage {
+    pub fn alone(&mut self, operation: usize, refusal: u32) {
+        self.alone[operation][refusal as usize] += 1;
+    }
+
+    pub fn with_second(&mut self, operation: usize, refusal: u32) {
+        self.second[operation][refusal as usize] += 1;
+    }
+
+    pub fn print(&self) {
+        println!("refusals by operation: alone / with a second fault");
+        print!("{:>4}", "");
+        for name in OPERATIONS {
+            print!(" {name:>18}");
+        }
+        println!();
+        for refusal in 0..32usize {
+            print!("{refusal:>4}");
+            for operation in 0..7 {
+                let (alone, second) = (self.alone[operation][refusal], self.second[operation][refusal]);
+                let text = if alone + second == 0 { "-".to_string() } else { format!("{alone} / {second}") };
+                print!(" {text:>18}");
+            }
+            println!();
+        }
+    }
+
+    /// The refusals that should have occurred and did not.
+    pub fn missing(&self) -> Vec<String> {
+        let mut missing = Vec::new();
+        for (operation, name) in OPERATIONS.iter().enumerate() {
+            for refusal in possible(operation) {
+                if self.alone[operation][refusal as usize] == 0 {
+                    missing.push(format!("{name}: refusal {refusal} never occurred alone"));
+                }
+                if can_win_over_a_second(operation, refusal) && self.second[operation][refusal as usize] == 0 {
+                    missing.push(format!("{name}: refusal {refusal} never occurred with a second fault"));
+                }
+            }
+        }
+        missing
+    }
+}
+
+/// The refusals an operation can give. The trips called from C have a fresh list of 512 arrivals, never
+/// shorter than N (no 27), and 1,032 answer bytes hold the 511 roads of the longest way there can be (no 29).
+/// 31 is an answer list that is too short, for pack also the out-bytes.
+fn possible(operation: usize) -> Vec<u32> {
+    let network = 1..=10;
+    let plan = 11..=19;
+    match operation {
+        OPEN => network.chain([30, 31]).collect(),
+        PACK => [4].into_iter().chain(7..=10).chain([30, 31]).collect(),
+        CHECK => network.chain(plan).chain(20..=24).chain([31]).collect(),
+        PLAIN => network.chain([25, 26, 28, 31]).collect(),
+        FLAGGED => network.chain(plan).chain([25, 26, 28, 31]).collect(),
+        PLAIN_LISTS => network.chain(25..=29).chain([31]).collect(),
+        _ => network.chain(plan).chain(25..=29).chain([31]).collect(),
+    }
+}
+
+/// False where nothing that is refused later can stand beside it: 29 is the last of the lists' trips, and 28
+/// the last of the C trips, which have no road list that could be too short as well. All others are tried
+/// beside a second fault, if only one of the same number at another place.
+fn can_win_over_a_second(operation: usize, refusal: u32) -> bool {
+    match operation {
+        PLAIN | FLAGGED => refusal != 28,
+        PLAIN_LISTS | FLAGGED_LISTS => refusal != 29,
+        _ => true,
+    }
+}

@@ -1,0 +1,78 @@
+//! One input for all seven functions: two files, the numbers of a call, and how long each lent list is.
+//! What pack gets is read out of the network file without judging it, so that every damage reaches pack too.
+
+use crate::library::{CHECK_ANSWER, LISTS_ANSWER, OPEN_ANSWER, PACK_ANSWER, TRIP_ANSWER_BYTES};
+use crate::reference::network::{read_header, read_tables, Header, Tables};
+use crate::reference::trips::TripCall;
+
+/// How many entries each lent list has.
+#[derive(Clone, Copy, Debug, PartialEq, Eq)]
+pub struct Lengths {
+    pub arrivals: usize,
+    pub roads: usize,
+    pub trip_answer: usize,
+    pub lists_answer: usize,
+    pub check_answer: usize,
+    pub open_answer: usize,
+    pub pack_answer: usize,
+    pub pack_out: usize,
+    pub open_tables: [usize; 6],
+    pub pack_tables: [usize; 6],
+}
+
+#[derive(Clone, PartialEq, Eq)]
+pub struct Input {
+    pub network: Vec<u8>,
+    pub plan: Vec<u8>,
+    pub call: TripCall,
+    pub pack: Header,
+    pub lengths: Lengths,
+}
+
+/// Entries with which a table for pack is lengthened: no table may be judged beyond its count.
+const BEYOND: u16 = 0xEEEE;
+
+impl Input {
+    /// The tables lent to pack: the network file's, cut or lengthened to the lent lengths.
+    pub fn pack_tables(&self) -> Tables {
+        let mut tables = read_tables(&self.network);
+        for (table, length) in tables.in_order_mut().into_iter().zip(self.lengths.pack_tables) {
+            table.resize(length, BEYOND);
+        }
+        tables
+    }
+
+    /// Makes pack's numbers and table lengths those of the network file as it stands now.
+    pub fn pack_what_the_network_says(&mut self, spare: usize) {
+        self.pack = if self.network.len() < 24 { NO_HEADER } else { read_header(&self.network) };
+        let tables = read_tables(&self.network);
+        self.lengths.pack_tables = tables.in_order().map(|table| table.len() + spare);
+        self.lengths.pack_out = self.network.len() + spare;
+    }
+
+    /// An input whose lists are all long enough for any town, `spare` entries beyond what is named.
+    pub fn roomy(network: Vec<u8>, plan: Vec<u8>, call: TripCall, open_tables: [usize; 6], spare: usize) -> Input {
+        let mut input = Input {
+            network,
+            plan,
+            call,
+            pack: NO_HEADER,
+            lengths: Lengths {
+                arrivals: open_tables[0] + spare,
+                roads: open_tables[0] + spare,
+                trip_answer: TRIP_ANSWER_BYTES + spare,
+                lists_answer: LISTS_ANSWER + spare,
+                check_answer: CHECK_ANSWER + spare,
+                open_answer: OPEN_ANSWER + spare,
+                pack_answer: PACK_ANSWER + spare,
+                pack_out: 0,
+                open_tables: open_tables.map(|length| length + spare),
+                pack_tables: [0; 6],
+            },
+        };
+        input.pack_what_the_network_says(spare);
+        input
+    }
+}
+
+const NO_HEADER: Header = Header { number: 0, period: 0, nodes: 0, arcs: 0, cells: 0, points: 0 };

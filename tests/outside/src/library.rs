@@ -1,0 +1,91 @@
+//! The C functions under test, as the engine's C interface names them. A slice passes as a pointer and a count
+//! of elements; pointers are never null, also where the count is 0.
+
+// Each slice on a line of its own, as the C interface lists them.
+#[rustfmt::skip]
+extern "C" {
+    pub fn varnwalnut_plain_trip(
+        network: *const u8, network_length: usize,
+        answer: *mut u8, answer_length: usize,
+        from: u32, to: u32, departure: u32,
+    ) -> u32;
+
+    pub fn varnwalnut_flagged_trip(
+        network: *const u8, network_length: usize,
+        plan: *const u8, plan_length: usize,
+        answer: *mut u8, answer_length: usize,
+        from: u32, to: u32, departure: u32,
+    ) -> u32;
+
+    pub fn varnwalnut_check_plan(
+        network: *const u8, network_length: usize,
+        plan: *const u8, plan_length: usize,
+        answer: *mut u32, answer_length: usize,
+    ) -> u32;
+
+    pub fn varnwalnut_open_network(
+        network: *const u8, network_length: usize,
+        cells: *mut u16, cells_length: usize,
+        from: *mut u16, from_length: usize,
+        to: *mut u16, to_length: usize,
+        points: *mut u16, points_length: usize,
+        ticks: *mut u16, ticks_length: usize,
+        travels: *mut u16, travels_length: usize,
+        answer: *mut u32, answer_length: usize,
+    ) -> u32;
+
+    pub fn varnwalnut_pack_network(
+        number: u32, period: u32, nodes: u32, arcs: u32, cell_count: u32, point_count: u32,
+        cells: *const u16, cells_length: usize,
+        from: *const u16, from_length: usize,
+        to: *const u16, to_length: usize,
+        points: *const u16, points_length: usize,
+        ticks: *const u16, ticks_length: usize,
+        travels: *const u16, travels_length: usize,
+        out: *mut u8, out_length: usize,
+        answer: *mut u32, answer_length: usize,
+    ) -> u32;
+
+    pub fn varnwalnut_plain_trip_lists(
+        network: *const u8, network_length: usize,
+        from: u32, to: u32, departure: u32,
+        arrivals: *mut u32, arrivals_length: usize,
+        roads: *mut u16, roads_length: usize,
+        answer: *mut u32, answer_length: usize,
+    ) -> u32;
+
+    pub fn varnwalnut_flagged_trip_lists(
+        network: *const u8, network_length: usize,
+        plan: *const u8, plan_length: usize,
+        from: u32, to: u32, departure: u32,
+        arrivals: *mut u32, arrivals_length: usize,
+        roads: *mut u16, roads_length: usize,
+        answer: *mut u32, answer_length: usize,
+    ) -> u32;
+}
+
+/// The operations in the order of the tables printed at the end.
+pub const OPERATIONS: [&str; 7] = [
+    "open_network",
+    "pack_network",
+    "check_plan",
+    "plain_trip",
+    "flagged_trip",
+    "plain_trip_lists",
+    "flagged_trip_lists",
+];
+pub const OPEN: usize = 0;
+pub const PACK: usize = 1;
+pub const CHECK: usize = 2;
+pub const PLAIN: usize = 3;
+pub const FLAGGED: usize = 4;
+pub const PLAIN_LISTS: usize = 5;
+pub const FLAGGED_LISTS: usize = 6;
+
+/// "Below 1,032 bytes it gives 31 before all else".
+pub const TRIP_ANSWER_BYTES: usize = 1_032;
+/// Words each answer list has to have, as the C interface names them.
+pub const OPEN_ANSWER: usize = 9;
+pub const PACK_ANSWER: usize = 4;
+pub const CHECK_ANSWER: usize = 3;
+pub const LISTS_ANSWER: usize = 5;

@@ -1,0 +1,146 @@
+//! Tests of the engine's C functions from outside: document 01 written down a second time, and every answer and
+//! all lent memory compared with it. `README.md` has the commands.
+
+mod case;
+mod compare;
+mod corpus;
+mod coverage;
+mod damage;
+mod draft;
+mod fuzz;
+mod generate;
+mod input;
+mod library;
+mod marked;
+mod oracle;
+mod planner;
+mod quay;
+mod reference;
+mod rng;
+mod runner;
+mod watch;
+
+use runner::{CaseName, Runner};
+use std::path::PathBuf;
+use std::process::ExitCode;
+use std::time::Instant;
+
+/// The run without arguments: about 90 seconds on one core.
+const DEFAULT_SEED: u64 = 20_261_115;
+const DEFAULT_CASES: u64 = 150_000;
+const DEFAULT_LARGE: u64 = 800;
+/// Below this many small cases a run may miss a refusal by chance, and is not held to all of them.
+const CASES_THAT_MEET_ALL: u64 = 40_000;
+
+enum Mode {
+    Cases { cases: u64, large: u64 },
+    Only(CaseName),
+    Replay(PathBuf),
+    Fuzz { folder: PathBuf, seconds: Option<u64> },
+}
+
+struct Arguments {
+    seed: u64,
+    mode: Mode,
+}
+
+fn main() -> ExitCode {
+    let Some(arguments) = parse(std::env::args().skip(1)) else {
+        println!(
+            "usage: outside [--seed S] [--cases N] [--large M] [--only CASE] [--replay DIR] [--fuzz DIR [--seconds T]]"
+        );
+        return ExitCode::from(2);
+    };
+    watch::start(arguments.seed);
+    let differences = match arguments.mode {
+        Mode::Cases { cases, large } => run_cases(arguments.seed, cases, large),
+        Mode::Only(name) => run_only(arguments.seed, name),
+        Mode::Replay(folder) => corpus::replay(&folder).expect("the corpus folder can be read"),
+        Mode::Fuzz { folder, seconds } => {
+            fuzz::fuzz(arguments.seed, &folder, seconds).expect("the corpus folder can be written")
+        }
+    };
+    ExitCode::from(u8::from(differences > 0))
+}
+
+fn parse(mut words: impl Iterator<Item = String>) -> Option<Arguments> {
+    let mut seed = DEFAULT_SEED;
+    let mut cases = None;
+    let mut large = None;
+    let mut other = None;
+    let mut seconds = None;
+    while let Some(word) = words.next() {
+        let value = words.next()?;
+        match word.as_str() {
+            "--seed" => seed = value.parse().ok()?,
+            "--cases" => cases = Some(value.parse().ok()?),
+            "--large" => large = Some(value.parse().ok()?),
+            "--only" => other = Some(Mode::Only(CaseName::parse(&value)?)),
+            "--replay" => other = Some(Mode::Replay(PathBuf::from(value))),
+            "--fuzz" => other = Some(Mode::Fuzz { folder: PathBuf::from(value), seconds: None }),
+            "--seconds" => seconds = Some(value.parse().ok()?),
+            _ => return None,
+        }
+    }
+    let mode = match other {
+        Some(Mode::Fuzz { folder, .. }) => Mode::Fuzz { folder, seconds },
+        Some(mode) => mode,
+        None => {
+            let nothing_said = cases.is_none() && large.is_none();
+            Mode::Cases {
+                cases: cases.unwrap_or(if nothing_said { DEFAULT_CASES } else { 0 }),
+                large: large.unwrap_or(if nothing_said { DEFAULT_LARGE } else { 0 }),
+            }
+        }
+    };
+    Some(Arguments { seed, mode })
+}
+
+fn runner(seed: u64) -> Runner {
+    Runner { seed, kinds: damage::kinds(), coverage: coverage::Coverage::default(), differences: 0 }
+}
+
+/// Quay town first: a run that misreads document 01's own example says so before all else.
+fn run_quay_town() -> u64 {
+    let failures = quay::failures();
+    for text in &failures {
+        println!("DIFFERENCE {text}");
+    }
+    println!("Quay town: {} failures", failures.len());
+    failures.len() as u64
+}
+
+fn run_cases(seed: u64, cases: u64, large: u64) -> u64 {
+    let mut differences = run_quay_town();
+    let mut runner = runner(seed);
+    for (is_large, count) in [(false, cases), (true, large)] {
+        let started = Instant::now();
+        for number in 0..count {
+            watch::case(is_large, number);
+            runner.run(CaseName { large: is_large, number });
+        }
+        let seconds = started.elapsed().as_secs_f64();
+        let size = if is_large { "large" } else { "small" };
+        println!("{count} {size} cases in {seconds:.1} s");
+    }
+    runner.coverage.print();
+    differences += runner.differences;
+    if cases >= CASES_THAT_MEET_ALL {
+        for text in runner.coverage.missing() {
+            println!("DIFFERENCE {text}");
+            differences += 1;
+        }
+    } else {
+        println!("fewer than {CASES_THAT_MEET_ALL} small cases: not held to meeting every refusal");
+    }
+    println!("outside: {} cases, {differences} differences", cases + large);
+    differences
+}
+
+fn run_only(seed: u64, name: CaseName) -> u64 {
+    let mut runner = runner(seed);
+    watch::case(name.large, name.number);
+    runner.run(name);
+    println!("outside: 1 cases, {} differences", runner.differences);
+    runner.differences
+}

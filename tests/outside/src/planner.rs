@@ -1,0 +1,213 @@
+//! Exact plans for valid towns: true least travels worked out backwards from each border (the oracle works
+//! forwards), written as profiles with all or with few points, and flags that are enough: as few as a greedy
+//! choice leaves, all, or some more.
+
+use crate::draft::{PlanDraft, PlanHeader};
+use crate::reference::network::Network;
+use crate::reference::plan::{borders, MOST_POINTS};
+use crate::reference::NEVER;
+use crate::rng::Rng;
+
+/// The least travel to one border, by node and tick (node × P + tick), NEVER where there is no way.
+struct LeastTravels {
+    border: usize,
+    travels: Vec<u32>,
+}
+
+/// The work an exact plan of this town takes, in relaxations of one arc at one tick per round.
+pub fn work(network: &Network) -> usize {
+    borders(network).len() * (network.arcs.len() + network.nodes()) * network.header.period as usize
+}
+
+/// An exact plan, or none if its profiles would need more points than a plan may have.
+pub fn exact_plan(rng: &mut Rng, network: &Network) -> Option<PlanDraft> {
+    let arc_travels = arc_travels(network);
+    let least: Vec<LeastTravels> =
+        borders(network).into_iter().map(|border| least_travels(network, &arc_travels, border)).collect();
+    let flags = flags(rng, network, &arc_travels, &least);
+    let mut plan = PlanDraft {
+        header: PlanHeader {
+            number: network.header.number,
+            period: network.header.period,
+            nodes: network.header.nodes,
+            arcs: network.header.arcs,
+            cells: network.header.cells,
+            borders: least.len() as u32,
+            zero: 0,
+            points: 0,
+        },
+        flags,
+        counts: Vec::new(),
+        ticks: Vec::new(),
+        travels: Vec::new(),
+    };
+    add_profiles(rng, network, &least, &mut plan);
+    (plan.ticks.len() <= MOST_POINTS as usize).then_some(plan)
+}
+
+fn arc_travels(network: &Network) -> Vec<Vec<u32>> {
+    if borders(network).is_empty() {
+        return vec![Vec::new(); network.arcs.len()];
+    }
+    (0..network.arcs.len())
+        .map(|arc| (0..network.header.period).map(|tick| network.arc_travel(arc, u64::from(tick)) as u32).collect())
+        .collect()
+}
+
+/// What taking an arc at a tick gives to the border, or NEVER.
+fn given(network: &Network, arc_travels: &[Vec<u32>], least: &LeastTravels, arc: usize, tick: usize) -> u32 {
+    let period = network.header.period as usize;
+    let travel = arc_travels[arc][tick];
+    let after = least.travels[network.arcs[arc].to * period + (tick + travel as usize) % period];
+    if after == NEVER {
+        NEVER
+    } else {
+        travel + after
+    }
+}
+
+fn least_travels(network: &Network, arc_travels: &[Vec<u32>], border: usize) -> LeastTravels {
+    let period = network.header.period as usize;
+    let mut least = LeastTravels { border, travels: vec![NEVER; network.nodes() * period] };
+    least.travels[border * period..][..period].fill(0);
+    // Only arcs into a node that got less in the last round can give less in this one.
+    let mut changed = vec![false; network.nodes()];
+    changed[border] = true;
+    while changed.iter().any(|&node| node) {
+        let mut next = vec![false; network.nodes()];
+        for (number, arc) in network.arcs.iter().enumerate() {
+            if !changed[arc.to] {
+                continue;
+            }
+            for tick in 0..period {
+                let given = given(network, arc_travels, &least, number, tick);
+                let kept = &mut least.travels[arc.from * period + tick];
+                if given < *kept {
+                    *kept = given;
+                    next[arc.from] = true;
+                }
+            }
+        }
+        changed = next;
+    }
+    least
+}
+
+fn flags(rng: &mut Rng, network: &Network, arc_travels: &[Vec<u32>], least: &[LeastTravels]) -> Vec<u64> {
+    let all = all_cells(network);
+    if rng.once_in(6) {
+        return vec![all; network.arcs.len()];
+    }
+    let mut flags = few_flags(rng, network, arc_travels, least);
+    if rng.once_in(2) {
+        for word in &mut flags {
+            *word |= rng.next() & rng.next() & all;
+        }
+    }
+    flags
+}
+
+fn all_cells(network: &Network) -> u64 {
+    u64::MAX >> (64 - network.header.cells)
+}
+
+/// Rule (a), and for each border, node and tick one arc that starts a least way, chosen only if none of the
+/// flagged ones does.
+fn few_flags(rng: &mut Rng, network: &Network, arc_travels: &[Vec<u32>], least: &[LeastTravels]) -> Vec<u64> {
+    let period = network.header.period as usize;
+    let mut flags: Vec<u64> = network
+        .arcs
+        .iter()
+        .map(|arc| {
+            let cell = network.cell_of[arc.from];
+            if cell == network.cell_of[arc.to] {
+                1 << cell
+            } else {
+                0
+            }
+        })
+        .collect();
+    let mut arcs_out = vec![Vec::new(); network.nodes()];
+    for (number, arc) in network.arcs.iter().enumerate() {
+        arcs_out[arc.from].push(number);
+    }
+    for to_border in least {
+        let bit = 1u64 << network.cell_of[to_border.border];
+        for (node, arcs_out) in arcs_out.iter().enumerate() {
+            for tick in 0..period {
+                let wanted = to_border.travels[node * period + tick];
+                if node == to_border.border || wanted == NEVER {
+                    continue;
+                }
+                let starts_least = |&arc: &usize| given(network, arc_travels, to_border, arc, tick) == wanted;
+                if arcs_out.iter().filter(|arc| starts_least(arc)).all(|&arc| flags[arc] & bit == 0) {
+                    let least_arcs: Vec<usize> = arcs_out.iter().copied().filter(|arc| starts_least(arc)).collect();
+                    flags[rng.pick(&least_arcs)] |= bit;
+                }
+            }
+        }
+    }
+    flags
+}
+
+fn add_profiles(rng: &mut Rng, network: &Network, least: &[LeastTravels], plan: &mut PlanDraft) {
+    let period = network.header.period as usize;
+    let room = MOST_POINTS as usize;
+    let every_tick = least.len() * network.nodes() * period;
+    let every_tick_fits = every_tick <= room;
+    // A plan that can be filled to its last point is.
+    let style = if every_tick == room { 0 } else { rng.below(4) };
+    for to_border in least {
+        for node in 0..network.nodes() {
+            let travels = &to_border.travels[node * period..][..period];
+            let points = match style {
+                _ if travels[0] == NEVER => Vec::new(),
+                0 if every_tick_fits => at_every_tick(travels),
+                1 if every_tick_fits && rng.once_in(2) => at_every_tick(travels),
+                2 if period <= 64 => floor_lines(travels),
+                _ => even_runs(travels),
+            };
+            plan.counts.push(points.len() as u16);
+            plan.ticks.extend(points.iter().map(|point| point.0));
+            plan.travels.extend(points.iter().map(|point| point.1));
+        }
+    }
+    plan.header.points = plan.ticks.len() as u32;
+}
+
+pub fn at_every_tick(travels: &[u32]) -> Vec<(u16, u32)> {
+    travels.iter().enumerate().map(|(tick, &travel)| (tick as u16, travel)).collect()
+}
+
+/// Points only where the step from tick to tick changes.
+fn even_runs(travels: &[u32]) -> Vec<(u16, u32)> {
+    let period = travels.len();
+    let step = |tick: usize| i64::from(travels[(tick + 1) % period]) - i64::from(travels[tick]);
+    (0..period)
+        .filter(|&tick| tick == 0 || step(tick - 1) != step(tick))
+        .map(|tick| (tick as u16, travels[tick]))
+        .collect()
+}
+
+/// Each line reaches on as long as, rounded down, it gives the true travel at every tick it passes.
+fn floor_lines(travels: &[u32]) -> Vec<(u16, u32)> {
+    let period = travels.len();
+    let mut points = Vec::new();
+    let mut start = 0;
+    while start < period {
+        points.push((start as u16, travels[start]));
+        let mut end = start + 1;
+        while end < period && line_is_true(travels, start, end + 1) {
+            end += 1;
+        }
+        start = end;
+    }
+    points
+}
+
+fn line_is_true(travels: &[u32], start: usize, end: usize) -> bool {
+    let first = i64::from(travels[start]);
+    let rise = i64::from(travels[end % travels.len()]) - first;
+    let run = (end - start) as i64;
+    (start..end).all(|tick| i64::from(travels[tick]) == first + (rise * (tick - start) as i64).div_euclid(run))
+}

@@ -1,0 +1,133 @@
+//! Quay town, document 01's own example: built from its words and held to every row of its table.
+
+use crate::compare::compare;
+use crate::draft::{Drafts, NetworkDraft, PlanDraft, PlanHeader};
+use crate::input::Input;
+use crate::library::{CHECK, FLAGGED_LISTS, OPEN, PLAIN_LISTS};
+use crate::reference::blocks::BLOCK;
+use crate::reference::network::{self, Header, Tables};
+use crate::reference::trips::{flagged_trip, plain_trip, Arrived, ListLengths, TripCall};
+use crate::reference::{plan, Refusal};
+
+const ANY_LIST: ListLengths = ListLengths { arrivals: 512, roads: 512 };
+
+pub fn drafts() -> Drafts {
+    let network = NetworkDraft {
+        header: Header { number: 1, period: 10, nodes: 4, arcs: 4, cells: 2, points: 5 },
+        tables: Tables {
+            cells: vec![0, 0, 1, 1],
+            from: vec![0, 1, 0, 2],
+            to: vec![1, 2, 2, 3],
+            counts: vec![1, 2, 1, 1],
+            ticks: vec![0, 0, 5, 0, 0],
+            travels: vec![2, 3, 7, 6, 1],
+        },
+    };
+    let plan = PlanDraft {
+        header: PlanHeader { number: 1, period: 10, nodes: 4, arcs: 4, cells: 2, borders: 1, zero: 0, points: 7 },
+        flags: vec![3, 2, 2, 2],
+        counts: vec![4, 2, 1, 0],
+        ticks: vec![0, 6, 7, 9, 0, 5, 0],
+        travels: vec![6, 6, 5, 5, 3, 7, 0],
+    };
+    Drafts { network, plan }
+}
+
+pub fn input(drafts: &Drafts, call: TripCall) -> Input {
+    Input::roomy(drafts.network.file(), drafts.plan.file(), call, [4, 4, 4, 4, 5, 5], 2)
+}
+
+/// Every row that does not hold, and every difference met on the way.
+pub fn failures() -> Vec<String> {
+    let mut failures = Vec::new();
+    files_and_travels(&mut failures);
+    trips(&mut failures);
+    altered_towns(&mut failures);
+    failures
+}
+
+fn expect<T: PartialEq + std::fmt::Debug>(failures: &mut Vec<String>, row: &str, found: T, wanted: T) {
+    if found != wanted {
+        failures.push(format!("Quay town, {row}: {found:?}, document 01 says {wanted:?}"));
+    }
+}
+
+fn files_and_travels(failures: &mut Vec<String>) {
+    let drafts = drafts();
+    expect(failures, "network blocks", drafts.network.file().len(), 4 * BLOCK);
+    expect(failures, "plan blocks", drafts.plan.file().len(), 4 * BLOCK);
+    let network = network::open(&drafts.network.file()).expect("Quay town opens");
+    expect(failures, "borders", plan::borders(&network), vec![2]);
+    let travels: Vec<u64> = (0..10).map(|tick| network.arc_travel(1, tick)).collect();
+    expect(failures, "road 1, ticks 0 to 9", travels, vec![3, 3, 4, 5, 6, 7, 6, 5, 4, 3]);
+}
+
+/// One trip, plain and flagged, by the reference and through the library.
+fn trip(failures: &mut Vec<String>, call: TripCall, wanted: Result<Arrived, Refusal>) {
+    let input = input(&drafts(), call);
+    let verdict = compare(&input);
+    failures.extend(verdict.differences);
+    let network = verdict.opened.expect("Quay town opens");
+    let plan = verdict.planned.expect("its plan is well-formed");
+    expect(failures, &format!("plain {call:?}"), plain_trip(&network, call, ANY_LIST).answer, wanted.clone());
+    expect(
+        failures,
+        &format!("flagged {call:?}"),
+        flagged_trip(&network, &plan, call, ANY_LIST).answer,
+        wanted.clone(),
+    );
+    let refused = wanted.err();
+    expect(failures, "check", verdict.predicted[CHECK], None);
+    expect(failures, "plain refusal", verdict.predicted[PLAIN_LISTS], refused);
+    expect(failures, "flagged refusal", verdict.predicted[FLAGGED_LISTS], refused);
+}
+
+fn trips(failures: &mut Vec<String>) {
+    let arrives = |tick, roads: &[u16]| Ok(Arrived { tick, roads: roads.to_vec() });
+    let no_way = Err(Refusal { number: 28, places: [0; 3] });
+    trip(failures, TripCall { from: 0, to: 3, departure: 0 }, arrives(7, &[0, 1, 3]));
+    trip(failures, TripCall { from: 0, to: 3, departure: 1 }, arrives(8, &[2, 3]));
+    trip(failures, TripCall { from: 0, to: 3, departure: 8 }, arrives(14, &[0, 1, 3]));
+    trip(failures, TripCall { from: 0, to: 3, departure: 7 }, arrives(13, &[0, 1, 3]));
+    for departure in 0..10 {
+        trip(failures, TripCall { from: 3, to: 0, departure }, no_way.clone());
+    }
+    trip(failures, TripCall { from: 3, to: 3, departure: 4 }, arrives(4, &[]));
+    // Road 1 through the library: from place 1 to 2 there is no other.
+    for (departure, travel) in (0..10).zip([3, 3, 4, 5, 6, 7, 6, 5, 4, 3]) {
+        trip(failures, TripCall { from: 1, to: 2, departure }, arrives(departure + travel, &[1]));
+    }
+}
+
+/// One altered town: what open and the check give.
+fn altered(
+    failures: &mut Vec<String>,
+    row: &str,
+    operation: usize,
+    wanted: Option<(u32, [u32; 3])>,
+    alter: impl Fn(&mut Drafts),
+) {
+    let mut drafts = drafts();
+    alter(&mut drafts);
+    let verdict = compare(&input(&drafts, TripCall { from: 0, to: 3, departure: 0 }));
+    failures.extend(verdict.differences);
+    let wanted = wanted.map(|(number, places)| Refusal { number, places });
+    expect(failures, row, verdict.predicted[operation], wanted);
+}
+
+fn altered_towns(failures: &mut Vec<String>) {
+    altered(failures, "(5,8)", OPEN, None, |drafts| drafts.network.tables.travels[2] = 8);
+    altered(failures, "(5,9)", OPEN, Some((10, [2, 0, 0])), |drafts| drafts.network.tables.travels[2] = 9);
+    altered(failures, "flags 1, 2, 2, 2", CHECK, Some((24, [0, 0, 7])), |drafts| drafts.plan.flags[0] = 1);
+    altered(failures, "flags 3, 2, 0, 2", CHECK, Some((24, [0, 0, 1])), |drafts| drafts.plan.flags[2] = 0);
+    altered(failures, "first travel 5", CHECK, Some((23, [0, 0, 0])), |drafts| drafts.plan.travels[0] = 5);
+    altered(failures, "first travel 7", CHECK, Some((22, [0, 0, 0])), |drafts| drafts.plan.travels[0] = 7);
+}
+
+#[cfg(test)]
+mod tests {
+    #[test]
+    fn every_row_holds() {
+        assert_eq!(super::failures(), Vec::<String>::new());
+    }
+}

@@ -1,0 +1,25 @@
+//! Document 01, written down a second time and as naively as it reads: files become plain lists, every rule
+//! stands in the document's order, and nothing here was taken from the proved crates.
+//! The document's place is a node here and its road an arc, as the field calls them.
+
+pub mod blocks;
+pub mod check;
+pub mod line;
+pub mod network;
+pub mod plan;
+pub mod trips;
+
+/// "4,294,967,295 (never)".
+pub const NEVER: u32 = u32::MAX;
+
+/// "refused, with a number and three places; unused places are 0".
+#[derive(Clone, Copy, Debug, PartialEq, Eq)]
+pub struct Refusal {
+    pub number: u32,
+    pub places: [u32; 3],
+}
+
+/// A refusal that names one place, or none (then `place` is 0).
+pub fn refuse<T>(number: u32, place: usize) -> Result<T, Refusal> {
+    Err(Refusal { number, places: [place as u32, 0, 0] })
+}

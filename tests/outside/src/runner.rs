@@ -1,0 +1,225 @@
+//! Goes through the cases of a run: the valid case, one fault, another, and both at once, each through all
+//! functions and, where the town is small enough, past the oracles.
+
+use crate::case::{generate, Case};
+use crate::compare::{compare, compare_all_trips, Verdict};
+use crate::coverage::Coverage;
+use crate::damage::{damaged, Fault, Intended, Kind};
+use crate::generate::Size;
+use crate::input::Input;
+use crate::library::OPERATIONS;
+use crate::oracle::{judge_plan, judge_ways_with_waits};
+use crate::reference::network;
+use crate::rng::Rng;
+
+/// A case's name: small or large, and its number. With the seed it repeats the case.
+#[derive(Clone, Copy)]
+pub struct CaseName {
+    pub large: bool,
+    pub number: u64,
+}
+
+impl std::fmt::Display for CaseName {
+    fn fmt(&self, out: &mut std::fmt::Formatter<'_>) -> std::fmt::Result {
+        write!(out, "{}{}", if self.large { 'l' } else { 's' }, self.number)
+    }
+}
+
+impl CaseName {
+    pub fn parse(text: &str) -> Option<CaseName> {
+        let large = match text.get(..1)? {
+            "l" => true,
+            "s" => false,
+            _ => return None,
+        };
+        Some(CaseName { large, number: text[1..].parse().ok()? })
+    }
+
+    fn size(self) -> Size {
+        match (self.large, self.number) {
+            (true, number) if number % 400 == 1 => Size::Full,
+            (true, number) if number % 3 == 0 => Size::Medium,
+            (true, _) => Size::Large,
+            (false, number) if number % 16 == 0 => Size::Tiny,
+            (false, number) if number % 128 == 5 => Size::Medium,
+            (false, _) => Size::Small,
+        }
+    }
+
+    fn stream(self) -> u64 {
+        self.number << 1 | u64::from(self.large)
+    }
+}
+
+/// One run of cases under one seed.
+pub struct Runner {
+    pub seed: u64,
+    pub kinds: Vec<Kind>,
+    pub coverage: Coverage,
+    pub differences: u64,
+}
+
+/// What is being tried, and where its differences go.
+struct Trial<'a> {
+    name: CaseName,
+    what: String,
+    runner: &'a mut Runner,
+}
+
+/// A library that is wrong throughout would print millions of lines; the count goes on.
+const MOST_PRINTED: u64 = 200;
+
+impl Trial<'_> {
+    fn differ(&mut self, text: &str) {
+        self.runner.differences += 1;
+        if self.runner.differences > MOST_PRINTED {
+            return;
+        }
+        println!("DIFFERENCE --seed {} --only {} ({}): {text}", self.runner.seed, self.name, self.what);
+    }
+
+    fn compare(&mut self, input: &Input, oracles: bool) -> Verdict {
+        let verdict = compare(input);
+        for text in &verdict.differences {
+            self.differ(text);
+        }
+        if let (true, Ok(network), Ok(plan)) = (oracles, &verdict.opened, &verdict.planned) {
+            if let Some(text) = judge_plan(network, plan) {
+                self.differ(&text);
+            }
+        }
+        verdict
+    }
+}
+
+impl Runner {
+    pub fn run(&mut self, name: CaseName) {
+        let mut rng = Rng::new(self.seed, name.stream());
+        let case = generate(&mut rng, name.size());
+        let town = case.network.nodes() * case.network.header.period as usize;
+        let oracles = town <= 250 && (name.number.is_multiple_of(4) || self.kinds_turn(name) == 0);
+        let valid = self.valid(name, &case, oracles);
+        let (first_kind, first) = self.fault_in_turn(name, &mut rng, &case);
+        let (second_kind, second) = self.second_fault(&mut rng, &case, first_kind);
+        let one = self.single(name, &case, first_kind, &first, oracles);
+        let other = self.single(name, &case, second_kind, &second, oracles);
+        self.both(name, &case, [first_kind, second_kind], [&first, &second], [one, other], oracles);
+        if town * case.network.nodes() <= 1_500 && name.number % 64 == 1 {
+            self.all_trips(name, &case, &valid);
+        }
+    }
+
+    fn trial(&mut self, name: CaseName, what: String) -> Trial<'_> {
+        Trial { name, what, runner: self }
+    }
+
+    fn kinds_turn(&self, name: CaseName) -> usize {
+        (name.number % self.kinds.len() as u64) as usize
+    }
+
+    /// The next kind of fault in turn, or another one where the case has nothing to damage in that way.
+    fn fault_in_turn(&self, name: CaseName, rng: &mut Rng, case: &Case) -> (usize, Fault) {
+        let kind = self.kinds_turn(name);
+        match (self.kinds[kind].make)(rng, case) {
+            Some(fault) => (kind, fault),
+            None => self.some_fault(rng, case),
+        }
+    }
+
+    fn some_fault(&self, rng: &mut Rng, case: &Case) -> (usize, Fault) {
+        loop {
+            let kind = rng.below(self.kinds.len());
+            if let Some(fault) = (self.kinds[kind].make)(rng, case) {
+                return (kind, fault);
+            }
+        }
+    }
+
+    /// Half the time one of the kinds listed beside the first, which is of the same subject.
+    fn second_fault(&self, rng: &mut Rng, case: &Case, first_kind: usize) -> (usize, Fault) {
+        let near = (first_kind + rng.within(self.kinds.len() - 5, self.kinds.len() + 5)) % self.kinds.len();
+        if rng.once_in(2) {
+            if let Some(fault) = (self.kinds[near].make)(rng, case) {
+                return (near, fault);
+            }
+        }
+        self.some_fault(rng, case)
+    }
+
+    /// No operation refuses the valid case, and its network packs to the same bytes.
+    fn valid(&mut self, name: CaseName, case: &Case, oracles: bool) -> Verdict {
+        let input = case.input(&case.drafts);
+        let mut trial = self.trial(name, "valid".to_string());
+        let verdict = trial.compare(&input, oracles);
+        for (operation, predicted) in verdict.predicted.iter().enumerate() {
+            if let Some(refusal) = predicted {
+                trial.differ(&format!("{}: the reference gives {refusal:?}", OPERATIONS[operation]));
+            }
+        }
+        if network::pack(&input.pack, &input.pack_tables(), input.network.len()).as_ref() != Ok(&input.network) {
+            trial.differ("the reference packs other bytes than it opened");
+        }
+        if name.size() == Size::Tiny {
+            if let Some(text) = judge_ways_with_waits(&case.network) {
+                trial.differ(&text);
+            }
+        }
+        for operation in 0..OPERATIONS.len() {
+            self.coverage.alone(operation, verdict.refusal(operation));
+        }
+        verdict
+    }
+
+    fn all_trips(&mut self, name: CaseName, case: &Case, valid: &Verdict) {
+        let input = case.input(&case.drafts);
+        let mut trial = self.trial(name, "all trips".to_string());
+        for text in compare_all_trips(&input, valid) {
+            trial.differ(&text);
+        }
+    }
+
+    fn single(&mut self, name: CaseName, case: &Case, kind: usize, fault: &Fault, oracles: bool) -> (Input, Verdict) {
+        let input = damaged(case, &[fault]);
+        let intended = self.kinds[kind].intended;
+        let mut trial = self.trial(name, self.kinds[kind].name.to_string());
+        let verdict = trial.compare(&input, oracles);
+        if let Intended::Gives(operation, refusals) = intended {
+            let given = verdict.refusal(operation);
+            if !refusals.contains(&given) {
+                trial.differ(&format!("the reference gives {given} for {}, meant {refusals:?}", OPERATIONS[operation]));
+            }
+        }
+        for operation in 0..OPERATIONS.len() {
+            let refusal = verdict.refusal(operation);
+            if refusal != 0 {
+                self.coverage.alone(operation, refusal);
+            }
+        }
+        (input, verdict)
+    }
+
+    /// Both faults at once. An operation's refusal counts as met with a second fault if each of the two alone
+    /// was refused and neither undid the other.
+    fn both(
+        &mut self,
+        name: CaseName,
+        case: &Case,
+        kinds: [usize; 2],
+        faults: [&Fault; 2],
+        singles: [(Input, Verdict); 2],
+        oracles: bool,
+    ) {
+        let input = damaged(case, &faults);
+        let what = kinds.map(|kind| self.kinds[kind].name).join(" + ");
+        let verdict = self.trial(name, what).compare(&input, oracles);
+        if singles.iter().any(|(single, _)| *single == input) {
+            return;
+        }
+        for operation in 0..OPERATIONS.len() {
+            let refusal = verdict.refusal(operation);
+            if refusal != 0 && singles.iter().all(|(_, single)| single.refusal(operation) != 0) {
+                self.coverage.with_second(operation, refusal);
+            }
+        }
+    }
+}
