@@ -12,12 +12,4 @@ pub mod Validate
 pub mod Valid
 pub mod Numbers
 pub mod Open
-pub mod Encode
-pub mod Holds
-pub mod RoundTrip
-pub mod Block
-pub mod Pack
-pub mod Written
-pub mod Front
-pub mod Packed
 pub mod Town

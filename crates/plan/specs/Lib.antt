@@ -1,13 +1,7 @@
--- Plans and their check: what a plan is (Border, Plan), what the check tests (Tests, Check) and that it is exact (Borders, Meaning, Exact, Promise),
--- and the form of a plan file (the others).
+-- Plan files: what a plan is (Border, Plan), where it stands in a file (PlanHeader, PlanLayout, PlanDecode), its rules and validation (PlanRules, PlanValidate,
+-- PlanValid), their numbers (Numbers), and the laws for the code.
 pub mod Border
-pub mod Borders
 pub mod Plan
-pub mod Tests
-pub mod Check
-pub mod Meaning
-pub mod Exact
-pub mod Promise
 pub mod PlanHeader
 pub mod PlanLayout
 pub mod Marks
@@ -20,13 +14,4 @@ pub mod PlanValidate
 pub mod PlanMatch
 pub mod WellFormed
 pub mod PlanValid
-pub mod CheckPlan
 pub mod Numbers
-pub mod Checkable
-pub mod Value
-pub mod Starts
-pub mod Giving
-pub mod Passing
-pub mod Failing
-pub mod Finding
-pub mod Checking

@@ -1,4 +1,4 @@
--- The numbers of refusals: those of a plan file lie between 11 and 19, those of the tests between 20 and 24, and those of the check between 1 and 24.
+-- The numbers of refusals of a plan file: between 11 and 19, and those of its rules between 17 and 19.
 use mathlib.Core.Path.{_≡_, refl}
 use mathlib.Core.List.{List}
 use Prim.Native.Nat.{ℕ, _*_, _≤_}
@@ -6,22 +6,15 @@ use native.Mathlib.Omega.{arith}
 use lib.ListN.{length}
 use lib.Dec.{eqb, ltb}
 use Rattle.loops.specs.Pick.{cond-holds, rung-holds}
-use Rattle.loops.specs.Triple.{anyTriple}
 use Rattle.network.specs.declared.answer.Refusal.{Refusal}
 use Rattle.network.specs.declared.answer.Judged.{Judged}
 use Rattle.network.specs.declared.answer.Judged.the-variants.{Sound, Faulty}
-use Rattle.network.specs.declared.answer.Opening.{Opening}
-use Rattle.network.specs.declared.answer.Opening.the-variants as opening
 use Rattle.network.specs.declared.header.Header.{Header}
-use Rattle.network.specs.Network.{Network, nodes}
-use Rattle.network.specs.Decode.{decode}
+use Rattle.network.specs.Network.{Network}
 use Rattle.network.specs.Rules.{refusal}
-use Rattle.network.specs.Validate.{validated}
-use Rattle.network.specs.Numbers.{Numbered, numbered, same-faulty, validated-numbers}
+use Rattle.network.specs.Numbers.{Numbered, numbered, same-faulty}
 use Rattle.plan.specs.declared.answer.Planning.{Planning}
 use Rattle.plan.specs.declared.answer.Planning.the-variants as planning
-use Rattle.plan.specs.declared.answer.Checking.{Checking}
-use Rattle.plan.specs.declared.answer.Checking.the-variants as checking
 use Rattle.plan.specs.declared.header.PlanHeader.{PlanHeader}
 use Rattle.plan.specs.Border.{borderCount}
 use Rattle.plan.specs.Plan.{Plan, pointStart}
@@ -30,9 +23,6 @@ use Rattle.plan.specs.PlanLayout.{planBlocks, planLayoutOf}
 use Rattle.plan.specs.PlanDecode.{decodePlan, pointTotal}
 use Rattle.plan.specs.PlanRules.{judgedTicks, judgedSum, judgedCounts, judgedFlags, planJudged}
 use Rattle.plan.specs.PlanValidate.{badPlanLength, firstUnformed, plannedRules, plannedForm, plannedLength, matching, plannedHeader, firstFormed, plannedFirst, planned}
-use Rattle.plan.specs.Tests.{fails}
-use Rattle.plan.specs.Check.{tripleRung, checked}
-use Rattle.plan.specs.CheckPlan.{checkedBy, checkedOver, checking as checkingOf}
 
 -- THE RULES 17 TO 19
 abbrev Judges : Judged → Type 0
@@ -87,43 +77,3 @@ planned-numbers h n file =
 
     bad : ℕ
     bad = firstUnformed file (planLayoutOf k)
-
--- THE TESTS, 20 to 24
-same-checking : (q r : Refusal) → checking.Refused q ≡ checking.Refused r → q ≡ r
-same-checking q r e = cc
-
-abbrev Checks : Checking → Type 0
-Checks = Numbered checking.Refused 20 24
-
-triple-numbered : (number : ℕ) (n : Network) (p : Plan) (next : Checking) → 20 ≤ number → number ≤ 24 → Checks next → Checks (tripleRung number n p next)
-unfolding tripleRung
-triple-numbered number n p next l h q =
-    cond-holds Checks (anyTriple (borderCount n) (nodes n) (n .period) (fails number n p)) _ _ (numbered checking.Refused 20 24 same-checking _ l h) q
-
-pub checked-numbers : (n : Network) (p : Plan) → Numbered checking.Refused 20 24 (checked n p)
-unfolding checked
-checked-numbers n p =
-    rung-holds Checks _ _ _ _ (λ i. numbered checking.Refused 20 24 same-checking _ (omega arith) (omega arith))
-    (triple-numbered 21 n p _ (omega arith) (omega arith)
-    (triple-numbered 22 n p _ (omega arith) (omega arith)
-    (triple-numbered 23 n p _ (omega arith) (omega arith)
-    (triple-numbered 24 n p _ (omega arith) (omega arith) accepted))))
-  where
-    accepted : Checks checking.Accepted
-    accepted r e = let z : _≡_ {A = ℕ} 0 1 = cc in absurd (omega arith)
-
--- THE CHECK, 1 to 24
-pub check-numbers : (network plan : List ℕ) → Numbered checking.Refused 1 24 (checkingOf network plan)
-check-numbers network plan = over (validated network) (validated-numbers network)
-  where
-    by : (n : Network) (p : Plan) (m : Planning) → Numbered planning.Refused 11 19 m → Numbered checking.Refused 1 24 (checkedBy n p m)
-    by n p (planning.Refused q) h =
-        let (x, y) = h q refl in
-        numbered checking.Refused 1 24 same-checking q (omega arith) (omega arith)
-    by n p (planning.WellFormed k) h = λ r e. let (x, y) = checked-numbers n p r e in (omega arith, omega arith)
-
-    over : (o : Opening) → Numbered opening.Refused 1 10 o → Numbered checking.Refused 1 24 (checkedOver network plan o)
-    over (opening.Refused q) h =
-        let (x, y) = h q refl in
-        numbered checking.Refused 1 24 same-checking q (omega arith) (omega arith)
-    over (opening.Opened k) h = by (decode network) (decodePlan plan) _ (planned-numbers k (decode network) plan)

@@ -1,4 +1,4 @@
-// What validation of a plan and the check answer.
+// What validation of a plan answers.
 use crate::header::PlanHeader;
 use network::answer::Refusal;
 use network::answer::refuse;
@@ -8,11 +8,6 @@ ghost use Rattle.plan.specs.PlanValidate;
 // What validation says of a plan file.
 pub enum Planning {
     WellFormed(PlanHeader),
-    Refused(Refusal),
-}
-
-pub enum Checking {
-    Accepted,
     Refused(Refusal),
 }
 

@@ -8,9 +8,9 @@ use Rattle.network.specs.declared.answer.Opening.the-variants as opening
 use Rattle.network.specs.Decode.{decode}
 use Rattle.network.specs.Open.{opening}
 use Rattle.network.specs.Town.{travelAt}
-use Rattle.plan.specs.declared.answer.Checking.{Checking}
-use Rattle.plan.specs.declared.answer.Checking.the-variants as checking
-use Rattle.plan.specs.CheckPlan.{checking}
+use Rattle.plan_check.specs.declared.answer.Checking.{Checking}
+use Rattle.plan_check.specs.declared.answer.Checking.the-variants as checking
+use Rattle.plan_check.specs.CheckPlan.{checking}
 use Rattle.trips.specs.declared.answer.Answer.{Answer}
 use Rattle.trips.specs.declared.answer.Answer.the-variants as answer
 use Rattle.varnwalnut.specs.Calls.{plainCall, plainPath, flaggedCall, flaggedPath}

@@ -31,17 +31,17 @@ use Rattle.network.specs.Validate.{badLength, validated}
 use Rattle.network.specs.Open.{openedIn, tooShort}
 use Rattle.network.specs.Town.{travelAt}
 use Rattle.plan.specs.declared.answer.Planning.{Planning}
-use Rattle.plan.specs.declared.answer.Checking.{Checking}
-use Rattle.plan.specs.declared.answer.Checking.the-variants as checking
+use Rattle.plan_check.specs.declared.answer.Checking.{Checking}
+use Rattle.plan_check.specs.declared.answer.Checking.the-variants as checking
 use Rattle.plan.specs.Border.{borders, isBorder}
 use Rattle.plan.specs.Plan.{pointStart, profileValue}
 use Rattle.plan.specs.PlanDecode.{decodePlan}
 use Rattle.plan.specs.PlanRules as rules
 use Rattle.plan.specs.PlanValidate.{badPlanLength, matching, planned}
-use Rattle.plan.specs.Tests.{fails, fails22, given}
-use Rattle.plan.specs.Check.{checked, tripleRung}
-use Rattle.plan.specs.CheckPlan.{checkedBy}
-use Rattle.plan.specs.Promise.{towards}
+use Rattle.plan_check.specs.Tests.{fails, fails22, given}
+use Rattle.plan_check.specs.Check.{checked, tripleRung}
+use Rattle.plan_check.specs.CheckPlan.{checkedBy}
+use Rattle.plan_check.specs.Promise.{towards}
 use Rattle.trips.specs.Trip.{asked, andThen, searched, tripAnswer}
 use Rattle.trips.specs.Flagged.{plannedThen}
 use Rattle.varnwalnut.specs.Calls.{plainPath, flaggedPath}

@@ -105,7 +105,7 @@ fn print_flagged(file: &[u8; 2048], plan: &[u8; 2048], from: u32, to: u32, depar
 
 // The check's verdict on a plan.
 fn print_verdict(file: &[u8; 2048], plan: &[u8; 2048]) {
-    print_checking(plan::check::check_plan(file, plan));
+    print_checking(plan_check::check::check_plan(file, plan));
 }
 
 // The check of the plan in a file.

@@ -2,8 +2,8 @@
 use libc::STDOUT_FILENO;
 use network::answer::Opening;
 use network::answer::Refusal;
-use network::pack::Packing;
-use plan::answer::Checking;
+use network_pack::pack::Packing;
+use plan_check::answer::Checking;
 use trips::answer::Answer;
 
 pub fn say(text: &[u8]) {

@@ -1,6 +1,6 @@
 // The town's files: the network, packed from its tables, and plans, read from files.
-use network::pack::Packing;
-use network::pack::pack_network;
+use network_pack::pack::Packing;
+use network_pack::pack::pack_network;
 
 // Both files have four blocks.
 pub const LONG: usize = 2048;

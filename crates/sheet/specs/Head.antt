@@ -4,9 +4,9 @@ use mathlib.Core.List.{List, [], _∷_, _++_}
 use Prim.Native.Nat.{ℕ}
 use lib.ListN.{length}
 use lib.Dec.{ltb}
-use Rattle.plan.specs.declared.answer.Checking.{Checking}
-use Rattle.plan.specs.declared.answer.Checking.the-variants.{Accepted, Refused}
-use Rattle.plan.specs.CheckPlan.{checking}
+use Rattle.plan_check.specs.declared.answer.Checking.{Checking}
+use Rattle.plan_check.specs.declared.answer.Checking.the-variants.{Accepted, Refused}
+use Rattle.plan_check.specs.CheckPlan.{checking}
 use Rattle.sheet.specs.declared.reading.Reading.{Reading}
 use Rattle.sheet.specs.Text.{ascii, lineFeed}
 use Rattle.sheet.specs.Numbers.{spaced}

@@ -6,9 +6,9 @@ use Prim.Native.Nat.{ℕ, _≤_, _<_}
 use lib.ListN.{length}
 use borrow.Author.Tests.{lt-ltb, le-ltb}
 use Rattle.network.specs.declared.answer.Refusal.{Refusal}
-use Rattle.plan.specs.declared.answer.Checking.{Checking}
-use Rattle.plan.specs.declared.answer.Checking.the-variants.{Accepted, Refused}
-use Rattle.plan.specs.CheckPlan.{checking}
+use Rattle.plan_check.specs.declared.answer.Checking.{Checking}
+use Rattle.plan_check.specs.declared.answer.Checking.the-variants.{Accepted, Refused}
+use Rattle.plan_check.specs.CheckPlan.{checking}
 use Rattle.sheet.specs.declared.line.Scan.{Scan}
 use Rattle.sheet.specs.Text.{Stored, ascii, lineFeed, stored-then}
 use Rattle.sheet.specs.Numbers.{spaced}

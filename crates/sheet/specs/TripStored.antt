@@ -16,7 +16,7 @@ use Rattle.network.specs.Network.{Network}
 use Rattle.network.specs.Decode.{decode}
 use Rattle.network.specs.Town.{graphOf}
 use Rattle.plan.specs.PlanDecode.{decodePlan}
-use Rattle.plan.specs.Promise.{towards}
+use Rattle.plan_check.specs.Promise.{towards}
 use Rattle.search.specs.declared.Outcome.{Outcome}
 use Rattle.search.specs.declared.Outcome.the-variants as outcome
 use Rattle.trips.specs.declared.answer.Arrival.{Arrival}

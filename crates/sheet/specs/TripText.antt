@@ -7,7 +7,7 @@ use Rattle.paths.specs.Chosen.{chosen}
 use Rattle.network.specs.Decode.{decode}
 use Rattle.network.specs.Town.{graphOf}
 use Rattle.plan.specs.PlanDecode.{decodePlan}
-use Rattle.plan.specs.Promise.{towards}
+use Rattle.plan_check.specs.Promise.{towards}
 use Rattle.trips.specs.declared.answer.Answer.{Answer}
 use Rattle.trips.specs.declared.answer.Answer.the-variants.{Arrived, Refused}
 use Rattle.trips.specs.Trip.{searched, tripAnswer}

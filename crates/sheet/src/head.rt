@@ -4,13 +4,13 @@ use crate::text::end_line;
 use crate::text::put_numbers;
 use crate::text::put_text;
 use network::answer::Refusal;
-use plan::answer::Checking;
-use plan::check::check_plan;
+use plan_check::answer::Checking;
+use plan_check::check::check_plan;
 ghost use mathlib.Core.Path.{_≡_};
 ghost use mathlib.Core.Bool.{false};
 ghost use Prim.Native.Nat.{_≤_};
 ghost use lib.ListN.{length};
-ghost use Rattle.plan.specs.declared.answer.Checking.the-variants as verdict;
+ghost use Rattle.plan_check.specs.declared.answer.Checking.the-variants as verdict;
 ghost use Rattle.sheet.specs.Text.{Stored, ascii};
 ghost use Rattle.sheet.specs.Head.{verdictText, isAccepted, headText, reads};
 

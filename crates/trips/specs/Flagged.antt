@@ -27,7 +27,7 @@ use Rattle.plan.specs.PlanLayout.{planLayoutOf}
 use Rattle.plan.specs.PlanValidate.{planned}
 use Rattle.plan.specs.PlanHeader.{PlanWithin}
 use Rattle.plan.specs.PlanValid.{ValidPlan, valid-within, valid-plan-laid, valid-for, plan-exactly}
-use Rattle.plan.specs.Promise.{towards}
+use Rattle.plan_check.specs.Promise.{towards}
 use Rattle.search.specs.declared.Outcome.{Outcome}
 use Rattle.search.specs.Town.{permitOf}
 use Rattle.trips.specs.declared.answer.Answer.{Answer}

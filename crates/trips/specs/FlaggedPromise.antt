@@ -18,12 +18,12 @@ use Rattle.network.specs.Decode.{decode}
 use Rattle.network.specs.Rules.{refusal}
 use Rattle.network.specs.Valid.{ValidFile, valid-exactly}
 use Rattle.network.specs.Town.{graphOf}
-use Rattle.plan.specs.declared.answer.Checking.the-variants.{Accepted}
+use Rattle.plan_check.specs.declared.answer.Checking.the-variants.{Accepted}
 use Rattle.plan.specs.declared.header.PlanHeader.{PlanHeader}
 use Rattle.plan.specs.PlanDecode.{decodePlan}
 use Rattle.plan.specs.PlanValid.{ValidPlan, plan-exactly}
-use Rattle.plan.specs.CheckPlan.{checking, accepted-plan}
-use Rattle.plan.specs.Promise.{towards, accepted-trips}
+use Rattle.plan_check.specs.CheckPlan.{checking, accepted-plan}
+use Rattle.plan_check.specs.Promise.{towards, accepted-trips}
 use Rattle.trips.specs.declared.answer.Arrival.{Arrival}
 use Rattle.trips.specs.declared.answer.Answer.{Answer}
 use Rattle.trips.specs.declared.answer.Answer.the-variants as answer

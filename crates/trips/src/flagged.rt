@@ -25,7 +25,7 @@ ghost use Rattle.network.specs.Town.{graphOf};
 ghost use Rattle.plan.specs.Plan.{bit};
 ghost use Rattle.plan.specs.PlanDecode.{decodePlan, PlanLaid};
 ghost use Rattle.plan.specs.PlanValid.{ValidPlan};
-ghost use Rattle.plan.specs.Promise.{towards};
+ghost use Rattle.plan_check.specs.Promise.{towards};
 ghost use Rattle.search.specs.Trim.{shown};
 ghost use Rattle.trips.specs.Trip.{asked, told, searched, tripAnswer, tripArrivals, tripRoads};
 ghost use Rattle.trips.specs.Plain.{Asked};

@@ -11,14 +11,14 @@ use Rattle.paths.specs.Graph.{Permit, all}
 use Rattle.paths.specs.Labels.{label, labels}
 use Rattle.network.specs.declared.answer.Opening.{Opening}
 use Rattle.network.specs.declared.answer.Opening.the-variants.{Opened, Refused}
-use Rattle.network.specs.declared.pack.Packing.{Packing}
+use Rattle.network_pack.specs.declared.pack.Packing.{Packing}
 use Rattle.network.specs.Network.{Network}
 use Rattle.network.specs.Decode.{decode}
 use Rattle.network.specs.Open.{overwritten, tableAfter}
-use Rattle.network.specs.Pack.{bytesAfter}
+use Rattle.network_pack.specs.Pack.{bytesAfter}
 use Rattle.network.specs.Town.{graphOf}
 use Rattle.plan.specs.PlanDecode.{decodePlan}
-use Rattle.plan.specs.Promise.{towards}
+use Rattle.plan_check.specs.Promise.{towards}
 use Rattle.trips.specs.declared.answer.Arrival.{Arrival}
 use Rattle.trips.specs.declared.answer.Answer.{Answer}
 use Rattle.trips.specs.declared.answer.Answer.the-variants as answer

@@ -8,7 +8,7 @@ use Rattle.network.specs.Network.{Network}
 use Rattle.network.specs.Decode.{decode}
 use Rattle.network.specs.Town.{graphOf}
 use Rattle.plan.specs.PlanDecode.{decodePlan}
-use Rattle.plan.specs.Promise.{towards}
+use Rattle.plan_check.specs.Promise.{towards}
 use Rattle.trips.specs.declared.answer.Answer.{Answer}
 use Rattle.trips.specs.Trip.{searched, tripAnswer}
 use Rattle.trips.specs.Plain.{plainBegin}

@@ -9,7 +9,7 @@ use Rattle.paths.specs.Graph.{all}
 use Rattle.network.specs.declared.answer.Refusal.{Refusal}
 use Rattle.network.specs.Decode.{decode}
 use Rattle.plan.specs.PlanDecode.{decodePlan}
-use Rattle.plan.specs.Promise.{towards}
+use Rattle.plan_check.specs.Promise.{towards}
 use Rattle.trips.specs.declared.answer.Answer.the-variants as answer
 use Rattle.trips.specs.Plain.{plainBegin, begun}
 use Rattle.trips.specs.Flagged.{flaggedBegin}

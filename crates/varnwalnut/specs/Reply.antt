@@ -7,10 +7,10 @@ use Rattle.loops.specs.Fill.{tab}
 use Rattle.blocks.specs.Fields.{byteOf}
 use Rattle.network.specs.declared.answer.Opening.{Opening}
 use Rattle.network.specs.declared.answer.Opening.the-variants as opening
-use Rattle.network.specs.declared.pack.Packing.{Packing}
-use Rattle.network.specs.declared.pack.Packing.the-variants as packing
-use Rattle.plan.specs.declared.answer.Checking.{Checking}
-use Rattle.plan.specs.declared.answer.Checking.the-variants as checking
+use Rattle.network_pack.specs.declared.pack.Packing.{Packing}
+use Rattle.network_pack.specs.declared.pack.Packing.the-variants as packing
+use Rattle.plan_check.specs.declared.answer.Checking.{Checking}
+use Rattle.plan_check.specs.declared.answer.Checking.the-variants as checking
 use Rattle.trips.specs.declared.answer.Answer.{Answer}
 use Rattle.trips.specs.declared.answer.Answer.the-variants as answer
 

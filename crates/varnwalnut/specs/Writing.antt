@@ -13,12 +13,12 @@ use Rattle.network.specs.declared.answer.Refusal.{Refusal}
 use Rattle.network.specs.declared.answer.Opening.{Opening}
 use Rattle.network.specs.declared.answer.Opening.the-variants as opening
 use Rattle.network.specs.declared.header.Header.{Header}
-use Rattle.network.specs.declared.pack.Length.{Length}
-use Rattle.network.specs.declared.pack.Packing.{Packing}
-use Rattle.network.specs.declared.pack.Packing.the-variants as packing
+use Rattle.network_pack.specs.declared.pack.Length.{Length}
+use Rattle.network_pack.specs.declared.pack.Packing.{Packing}
+use Rattle.network_pack.specs.declared.pack.Packing.the-variants as packing
 use Rattle.network.specs.Open.{overwritten}
-use Rattle.plan.specs.declared.answer.Checking.{Checking}
-use Rattle.plan.specs.declared.answer.Checking.the-variants as checking
+use Rattle.plan_check.specs.declared.answer.Checking.{Checking}
+use Rattle.plan_check.specs.declared.answer.Checking.the-variants as checking
 use Rattle.trips.specs.declared.answer.Arrival.{Arrival}
 use Rattle.trips.specs.declared.answer.Answer.{Answer}
 use Rattle.trips.specs.declared.answer.Answer.the-variants as answer

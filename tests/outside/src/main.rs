@@ -27,8 +27,8 @@ use std::time::Instant;
 
 /// The run without arguments: about 90 seconds on one core.
 const DEFAULT_SEED: u64 = 20_261_115;
-const DEFAULT_CASES: u64 = 150_000;
-const DEFAULT_LARGE: u64 = 800;
+const DEFAULT_CASES: u64 = 110_000;
+const DEFAULT_LARGE: u64 = 550;
 /// Below this many small cases a run may miss a refusal by chance, and is not held to all of them.
 const CASES_THAT_MEET_ALL: u64 = 40_000;
 

@@ -1,0 +1,38 @@
+use mathlib.Core.Path.{refl}
+use Rattle.network_pack.specs.Pack.{rules-sound, rules-faulty}
+use borrow.Author.Needs.{needs}
+use Rattle.network_pack.proofs.pack.pack_file.Statement.{statement}
+use Rattle.network_pack.proofs.pack.pack_file.Tie as tie
+
+judge-requires : tie.Need-judge-requires
+judge-requires c κs = search needs
+
+enum-told : tie.Need-enum-told
+enum-told c = search needs
+
+write-out-requires : tie.Need-write-out-requires
+write-out-requires c κs = search needs
+
+enum-known-r : tie.Need-enum-known-r
+enum-known-r c = search needs
+
+same-length : tie.Need-same-length
+same-length c = search needs
+
+returns : tie.Need-returns
+returns c = (search rules-sound, search needs)
+
+returns-2 : tie.Need-returns-2
+returns-2 c = (search rules-faulty, refl)
+
+pub pack-file-spec : {M : Type 1} → statement M
+pack-file-spec =
+    tie.close
+    (tie.spec
+    judge-requires
+    enum-told
+    write-out-requires
+    enum-known-r
+    same-length
+    returns
+    returns-2)

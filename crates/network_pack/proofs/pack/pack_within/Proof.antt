@@ -1,0 +1,39 @@
+use native.Mathlib.Omega.{arith}
+use Rattle.network.specs.Validate.{blocks-few}
+use Rattle.network_pack.specs.Pack.{now-packable, tables-short, tables-long, short-bytes}
+use borrow.Author.Needs.{needs}
+use Rattle.network_pack.proofs.pack.pack_within.Statement.{statement}
+use Rattle.network_pack.proofs.pack.pack_within.Tie as tie
+
+is-short-requires : tie.Need-is-short-requires
+is-short-requires c κs = search needs
+
+refused-requires : tie.Need-refused-requires
+refused-requires c κs = search needs
+
+returns : tie.Need-returns
+returns c = (search tables-short, search short-bytes)
+
+layout-requires : tie.Need-layout-requires
+layout-requires c κs = search needs
+
+pack-tables-requires : tie.Need-pack-tables-requires
+pack-tables-requires c κs = (search now-packable, omega (arith, blocks-few _ _ (c .before .before .before .before .before .before .before .before .before .before .before .before .pre .0) (c .before .before .layout .ensures)))
+
+same-length : tie.Need-same-length
+same-length c = search needs
+
+returns-2 : tie.Need-returns-2
+returns-2 c = (search tables-long, search needs)
+
+pub pack-within-spec : {M : Type 1} → statement M
+pack-within-spec =
+    tie.close
+    (tie.spec
+    is-short-requires
+    refused-requires
+    returns
+    layout-requires
+    pack-tables-requires
+    same-length
+    returns-2)

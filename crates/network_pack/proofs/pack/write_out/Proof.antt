@@ -1,0 +1,26 @@
+use Rattle.network_pack.specs.Pack.{into-short, into-whole, short-bytes}
+use borrow.Author.Needs.{needs}
+use Rattle.network_pack.proofs.pack.write_out.Statement.{statement}
+use Rattle.network_pack.proofs.pack.write_out.Tie as tie
+
+refused-requires : tie.Need-refused-requires
+refused-requires c κs = search needs
+
+returns : tie.Need-returns
+returns c = (search into-short, search short-bytes)
+
+copy-requires : tie.Need-copy-requires
+copy-requires c κs = search needs
+
+cast-t9 : tie.Need-cast-t9
+cast-t9 c = search needs
+
+same-length : tie.Need-same-length
+same-length c = search needs
+
+returns-2 : tie.Need-returns-2
+returns-2 c = (search into-whole, search needs)
+
+pub write-out-spec : {M : Type 1} → statement M
+write-out-spec =
+    tie.close (tie.spec refused-requires returns copy-requires cast-t9 same-length returns-2)

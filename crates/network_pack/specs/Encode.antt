@@ -1,0 +1,165 @@
+-- The bytes of a network: block 0 for its header, then a run of blocks for the cells, one for the arcs and one for the points, each with its check.
+-- An entry is one number, its fields one behind the other, low byte first. `Proper` says which networks fit into these fields.
+use mathlib.Core.Path.{_≡_, _∙_}
+use mathlib.Core.Bool.{cond}
+use mathlib.Core.List.{List}
+use Prim.Native.Nat.{ℕ, _+_, _*_, _^_, _≤_, _<_}
+use native.Mathlib.Omega.{arith}
+use lib.ListN.{length, getD}
+use lib.Dec.{ltb}
+use borrow.Author.Tests.{lt-ltb, le-ltb}
+use Rattle.blocks.specs.Fields.{byteOf, byteOf-low, byteOf-high}
+use Rattle.blocks.specs.Bytes.{fileOf}
+use Rattle.blocks.specs.Run.{runBody, headerBody}
+use Rattle.network.specs.declared.header.Header.{Header}
+use Rattle.network.specs.Limits.{Within}
+use Rattle.network.specs.Layout.{arcBlock, pointBlock, allBlocks}
+use Rattle.network.specs.Network.{Network, nodes, arcs, points}
+
+abbrev pub headerOf : Network → Header
+headerOf n = record { number = n .number; period = n .period; nodes = nodes n; arcs = arcs n; cells = n .cells; points = points n }
+
+-- byte r of the header, of the cell of node v, of arc a and of point q
+unfoldable pub headerByte : Header → ℕ → ℕ
+headerByte h r = byteOf (h .number + 2 ^ 32 * (h .period + 65536 * (h .nodes + 65536 * (h .arcs + 65536 * (h .cells + 65536 * h .points))))) r
+
+unfoldable pub cellByte : List ℕ → ℕ → ℕ → ℕ
+cellByte cells v r = byteOf (getD cells v 0) r
+
+unfoldable pub arcByte : List ℕ → List ℕ → List ℕ → ℕ → ℕ → ℕ
+arcByte tails heads counts a r = byteOf (getD tails a 0 + 65536 * (getD heads a 0 + 65536 * getD counts a 0)) r
+
+unfoldable pub pointByte : List ℕ → List ℕ → ℕ → ℕ → ℕ
+pointByte ticks travels q r = byteOf (getD ticks q 0 + 65536 * getD travels q 0) r
+
+-- the bytes of block b but its check, by the run that it belongs to
+unfoldable pub bodyBy : Header → Network → ℕ → ℕ → ℕ
+bodyBy h n b =
+    cond (ltb b 1) (headerBody 1 16 (headerByte h) b)
+    (cond (ltb b (arcBlock h)) (runBody 2 250 2 (h .nodes) (cellByte (n .cellOf)) 1 b)
+    (cond (ltb b (pointBlock h)) (runBody 3 83 6 (h .arcs) (arcByte (n .tails) (n .heads) (n .counts)) (arcBlock h) b)
+    (runBody 4 125 4 (h .points) (pointByte (n .ticks) (n .travels)) (pointBlock h) b)))
+
+-- the file of the tables of n under a header, and the file of n
+abbrev pub encodeBy : Header → Network → List ℕ
+encodeBy h n = fileOf (bodyBy h n) (allBlocks h)
+
+unfoldable pub encode : Network → List ℕ
+encode n = encodeBy (headerOf n) n
+
+-- every entry of a list has two bytes
+pub record Words (s : List ℕ) : Type 0 where
+  pub word : (k : ℕ) → getD s k 0 < 65536
+
+-- a network within the limits, whose tables agree in their lengths and whose numbers fit their fields
+pub record Proper (n : Network) : Type 0 where
+  pub within : Within (headerOf n)
+  pub number-fits : n .number < 2 ^ 32
+  pub heads-long : length (n .heads) ≡ arcs n
+  pub counts-long : length (n .counts) ≡ arcs n
+  pub travels-long : length (n .travels) ≡ points n
+  pub cells-fit : Words (n .cellOf)
+  pub tails-fit : Words (n .tails)
+  pub heads-fit : Words (n .heads)
+  pub counts-fit : Words (n .counts)
+  pub ticks-fit : Words (n .ticks)
+  pub travels-fit : Words (n .travels)
+
+-- WHICH RUN a block belongs to
+module _ (h : Header) (n : Network) (b : ℕ) where
+  pub header-body : b < 1 → bodyBy h n b ≡ headerBody 1 16 (headerByte h) b
+  unfolding bodyBy
+  header-body l = rw (lt-ltb b 1 l)
+
+  pub cells-body : 1 ≤ b → b < arcBlock h → bodyBy h n b ≡ runBody 2 250 2 (h .nodes) (cellByte (n .cellOf)) 1 b
+  unfolding bodyBy
+  cells-body l m = rw (le-ltb b 1 l, lt-ltb b (arcBlock h) m)
+
+  pub arcs-body : arcBlock h ≤ b → b < pointBlock h → bodyBy h n b ≡ runBody 3 83 6 (h .arcs) (arcByte (n .tails) (n .heads) (n .counts)) (arcBlock h) b
+  unfolding bodyBy
+  arcs-body l m = rw (le-ltb b 1 (omega arith), le-ltb b (arcBlock h) l, lt-ltb b (pointBlock h) m)
+
+  pub points-body : pointBlock h ≤ b → bodyBy h n b ≡ runBody 4 125 4 (h .points) (pointByte (n .ticks) (n .travels)) (pointBlock h) b
+  unfolding bodyBy
+  points-body l = rw (le-ltb b 1 (omega arith), le-ltb b (arcBlock h) (omega arith), le-ltb b (pointBlock h) l)
+
+-- WHICH BYTES a field has: those of the first field of two bytes, and those after it
+here : (x y k : ℕ) → k < 2 → byteOf (x + 65536 * y) (0 + k) ≡ byteOf x k
+here x y k l = let z : 0 + k ≡ k = omega arith in rw z (byteOf-low 2 x y k l)
+
+after : (x y k : ℕ) → x < 65536 → byteOf (x + 65536 * y) (2 + k) ≡ byteOf y k
+after x y k l = byteOf-high 2 x y k l
+
+module _ (s : List ℕ) (i k : ℕ) where
+  pub cell-byte : cellByte s i (0 + k) ≡ byteOf (getD s i 0) k
+  unfolding cellByte
+  cell-byte = let z : 0 + k ≡ k = omega arith in rw z
+
+module _ (s t : List ℕ) (i k : ℕ) where
+  pub tick-byte : k < 2 → pointByte s t i (0 + k) ≡ byteOf (getD s i 0) k
+  unfolding pointByte
+  tick-byte l = here _ _ k l
+
+  pub travel-byte : getD s i 0 < 65536 → pointByte s t i (2 + k) ≡ byteOf (getD t i 0) k
+  unfolding pointByte
+  travel-byte m = after _ _ k m
+
+module _ (s t u : List ℕ) (i k : ℕ) where
+  pub tail-byte : k < 2 → arcByte s t u i (0 + k) ≡ byteOf (getD s i 0) k
+  unfolding arcByte
+  tail-byte l = here _ _ k l
+
+  pub head-byte : k < 2 → getD s i 0 < 65536 → arcByte s t u i (2 + k) ≡ byteOf (getD t i 0) k
+  unfolding arcByte
+  head-byte l m =
+      let z : 2 + k ≡ 2 + (0 + k) = omega arith in
+      rw z (after _ _ (0 + k) m ∙ here _ _ k l)
+
+  pub count-byte : getD s i 0 < 65536 → getD t i 0 < 65536 → arcByte s t u i (4 + k) ≡ byteOf (getD u i 0) k
+  unfolding arcByte
+  count-byte m n =
+      let z : 4 + k ≡ 2 + (2 + k) = omega arith in
+      rw z (after _ _ (2 + k) m ∙ after _ _ k n)
+
+-- the same of a header's fields
+module _ (h : Header) (w : Within h) (l : h .number < 2 ^ 32) (k : ℕ) where
+  rest : (m : ℕ) → headerByte h (4 + m) ≡ byteOf (h .period + 65536 * (h .nodes + 65536 * (h .arcs + 65536 * (h .cells + 65536 * h .points)))) m
+  unfolding headerByte
+  rest m = byteOf-high 4 (h .number) _ m l
+
+  pub number-byte : k < 4 → headerByte h (0 + k) ≡ byteOf (h .number) k
+  unfolding headerByte
+  number-byte q = let z : 0 + k ≡ k = omega arith in rw z (byteOf-low 4 (h .number) _ k q)
+
+  pub period-byte : k < 2 → headerByte h (4 + k) ≡ byteOf (h .period) k
+  period-byte q = let z : 4 + k ≡ 4 + (0 + k) = omega arith in rw z (rest (0 + k) ∙ here _ _ k q)
+
+  pub nodes-byte : k < 2 → headerByte h (6 + k) ≡ byteOf (h .nodes) k
+  nodes-byte q =
+      let z : 6 + k ≡ 4 + (2 + (0 + k)) = omega arith in
+      rw z (rest (2 + (0 + k)) ∙ after _ _ (0 + k) (omega (arith, w)) ∙ here _ _ k q)
+
+  pub arcs-byte : k < 2 → headerByte h (8 + k) ≡ byteOf (h .arcs) k
+  arcs-byte q =
+      let z : 8 + k ≡ 4 + (2 + (2 + (0 + k))) = omega arith in
+      rw z (rest (2 + (2 + (0 + k))) ∙ after _ _ (2 + (0 + k)) (omega (arith, w)) ∙ after _ _ (0 + k) (omega (arith, w)) ∙ here _ _ k q)
+
+  pub cells-byte : k < 2 → headerByte h (10 + k) ≡ byteOf (h .cells) k
+  cells-byte q =
+      let z : 10 + k ≡ 4 + (2 + (2 + (2 + (0 + k)))) = omega arith in
+      rw z
+      (rest (2 + (2 + (2 + (0 + k))))
+      ∙ after _ _ (2 + (2 + (0 + k))) (omega (arith, w))
+      ∙ after _ _ (2 + (0 + k)) (omega (arith, w))
+      ∙ after _ _ (0 + k) (omega (arith, w))
+      ∙ here _ _ k q)
+
+  pub points-byte : headerByte h (12 + k) ≡ byteOf (h .points) k
+  points-byte =
+      let z : 12 + k ≡ 4 + (2 + (2 + (2 + (2 + k)))) = omega arith in
+      rw z
+      (rest (2 + (2 + (2 + (2 + k))))
+      ∙ after _ _ (2 + (2 + (2 + k))) (omega (arith, w))
+      ∙ after _ _ (2 + (2 + k)) (omega (arith, w))
+      ∙ after _ _ (2 + k) (omega (arith, w))
+      ∙ after _ _ k (omega (arith, w)))

@@ -1,0 +1,27 @@
+use Rattle.plan_check.specs.Checking.{checks}
+use borrow.Author.Needs.{needs}
+use Rattle.plan_check.proofs.check.check_plan.Statement.{statement}
+use Rattle.plan_check.proofs.check.check_plan.Tie as tie
+
+validate-requires : tie.Need-validate-requires
+validate-requires c κs = search needs
+
+enum-known-r : tie.Need-enum-known-r
+enum-known-r c = search needs
+
+enum-known-h : tie.Need-enum-known-h
+enum-known-h c = search needs
+
+check-opened-requires : tie.Need-check-opened-requires
+check-opened-requires c κs = search checks
+
+returns : tie.Need-returns
+returns c = search checks
+
+returns-2 : tie.Need-returns-2
+returns-2 c = search checks
+
+pub check-plan-spec : {M : Type 1} → statement M
+check-plan-spec =
+    tie.close
+    (tie.spec validate-requires enum-known-r enum-known-h check-opened-requires returns returns-2)

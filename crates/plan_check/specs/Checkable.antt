@@ -1,0 +1,48 @@
+-- What the check's tests 20 to 24 rest on: a sound network file (`Town` of the crate `search`), a plan file whose profiles are formed as 17 to 19
+-- ask (`Formed`), and the counts of the one in the other (`Checkable`).
+use mathlib.Core.Path.{_≡_}
+use mathlib.Core.List.{List}
+use Prim.Native.Nat.{ℕ, _+_, _*_, _≤_, _<_}
+use native.Mathlib.Omega.{arith}
+use lib.Arith.{digits-lt}
+use Rattle.loops.specs.Total.{total-part}
+use Rattle.travel.specs.Day.{Day}
+use Rattle.network.specs.declared.header.Layout.{Layout}
+use Rattle.network.specs.Decode.{decode}
+use Rattle.search.specs.Town.{Town}
+use Rattle.plan.specs.declared.header.PlanLayout.{PlanLayout}
+use Rattle.plan.specs.Border.{borderCount}
+use Rattle.plan.specs.Plan.{pointCount, pointStart, pointTicks}
+use Rattle.plan.specs.PlanDecode.{decodePlan, PlanLaid, PlanSmall, plan-small}
+
+-- A plan file, laid out as its header says: the profiles' counts add up to the points, and the ticks of each profile with points are a day's.
+pub record Formed (plan : List ℕ) (l : PlanLayout) : Type 0 where
+  pub laid : PlanLaid plan l
+  pub small : PlanSmall l
+  pub sum : pointStart (decodePlan plan) (l .profiles) ≡ l .points
+  pub day : (k : ℕ) → k < l .profiles → 0 < pointCount (decodePlan plan) k
+      → Day (pointTicks (decodePlan plan) k) (pointCount (decodePlan plan) k) (l .period)
+
+-- The plan is one for the network.
+pub record Checkable (network : List ℕ) (l : Layout) (plan : List ℕ) (pl : PlanLayout) : Type 0 where
+  pub town : Town network l
+  pub formed : Formed plan pl
+  pub period : pl .period ≡ l .period
+  pub nodes : pl .nodes ≡ l .nodes
+  pub arcs : pl .arcs ≡ l .arcs
+  pub borders : pl .borders ≡ borderCount (decode network)
+
+pub formed-of : {plan : List ℕ} {l : PlanLayout} → PlanLaid plan l → pointStart (decodePlan plan) (l .profiles) ≡ l .points
+    → ((k : ℕ) → k < l .profiles → 0 < pointCount (decodePlan plan) k → Day (pointTicks (decodePlan plan) k) (pointCount (decodePlan plan) k) (l .period))
+    → Formed plan l
+formed-of d s h = record { laid = d; small = plan-small d; sum = s; day = h }
+
+-- the points of profile k stand among the points
+pub profile-points : {plan : List ℕ} {l : PlanLayout} → Formed plan l → (k : ℕ) → k < l .profiles
+    → pointStart (decodePlan plan) k + pointCount (decodePlan plan) k ≤ l .points
+unfolding pointStart
+profile-points {plan} {l} f k h = omega (arith, total-part (pointCount (decodePlan plan)) k (l .profiles) h, f .sum)
+
+-- the profile of border number i and node u is one of the profiles
+pub profile-in : {plan : List ℕ} {l : PlanLayout} → Formed plan l → (i u : ℕ) → i < l .borders → u < l .nodes → i * l .nodes + u < l .profiles
+profile-in f i u h m = omega (arith, digits-lt h m, f .small .profiles-are)

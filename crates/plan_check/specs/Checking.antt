@@ -1,0 +1,90 @@
+-- From validation to the tests: what a network that opens and a plan that is well-formed for it give the check, and the laws by which its code
+-- goes on from stage to stage.
+use mathlib.Core.Path.{_≡_, sym, _∙_}
+use mathlib.Core.List.{List}
+use Prim.Native.Nat.{ℕ}
+use lib.ListN.{length, drop, List·getD-append}
+use Rattle.loops.specs.Select.{fronted}
+use Rattle.network.specs.declared.answer.Refusal.{Refusal}
+use Rattle.network.specs.declared.answer.Opening.{Opening}
+use Rattle.network.specs.declared.answer.Opening.the-variants as opening
+use Rattle.network.specs.declared.header.Header.{Header}
+use Rattle.network.specs.declared.header.Layout.{Layout}
+use Rattle.network.specs.Network.{Network}
+use Rattle.network.specs.Layout.{layoutOf}
+use Rattle.network.specs.Decode.{decode, Laid, laid-sizes}
+use Rattle.network.specs.Sound.{SoundNetwork}
+use Rattle.network.specs.Validate.{validated}
+use Rattle.network.specs.Valid.{ValidFile, valid-laid, valid-exactly}
+use Rattle.search.specs.Town.{town-of}
+use Rattle.plan.specs.declared.answer.Planning.{Planning}
+use Rattle.plan.specs.declared.answer.Planning.the-variants as planning
+use Rattle.plan_check.specs.declared.answer.Checking.{Checking}
+use Rattle.plan_check.specs.declared.answer.Checking.the-variants.{Refused}
+use Rattle.plan.specs.declared.header.PlanHeader.{PlanHeader}
+use Rattle.plan.specs.declared.header.PlanLayout.{PlanLayout}
+use Rattle.plan.specs.Border.{borders}
+use Rattle.plan.specs.Plan.{Plan}
+use Rattle.plan.specs.PlanLayout.{planLayoutOf}
+use Rattle.plan.specs.PlanHeader.{PlanWithin}
+use Rattle.plan.specs.PlanDecode.{decodePlan, plan-sizes}
+use Rattle.plan.specs.PlanValidate.{planned}
+use Rattle.plan.specs.PlanValid.{ValidPlan, valid-within, valid-plan-laid, valid-for, plan-exactly}
+use Rattle.plan_check.specs.Check.{checked}
+use Rattle.plan_check.specs.CheckPlan.{checkedBy, checking}
+use Rattle.plan_check.specs.Checkable.{Checkable, formed-of}
+use Rattle.plan_check.specs.Finding.{Listed}
+
+module _ {network : List ℕ} {h : Header} (v : ValidFile network h) where
+  pub check-laid : (l : Layout) → l ≡ layoutOf h → Laid network l
+  check-laid l e = rw e (valid-laid v)
+
+  pub check-sound : SoundNetwork (decode network)
+  check-sound = v .sound
+
+  pub check-plan-valid : (plan : List ℕ) (m : Planning) (k : PlanHeader) → m ≡ planned h (decode network) plan → m ≡ planning.WellFormed k → ValidPlan h (decode network) plan k
+  check-plan-valid plan m k e f = plan-exactly v plan k .0 (sym e ∙ f)
+
+  module _ {plan : List ℕ} {k : PlanHeader} (w : ValidPlan h (decode network) plan k) where
+    pub check-within : PlanWithin k
+    check-within = valid-within v w
+
+    pub check-able : (l : Layout) (pl : PlanLayout) → l ≡ layoutOf h → pl ≡ planLayoutOf k → Checkable network l plan pl
+    check-able l pl e f =
+        let d = check-laid l e in
+        let z = laid-sizes d in
+        let p = rw (sym f) at (valid-for v w) in
+        let q = rw (sym f) at (valid-plan-laid v w) in
+        let s = w .well-formed in
+        record {
+          town = town-of d (v .sound);
+          formed = formed-of q (rw (p .profiles-are) (s .sum ∙ sym (plan-sizes q .points))) (λ i m c. rw (p .period) (s .days i (rw (p .profiles-are) at m) c));
+          period = p .period ∙ sym (z .period);
+          nodes = p .nodes-are ∙ sym (z .nodes);
+          arcs = p .arcs-are ∙ sym (z .arcs);
+          borders = p .borders-are;
+        }
+
+-- the borders at the front of a table are listed
+pub listed-front : (n : Network) (old new : List ℕ) → new ≡ fronted (borders n) old → Listed n new
+listed-front n old new e = record { at = λ i l. rw e (List·getD-append (borders n) (drop (length (borders n)) old) 0 i l) }
+
+-- FOR THE CODE
+pub check-formed : (n : Network) (p : Plan) (m M : Planning) (k : PlanHeader) (r : Checking) → m ≡ M → m ≡ planning.WellFormed k → r ≡ checked n p → r ≡ checkedBy n p M
+check-formed n p m M k r e f g = rw (← e, f) g
+
+pub check-unformed : (n : Network) (p : Plan) (m M : Planning) (r : Refusal) → m ≡ M → m ≡ planning.Refused r → Refused r ≡ checkedBy n p M
+check-unformed n p m M r e f = rw (← e, f)
+
+module _ (network plan : List ℕ) (v : Opening) (e : v ≡ validated network) where
+  pub check-refused : (r : Refusal) → v ≡ opening.Refused r → Refused r ≡ checking network plan
+  check-refused r f = rw (← e, f)
+
+  pub check-opened : (h : Header) (r : Checking) → v ≡ opening.Opened h → r ≡ checkedBy (decode network) (decodePlan plan) (planned h (decode network) plan) → r ≡ checking network plan
+  check-opened h r f g = rw (← e, f) g
+
+pub check-valid : (network : List ℕ) (v : Opening) (h : Header) → v ≡ validated network → v ≡ opening.Opened h → ValidFile network h
+check-valid network v h e f = valid-exactly network h .0 (sym e ∙ f)
+
+-- for `search checks` at the stages of the check
+pub ruleset checks = (check-laid, check-sound, check-plan-valid, check-within, check-able, listed-front, check-formed, check-unformed, check-refused, check-opened, check-valid)

@@ -1,0 +1,176 @@
+-- The first failing triple of border number, node and tick as code finds it, and the ladder of the tests 21 to 24 over it.
+use mathlib.Core.Path.{_≡_, refl, sym, _∙_, ap}
+use mathlib.Core.Bool.{Bool, true, false, cond}
+use mathlib.Core.List.{List}
+use Prim.Native.Nat.{ℕ, zero, suc, _+_, _-_, _*_, _≤_, _<_}
+use native.Mathlib.Omega.{arith}
+use lib.ListN.{length, getD}
+use Rattle.loops.specs.First.{first}
+use Rattle.loops.specs.Fill.{Filled}
+use Rattle.loops.specs.Pick.{firstRung, at-first, past-first}
+use Rattle.loops.specs.Select.{selected}
+use Rattle.loops.specs.Total.{total-none}
+use Rattle.loops.specs.Triple.{anyTriple, firstOf, secondOf, thirdOf, firstTripleRung}
+use Rattle.network.specs.declared.header.Layout.{Layout}
+use Rattle.network.specs.Network.{Network, nodes, arcs, tail, start}
+use Rattle.network.specs.Decode.{decode}
+use Rattle.network.specs.Rules.{refusal}
+use Rattle.network.specs.declared.answer.Refusal.{Refusal}
+use Rattle.search.specs.Chain.{endOf, Chained}
+use Rattle.search.specs.declared.chain.End.the-variants.{Tail}
+use Rattle.plan_check.specs.declared.answer.Checking.{Checking}
+use Rattle.plan_check.specs.declared.answer.Checking.the-variants.{Accepted, Refused}
+use Rattle.plan_check.specs.declared.check.Triple.{Triple}
+use Rattle.plan_check.specs.declared.check.Found.{Found}
+use Rattle.plan_check.specs.declared.check.Found.the-variants.{At, Nothing}
+use Rattle.plan.specs.declared.header.PlanLayout.{PlanLayout}
+use Rattle.plan.specs.Border.{isBorder, borders, borderCount, borderAt}
+use Rattle.plan.specs.Plan.{Plan, pointCount, pointStart}
+use Rattle.plan.specs.PlanDecode.{decodePlan}
+use Rattle.plan_check.specs.Tests.{fails20, fails}
+use Rattle.plan_check.specs.Check.{refusedAt, tripleRung, checked}
+use Rattle.plan_check.specs.Checkable.{Checkable}
+use Rattle.plan_check.specs.Starts.{startOf, started-of}
+use Rattle.plan_check.specs.Giving.{Prepared}
+
+abbrev pub foundAt : ℕ → ℕ → ℕ → Found
+foundAt i u x = At (record { border = i; node = u; tick = x })
+
+-- the first triple at which the test with this number fails
+unfoldable pub firstFailing : ℕ → Network → Plan → Found
+firstFailing number n p = firstTripleRung foundAt (borderCount n) (nodes n) (n .period) (fails number n p) Nothing
+
+-- The list of borders: border number i stands at place i.
+pub record Listed (n : Network) (list : List ℕ) : Type 0 where
+  pub at : (i : ℕ) → i < borderCount n → getD list i 0 ≡ borderAt n i
+
+-- a border is a node
+border-below : (n : Network) (i : ℕ) → i < borderCount n → borderAt n i < nodes n
+unfolding borders
+border-below n i h = selected (isBorder n) (nodes n) i h .below
+
+-- What the search for a failing triple rests on: both files, the tables of the arcs' first points and of the chains, and the list of borders.
+pub record Equipped (network : List ℕ) (l : Layout) (plan : List ℕ) (pl : PlanLayout) (points firsts next list : List ℕ) : Type 0 where
+  pub check : Checkable network l plan pl
+  pub point : (a : ℕ) → a < l .arcs → getD points a 0 ≡ start (decode network) a
+  pub chained : Chained (tail (decode network)) (l .nodes) (l .arcs) 0 firsts next
+  pub listed : Listed (decode network) list
+
+-- FOR THE LOOPS
+module _ {network : List ℕ} {l : Layout} {plan : List ℕ} {pl : PlanLayout} {points firsts next list : List ℕ}
+    (w : Equipped network l plan pl points firsts next list) where
+  -- the ranges are those of the layouts
+  pub failing-is : (number : ℕ) {r : Found} → r ≡ firstTripleRung foundAt (pl .borders) (l .nodes) (l .period) (fails number (decode network) (decodePlan plan)) Nothing
+      → r ≡ firstFailing number (decode network) (decodePlan plan)
+  unfolding firstFailing
+  failing-is number e = rw (w .check .borders, w .check .town .sizes .nodes, w .check .town .sizes .period) at e
+
+  module _ {i : ℕ} (h : i < pl .borders) where
+    pub prepared-of : {old starts : List ℕ} → Filled 0 (pl .nodes) (startOf (decodePlan plan) (pl .nodes) i) old starts → Prepared network l plan pl points i starts
+    prepared-of f = record { check = w .check; first = w .point; started = started-of f; border = h }
+
+    pub border-is : {b : ℕ} → b ≡ getD list i 0 → b ≡ borderAt (decode network) i
+    border-is e = e ∙ w .listed .at i (omega (arith, w .check .borders))
+
+    pub border-node : {b : ℕ} → b ≡ getD list i 0 → b < l .nodes
+    border-node e = omega (arith, border-is e, border-below (decode network) i (omega (arith, w .check .borders)), w .check .town .sizes .nodes)
+
+-- a table keeps its length, and the first border's profiles start with the first point
+pub still-long : {a b : ℕ} {f : ℕ → ℕ} {old new : List ℕ} {m : ℕ} → Filled a b f old new → m ≤ length old → m ≤ length new
+still-long f h = rw (f .long) h
+
+pub from-start : (p : Plan) (nodes : ℕ) → 0 ≡ pointStart p (0 * nodes)
+unfolding pointStart
+from-start p nodes = let z : 0 * nodes ≡ 0 = omega arith in rw z (total-none (pointCount p))
+
+-- for `search (findings, triples, firsts)` at the needs of the loops
+pub ruleset findings = (failing-is, prepared-of, border-is, border-node, still-long, from-start)
+
+-- the tests from one number on, k of them
+unfoldable pub triplesFrom : ℕ → ℕ → Network → Plan → Checking
+triplesFrom zero number n p = Accepted
+triplesFrom (suc k) number n p = tripleRung number n p (triplesFrom k (number + 1) n p)
+
+-- FOR THE LADDER: the test with a number was tried
+module _ (number : ℕ) (n : Network) (p : Plan) {f : Found} (e : f ≡ firstFailing number n p) (next : Checking) where
+  pub rung-at : {t : Triple} {r : Checking} → f ≡ At t → r ≡ refusedAt number (t .border) (t .node) (t .tick) → r ≡ tripleRung number n p next
+  unfolding firstFailing firstTripleRung tripleRung
+  rung-at {t} {r} g q = go (anyTriple (borderCount n) (nodes n) (n .period) (fails number n p)) (sym e ∙ g)
+    where
+      i : ℕ
+      i = firstOf (borderCount n) (nodes n) (n .period) (fails number n p)
+
+      u : ℕ
+      u = secondOf (borderCount n) (nodes n) (n .period) (fails number n p)
+
+      x : ℕ
+      x = thirdOf (borderCount n) (nodes n) (n .period) (fails number n p)
+
+      go : (b : Bool) → cond b (foundAt i u x) Nothing ≡ At t → r ≡ cond b (refusedAt number i u x) next
+      go true h = q ∙ cc
+      go false h = let z : _≡_ {A = ℕ} 0 1 = cc in absurd (omega arith)
+
+  pub rung-past : f ≡ Nothing → next ≡ tripleRung number n p next
+  unfolding firstFailing firstTripleRung tripleRung
+  rung-past g = go _ _ (anyTriple (borderCount n) (nodes n) (n .period) (fails number n p)) (sym e ∙ g)
+    where
+      go : (t : Triple) (s : Checking) (b : Bool) → cond b (At t) Nothing ≡ Nothing → next ≡ cond b s next
+      go t s true h = let z : _≡_ {A = ℕ} 0 1 = cc in absurd (omega arith)
+      go t s false h = refl
+
+-- In the loop over the numbers: the tests before this one were passed.
+pub record Passed (n : Network) (p : Plan) (number : ℕ) : Type 0 where
+  pub low : 21 ≤ number
+  pub high : number ≤ 25
+  pub rest : triplesFrom 4 21 n p ≡ triplesFrom (25 - number) number n p
+
+module _ {n : Network} {p : Plan} where
+  pub passed-none : Passed n p 21
+  passed-none = record { low = omega arith; high = omega arith; rest = refl }
+
+  module _ {number : ℕ} (w : Passed n p number) where
+    module _ (h : number < 25) {f : Found} (e : f ≡ firstFailing number n p) where
+      rung : triplesFrom 4 21 n p ≡ tripleRung number n p (triplesFrom (25 - (number + 1)) (number + 1) n p)
+      unfolding triplesFrom
+      rung = let z : 25 - number ≡ suc (25 - (number + 1)) = omega arith in rw z at (w .rest)
+
+      pub passed-at : {t : Triple} {r : Checking} → f ≡ At t → r ≡ refusedAt number (t .border) (t .node) (t .tick) → r ≡ triplesFrom 4 21 n p
+      passed-at g q = rung-at number n p e _ g q ∙ sym rung
+
+      pub passed-more : f ≡ Nothing → Passed n p (number + 1)
+      passed-more g = record { low = omega (arith, w .low); high = omega arith; rest = rung ∙ sym (rung-past number n p e _ g) }
+
+    pub passed-all : 25 ≤ number → Accepted ≡ triplesFrom 4 21 n p
+    unfolding triplesFrom
+    passed-all h = let z : 25 - number ≡ 0 = omega arith in sym (rw z at (w .rest))
+
+-- for `search passing` at the needs of that loop
+pub ruleset passing = (passed-none, passed-at, passed-more, passed-all)
+
+-- the whole ladder: v is the first arc at which 20 fails
+checked-from : (n : Network) (p : Plan) → firstRung (λ a. Refused (refusal 20 a)) (arcs n) (fails20 n p) (triplesFrom 4 21 n p) ≡ checked n p
+unfolding checked triplesFrom
+checked-from n p = refl
+
+module _ {network : List ℕ} {l : Layout} {plan : List ℕ} {pl : PlanLayout} (w : Checkable network l plan pl) where
+  pub equipped-of : {old points firsts next list : List ℕ} → Filled 0 (l .arcs) (start (decode network)) old points
+      → Chained (endOf (decode network) Tail) (l .nodes) (l .arcs) 0 firsts next → Listed (decode network) list
+      → Equipped network l plan pl points firsts next list
+  equipped-of f c b = record { check = w; point = λ a h. f .written a (omega arith) h; chained = c; listed = b }
+
+  module _ {v : ℕ} (e : v ≡ first (l .arcs) (fails20 (decode network) (decodePlan plan))) where
+    same-arcs : v ≡ first (arcs (decode network)) (fails20 (decode network) (decodePlan plan))
+    same-arcs = rw (w .town .sizes .arcs) at e
+
+    pub checked-unflagged : {q : Refusal} → v < l .arcs → q ≡ refusal 20 v → Refused q ≡ checked (decode network) (decodePlan plan)
+    checked-unflagged h f =
+        at-first _ (triplesFrom 4 21 (decode network) (decodePlan plan)) (λ a. Refused (refusal 20 a)) (arcs (decode network)) v (fails20 (decode network) (decodePlan plan)) same-arcs (omega (arith, w .town .sizes .arcs)) (ap Refused f)
+        ∙ checked-from (decode network) (decodePlan plan)
+
+    pub checked-rest : {r : Checking} → l .arcs ≤ v → r ≡ triplesFrom 4 21 (decode network) (decodePlan plan) → r ≡ checked (decode network) (decodePlan plan)
+    checked-rest h f =
+        past-first _ (triplesFrom 4 21 (decode network) (decodePlan plan)) (λ a. Refused (refusal 20 a)) (arcs (decode network)) v (fails20 (decode network) (decodePlan plan)) same-arcs (omega (arith, w .town .sizes .arcs)) f
+        ∙ checked-from (decode network) (decodePlan plan)
+
+-- for `search checks` at the needs of such code
+pub ruleset checks = (equipped-of, checked-unflagged, checked-rest)

@@ -1,0 +1,203 @@
+// The check of a well-formed plan against its network: the lowest of the tests 20 to 24 that fails anywhere, and the first place where it fails.
+// Both files are read in place; the few tables that spare reading stand on the stack.
+use crate::answer::Checking;
+use crate::tests;
+use crate::value;
+use network::answer::Opening;
+use network::answer::Refusal;
+use network::header::Header;
+use network::header::Layout;
+use network::validate::validate;
+use plan::answer::Planning;
+use plan::borders::list_borders;
+use plan::header::PlanHeader;
+use plan::header::PlanLayout;
+use plan::validate::validate_plan;
+use search::chain;
+use search::chain::End;
+use search::times;
+use search::wide;
+ghost use mathlib.Core.Path.{_≡_};
+ghost use Rattle.loops.specs.First;
+ghost use Rattle.network.specs.Decode.{decode};
+ghost use Rattle.network.specs.Valid.{ValidFile};
+ghost use Rattle.plan.specs.PlanDecode.{decodePlan};
+ghost use Rattle.plan_check.specs.Tests.{fails20};
+ghost use Rattle.plan_check.specs.Check.{refusedAt, checked};
+ghost use Rattle.plan_check.specs.CheckPlan.{checkedBy, checking};
+ghost use Rattle.plan.specs.PlanValidate.{planned};
+ghost use Rattle.plan.specs.PlanValid.{ValidPlan};
+ghost use Rattle.plan_check.specs.Checkable.{Checkable};
+ghost use Rattle.plan_check.specs.Finding.{Listed, Equipped, firstFailing, triplesFrom};
+
+// A border number, a node and a tick.
+pub struct Triple {
+    pub border: u32,
+    pub node: u32,
+    pub tick: u32,
+}
+
+pub enum Found {
+    At(Triple),
+    Nothing,
+}
+
+// A refusal of the test with this number at a triple.
+fn refused_at(number: u32, at: Triple) -> Checking
+    ensures { λ r. ⌜ r ≡ refusedAt number (at .border) (at .node) (at .tick) ⌝ }
+{
+    Checking::Refused(Refusal {
+        number,
+        first: at.border,
+        second: at.node,
+        third: at.tick,
+    })
+}
+
+// The first arc at which 20 fails; the number of arcs where there is none.
+fn first_unflagged(network: &[u8], l: Layout, plan: &[u8], pl: PlanLayout) -> usize
+    requires { ⌜ Checkable (now network) l (now plan) pl ⌝ }
+    ensures { λ r. ⌜ r ≡ First.first (l .arcs) (fails20 (decode (now (network .entry))) (decodePlan (now (plan .entry)))) ⌝ }
+{
+    let arcs = l.arcs;
+    for a in 0..arcs {
+        if tests::is_unflagged_inside(network, l, plan, pl, a) {
+            return a;
+        }
+    }
+    arcs
+}
+
+// The first border number, then node, then tick at which the test with this number fails.
+pub fn first_failing(
+    number: u32,
+    network: &[u8],
+    l: Layout,
+    plan: &[u8],
+    pl: PlanLayout,
+    points: &[u16; 2048],
+    first: &[u16; 512],
+    next: &[u16; 2048],
+    borders: &[u16; 512],
+) -> Found
+    requires { ⌜ Equipped (now network) l (now plan) pl (now points) (now first) (now next) (now borders) ⌝ }
+    ensures { λ r. ⌜ r ≡ firstFailing number (decode (now (network .entry))) (decodePlan (now (plan .entry))) ⌝ }
+{
+    let count = pl.borders;
+    let nodes = l.nodes;
+    let period = l.period;
+    let mut found = Found::Nothing;
+    let mut starts = [0u32; 512];
+    let mut from = 0;
+    'borders: for i in 0..count {
+        from = value::profile_starts(plan, pl, i, from, &mut starts);
+        let border = wide(borders[i]);
+        'nodes: for u in 0..nodes {
+            'ticks: for x in 0..period {
+                if tests::is_failing(
+                    number,
+                    network,
+                    l,
+                    plan,
+                    pl,
+                    points,
+                    first,
+                    next,
+                    &starts,
+                    border,
+                    i,
+                    u,
+                    x,
+                ) {
+                    found = Found::At(Triple {
+                        border: i as u32,
+                        node: u as u32,
+                        tick: x as u32,
+                    });
+                    break 'borders;
+                }
+            }
+        }
+    }
+    found
+}
+
+// The tests 21 to 24, the lowest number first.
+fn check_triples(
+    network: &[u8],
+    l: Layout,
+    plan: &[u8],
+    pl: PlanLayout,
+    points: &[u16; 2048],
+    first: &[u16; 512],
+    next: &[u16; 2048],
+    borders: &[u16; 512],
+) -> Checking
+    requires { ⌜ Equipped (now network) l (now plan) pl (now points) (now first) (now next) (now borders) ⌝ }
+    ensures { λ r. ⌜ r ≡ triplesFrom 4 21 (decode (now (network .entry))) (decodePlan (now (plan .entry))) ⌝ }
+{
+    for number in 21..25 {
+        let found = first_failing(number, network, l, plan, pl, points, first, next, borders);
+        if let Found::At(at) = found {
+            return refused_at(number, at);
+        }
+    }
+    Checking::Accepted
+}
+
+// The tests 20 to 24: the lowest number that fails anywhere, then its first place. `borders` lists the border nodes.
+pub fn check_tests(
+    network: &[u8],
+    l: Layout,
+    plan: &[u8],
+    pl: PlanLayout,
+    borders: &[u16; 512],
+) -> Checking
+    requires { ⌜ Checkable (now network) l (now plan) pl ⌝ }
+    requires { ⌜ Listed (decode (now network)) (now borders) ⌝ }
+    ensures { λ r. ⌜ r ≡ checked (decode (now (network .entry))) (decodePlan (now (plan .entry))) ⌝ }
+{
+    let arc = first_unflagged(network, l, plan, pl);
+    if arc < l.arcs {
+        return Checking::Refused(network::answer::refuse(20, arc as u32));
+    }
+    let mut points = [0u16; 2048];
+    times::first_points(network, l, &mut points);
+    let mut first = [chain::NONE; 512];
+    let mut next = [chain::NONE; 2048];
+    chain::chain(network, l, End::Tail, &mut first, &mut next);
+    check_triples(network, l, plan, pl, &points, &first, &next, borders)
+}
+
+// The tests for a network that opens and a plan that is well-formed for it.
+fn check_formed(network: &[u8], h: Header, plan: &[u8], k: PlanHeader) -> Checking
+    requires { ⌜ ValidFile (now network) h ⌝ }
+    requires { ⌜ ValidPlan h (decode (now network)) (now plan) k ⌝ }
+    ensures { λ r. ⌜ r ≡ checked (decode (now (network .entry))) (decodePlan (now (plan .entry))) ⌝ }
+{
+    let l = h.layout();
+    let mut borders = [0u16; 512];
+    list_borders(network, l, &mut borders);
+    check_tests(network, l, plan, k.layout(), &borders)
+}
+
+// Refusals 11 to 24 for a network that opens.
+fn check_opened(network: &[u8], h: Header, plan: &[u8]) -> Checking
+    requires { ⌜ ValidFile (now network) h ⌝ }
+    ensures { λ r. ⌜ r ≡ checkedBy (decode (now (network .entry))) (decodePlan (now (plan .entry))) (planned h (decode (now (network .entry))) (now (plan .entry))) ⌝ }
+{
+    match validate_plan(network, h, h.layout(), plan) {
+        Planning::Refused(r) => Checking::Refused(r),
+        Planning::WellFormed(k) => check_formed(network, h, plan, k),
+    }
+}
+
+// Is this plan one that the flagged trips of this network may trust? Accepted, or the lowest refusal of 1 to 24 with its places.
+pub fn check_plan(network: &[u8], plan: &[u8]) -> Checking
+    ensures { λ r. ⌜ r ≡ checking (now (network .entry)) (now (plan .entry)) ⌝ }
+{
+    match validate(network) {
+        Opening::Refused(r) => Checking::Refused(r),
+        Opening::Opened(h) => check_opened(network, h, plan),
+    }
+}
