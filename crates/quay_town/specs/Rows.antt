@@ -13,7 +13,7 @@ use Rattle.plan_check.specs.declared.answer.Checking.the-variants as checking
 use Rattle.plan_check.specs.CheckPlan.{checking}
 use Rattle.trips.specs.declared.answer.Answer.{Answer}
 use Rattle.trips.specs.declared.answer.Answer.the-variants as answer
-use Rattle.varnwalnut.specs.Calls.{plainCall, plainPath, flaggedCall, flaggedPath}
+use Rattle.trips.specs.Calls.{plainCall, plainPath, flaggedCall, flaggedPath}
 use Rattle.quay_town.specs.Files.{networkFile, planFile}
 
 -- the travel of a road at a tick below the period; how a network opens; a plain trip; the check of a plan; a flagged trip

@@ -44,7 +44,7 @@ use Rattle.plan_check.specs.CheckPlan.{checkedBy}
 use Rattle.plan_check.specs.Promise.{towards}
 use Rattle.trips.specs.Trip.{asked, andThen, searched, tripAnswer}
 use Rattle.trips.specs.Flagged.{plannedThen}
-use Rattle.varnwalnut.specs.Calls.{plainPath, flaggedPath}
+use Rattle.trips.specs.Calls.{plainPath, flaggedPath}
 use Rattle.quay_town.specs.Files.{networkFile, planFile}
 use Rattle.quay_town.specs.Quick.{summed, blank, quickFormed}
 use Rattle.quay_town.specs.Validation.{quickValidated, quickPlanned, validated-quick, planned-quick}

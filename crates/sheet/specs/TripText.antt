@@ -2,16 +2,9 @@
 -- for a line of another shape `refused 32` alone.
 use mathlib.Core.List.{List, [], _∷_, _++_}
 use Prim.Native.Nat.{ℕ}
-use Rattle.paths.specs.Labels.{labels}
-use Rattle.paths.specs.Chosen.{chosen}
-use Rattle.network.specs.Decode.{decode}
-use Rattle.network.specs.Town.{graphOf}
-use Rattle.plan.specs.PlanDecode.{decodePlan}
-use Rattle.plan_check.specs.Promise.{towards}
 use Rattle.trips.specs.declared.answer.Answer.{Answer}
 use Rattle.trips.specs.declared.answer.Answer.the-variants.{Arrived, Refused}
-use Rattle.trips.specs.Trip.{searched, tripAnswer}
-use Rattle.trips.specs.Flagged.{flaggedBegin}
+use Rattle.trips.specs.Calls.{flaggedCall, flaggedPath}
 use Rattle.sheet.specs.declared.line.Asking.{Asking}
 use Rattle.sheet.specs.declared.line.Line.{Line}
 use Rattle.sheet.specs.declared.line.Line.the-variants.{Asks, Other}
@@ -19,17 +12,12 @@ use Rattle.sheet.specs.Text.{ascii, lineFeed}
 use Rattle.sheet.specs.Number.{decimal}
 use Rattle.sheet.specs.Numbers.{spaced}
 
--- the flagged trip that a line asks for, with room for 512 arrivals and 511 roads: its answer, and the chosen path
+-- the flagged trip that a line asks for, with fresh lists: its answer, and the chosen path
 unfoldable pub tripOf : List ℕ → List ℕ → Asking → Answer
-tripOf network plan a =
-    tripAnswer (flaggedBegin network plan (a .from) (a .to) (a .leave) 512)
-    (searched (decode network) (towards (decode network) (decodePlan plan) (a .to)) (a .from) (a .to) (a .leave) 511)
+tripOf network plan a = flaggedCall network plan (a .from) (a .to) (a .leave)
 
 unfoldable pub pathOf : List ℕ → List ℕ → Asking → List ℕ
-pathOf network plan a =
-    let n = decode network in
-    let p = towards n (decodePlan plan) (a .to) in
-    chosen (graphOf n) p (a .from) (labels (graphOf n) p (a .from) (a .leave)) (a .to)
+pathOf network plan a = flaggedPath network plan (a .from) (a .to) (a .leave)
 
 -- from, to, leave
 unfoldable pub askingText : Asking → List ℕ

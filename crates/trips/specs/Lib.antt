@@ -1,9 +1,10 @@
--- Trips: what each answers and leaves (Trip, Plain, Flagged), the laws between a search and its trip (Drive), and what an answer means (Promise,
+-- Trips: what each answers and leaves (Trip, Plain, Flagged, Calls), the laws between a search and its trip (Drive), and what an answer means (Promise,
 -- Numbers, PlainPromise, FlaggedPromise).
 pub mod Trip
 pub mod Drive
 pub mod Plain
 pub mod Flagged
+pub mod Calls
 pub mod Promise
 pub mod Numbers
 pub mod PlainPromise

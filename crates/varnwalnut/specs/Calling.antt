@@ -30,7 +30,7 @@ use Rattle.trips.specs.Promise.{told-trip}
 use Rattle.trips.specs.Numbers.{plain-before, flagged-before, flagged-begun, count-few}
 use Rattle.varnwalnut.specs.Reply.{tripBytes, tripCode, tripCount, roomed, kept}
 use Rattle.varnwalnut.specs.Writing.{arrived-long, refused-long}
-use Rattle.varnwalnut.specs.Calls.{pathOf, plainAnswer, flaggedAnswer}
+use Rattle.trips.specs.Calls.{pathOf, plainAnswer, flaggedAnswer}
 
 -- ROOM
 module _ (w room : ℕ) where

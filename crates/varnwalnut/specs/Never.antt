@@ -14,7 +14,7 @@ use Rattle.trips.specs.declared.answer.Answer.the-variants as answer
 use Rattle.trips.specs.Plain.{plainBegin, begun}
 use Rattle.trips.specs.Flagged.{flaggedBegin}
 use Rattle.trips.specs.Numbers.{plain-before, plain-roomy, flagged-before, flagged-roomy, flagged-begun, no-short}
-use Rattle.varnwalnut.specs.Calls.{plainCall, flaggedCall}
+use Rattle.trips.specs.Calls.{plainCall, flaggedCall}
 
 pub plain-never-short : (network : List ℕ) (from to departure : ℕ) (r : Refusal) → plainCall network from to departure ≡ answer.Refused r
     → (r .number ≤ 26) ⊎ (r .number ≡ 28)

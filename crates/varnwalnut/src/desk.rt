@@ -28,7 +28,7 @@ ghost use Rattle.trips.specs.Trip.{tripArrivals, tripRoads};
 ghost use Rattle.trips.specs.Plain.{plainBegin};
 ghost use Rattle.trips.specs.Flagged.{flaggedBegin};
 ghost use Rattle.varnwalnut.specs.Reply.{checkNumbers, checkCode, openNumbers, openCode, packNumbers, packCode, tripNumbers, tripCode, tripCount, roomed, kept};
-ghost use Rattle.varnwalnut.specs.Calls.{plainAnswer, flaggedAnswer};
+ghost use Rattle.trips.specs.Calls.{plainAnswer, flaggedAnswer};
 
 // What the check answers.
 fn write_checking(checking: Checking, answer: &mut [u32]) -> u32

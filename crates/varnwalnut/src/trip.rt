@@ -8,7 +8,7 @@ ghost use mathlib.Core.Path.{_≡_};
 ghost use lib.ListN.{length};
 ghost use Rattle.network.specs.Open.{overwritten};
 ghost use Rattle.varnwalnut.specs.Reply.{tripBytes, tripCode, roomed, kept};
-ghost use Rattle.varnwalnut.specs.Calls.{plainCall, plainPath, flaggedCall, flaggedPath};
+ghost use Rattle.trips.specs.Calls.{plainCall, plainPath, flaggedCall, flaggedPath};
 
 // The arrival of a node that is not reached.
 pub const NEVER: u32 = 4294967295;

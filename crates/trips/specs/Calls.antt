@@ -1,4 +1,4 @@
--- What the calls for trips answer: with lists of any lengths, and, for the tablet, with a fresh list of 512 arrivals and room for 511 roads.
+-- What a call for a trip answers: with lists of any lengths, and with a fresh list of 512 arrivals and room for 511 roads, as the tablet and the run sheet ask.
 use mathlib.Core.List.{List}
 use Prim.Native.Nat.{ℕ}
 use Rattle.paths.specs.Graph.{Permit, all}
@@ -9,16 +9,16 @@ use Rattle.network.specs.Decode.{decode}
 use Rattle.network.specs.Town.{graphOf}
 use Rattle.plan.specs.PlanDecode.{decodePlan}
 use Rattle.plan_check.specs.Promise.{towards}
 use Rattle.trips.specs.declared.answer.Answer.{Answer}
 use Rattle.trips.specs.Trip.{searched, tripAnswer}
 use Rattle.trips.specs.Plain.{plainBegin}
 use Rattle.trips.specs.Flagged.{flaggedBegin}
 
 -- the chosen path of a trip over permitted arcs
 abbrev pub pathOf : Network → Permit → ℕ → ℕ → ℕ → List ℕ
 pathOf n p s t x = chosen (graphOf n) p s (labels (graphOf n) p s x) t
 
--- the plain trip with room for so many arrivals and roads, the tablet's, and its path
+-- the plain trip with room for so many arrivals and roads, with fresh lists, and its path
 abbrev pub plainAnswer : List ℕ → ℕ → ℕ → ℕ → ℕ → ℕ → Answer
 plainAnswer network from to departure room free =
     tripAnswer (plainBegin network from to departure room) (searched (decode network) all from to departure free)
