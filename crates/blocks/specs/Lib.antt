@@ -2,6 +2,7 @@
 pub mod Fields
 pub mod Put
 pub mod Place
+pub mod Cursor
 pub mod Table
 pub mod Sum
 pub mod Form

@@ -68,6 +68,13 @@ pub offset-at : (from per size : ℕ) → 0 < per → (j e : ℕ) → e < per �
 unfolding offset
 offset-at from per size pos j e l = rw (index-block per pos j e l, index-entry per pos j e l)
 
+-- and the entries after entry i in its block stand behind it
+pub offset-on : (from per size : ℕ) → 0 < per → (i e : ℕ) → i % per + e < per → offset from per size (i + e) ≡ offset from per size i + size * e
+unfolding offset
+offset-on from per size pos i e l =
+    let q : i + e ≡ per * (i / per) + (i % per + e) = omega (arith, div-add-mod i per) in
+    rw (q, index-block per pos (i / per) (i % per + e) l, index-entry per pos (i / per) (i % per + e) l) (omega arith)
+
 -- FOR A WALK over the blocks of a stored run: block j starts at an entry of the run, stands whole in the file, and its entries fit
 module _ (from per size n : ℕ) (file : List ℕ) (s : Stored from per size n file) (j : ℕ) (l : j < blocks per n) where
   pub block-starts : per * j ≤ n

@@ -2,7 +2,7 @@
 // A kind is given by its first block, its entries a block and an entry's size: specs/Place.antt.
 use crate::fields::le16;
 ghost use mathlib.Core.Path.{_≡_};
-ghost use Prim.Native.Nat.{_+_, _*_, _/_, _≤_, _<_, _^_};
+ghost use Prim.Native.Nat.{_+_, _-_, _*_, _/_, _%_, _≤_, _<_, _^_, min};
 ghost use lib.ListN.{length};
 ghost use Rattle.loops.specs.Fill.{Filled};
 ghost use Rattle.blocks.specs.Place;
@@ -32,6 +32,15 @@ pub fn entries_in(per: usize, n: usize, j: usize) -> usize
 {
     let left = n - per * j;
     if left < per { left } else { per }
+}
+
+// How many of n entries, from entry i on, stand side by side in one block.
+pub fn side_by_side(per: usize, i: usize, n: usize) -> usize
+    requires { ⌜ 0 < per ⌝ }
+    ensures { λ r. ⌜ r ≡ min n (per - i % per) ⌝ }
+{
+    let left = per - i % per;
+    if n < left { n } else { left }
 }
 
 // The m entries of `out` from `first` on become the 16-bit fields at byte `at` of the m entries that start at byte `base`.

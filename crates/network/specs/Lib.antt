@@ -6,6 +6,7 @@ pub mod Decode
 pub mod Rules
 pub mod Scan
 pub mod ScanAll
+pub mod Steady
 pub mod Sound
 pub mod Judge
 pub mod Validate

@@ -3,6 +3,7 @@
 //   header    the header's numbers with their limits, and where the tables stand
 //   read      the entries of a network file, in place
 //   rules     the rules 7 to 10
+//   steady    do an arc's points keep the rules 9 and 10, yes or no?
 //   validate  refusals 1 to 10
 //   open      the tables of a file, written into lent tables
 //   answer    refusals, and what validation answers
@@ -12,4 +13,5 @@ pub mod header;
 pub mod open;
 pub mod read;
 pub mod rules;
+pub mod steady;
 pub mod validate;

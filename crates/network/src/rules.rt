@@ -1,9 +1,11 @@
-// The rules 7 to 10 of document 01, on a file that is laid out as its header says. The points are scanned once: rule 10 is judged at each
-// point while rule 9 is, and told where 9 holds everywhere.
+// The rules 7 to 10 of document 01, on a file that is laid out as its header says. An arc's points are first asked whether they keep rules 9
+// and 10 (steady.rt). Where they do not, one scan finds the places: rule 10 is judged at each point while rule 9 is, and told where 9 holds
+// everywhere.
 use crate::answer::Judged;
 use crate::answer::faulty;
 use crate::header::Layout;
 use crate::read;
+use crate::steady::is_steady;
 ghost use mathlib.Core.Path.{_≡_};
 ghost use Prim.Native.Nat.{_+_, _-_, _≤_, _<_};
 ghost use Rattle.loops.specs.First.{first};
@@ -142,8 +144,8 @@ fn late_at(late: usize, i: usize, end: usize, next: usize) -> usize
     i
 }
 
-// Rules 9 and 10 over the points of one arc, which stand from point `from` on.
-fn scan_arc(file: &[u8], l: Layout, from: usize, count: usize) -> Scan
+// The faults of one arc, whose points stand from point `from` on.
+fn find_faults(file: &[u8], l: Layout, from: usize, count: usize) -> Scan
     requires { ⌜ Laid (now file) l ⌝ }
     requires { ⌜ (from + count ≤ l .points) × (0 < count) ⌝ }
     ensures { λ r. ⌜ Scanned (l .period) (entryAt (decode (now (file .entry)) .ticks) from) (entryAt (decode (now (file .entry)) .travels) from) count r ⌝ }
@@ -166,6 +168,21 @@ fn scan_arc(file: &[u8], l: Layout, from: usize, count: usize) -> Scan
         bad: count,
         late: late_at(late, count, end, l.period + v),
     }
+}
+
+// Rules 9 and 10 over the points of one arc. Where they are kept, a test that finds no place says so sooner.
+fn scan_arc(file: &[u8], l: Layout, from: usize, count: usize) -> Scan
+    requires { ⌜ Laid (now file) l ⌝ }
+    requires { ⌜ (from + count ≤ l .points) × (0 < count) ⌝ }
+    ensures { λ r. ⌜ Scanned (l .period) (entryAt (decode (now (file .entry)) .ticks) from) (entryAt (decode (now (file .entry)) .travels) from) count r ⌝ }
+{
+    if is_steady(file, l, from, count) {
+        return Scan {
+            bad: count,
+            late: count,
+        };
+    }
+    find_faults(file, l, from, count)
 }
 
 // The first late point of one arc more: `count` points from `from` on, of which `at` is the first late one; `points` stands for none.

@@ -5,10 +5,10 @@ pub mod Plan
 pub mod PlanHeader
 pub mod PlanLayout
 pub mod Marks
-pub mod Cursor
 pub mod PlanDecode
 pub mod PlanRules
 pub mod PlanScan
+pub mod Rising
 pub mod PlanScanAll
 pub mod PlanValidate
 pub mod PlanMatch

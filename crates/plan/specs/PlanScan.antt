@@ -14,12 +14,12 @@ use Rattle.loops.specs.First.{first, any, none-yet, pass, stop, yes-any, no-any
 use Rattle.travel.specs.Table.{entryAt}
 use Rattle.blocks.specs.Fields.{le16}
 use Rattle.blocks.specs.Place.{offset}
-use Rattle.plan.specs.declared.cursor.Cursor.{Cursor}
+use Rattle.blocks.specs.declared.cursor.Cursor.{Cursor}
 use Rattle.plan.specs.declared.header.PlanLayout.{PlanLayout}
 use Rattle.plan.specs.declared.rules.Scan.{Scan}
 use Rattle.plan.specs.Plan.{Plan, pointCount}
 use Rattle.plan.specs.PlanDecode.{decodePlan, pointTick, PlanLaid, EntryIn, count-in, point-in, count-is, tick-is}
-use Rattle.plan.specs.Cursor.{cursorAt, moved, cursor-next}
+use Rattle.blocks.specs.Cursor.{cursorAt, moved, cursor-next}
 use Rattle.plan.specs.PlanRules.{badTick}
 
 -- READING BY A CURSOR: the count of profile k and the tick of point q stand in the file, and are the plan's

@@ -16,12 +16,12 @@ use Rattle.network.specs.Rules.{faulty}
 use Rattle.network.specs.Scan.{first-more}
 use Rattle.network.specs.declared.answer.Judged.{Judged}
 use Rattle.network.specs.declared.answer.Judged.the-variants.{Sound}
-use Rattle.plan.specs.declared.cursor.Cursor.{Cursor}
+use Rattle.blocks.specs.declared.cursor.Cursor.{Cursor}
 use Rattle.plan.specs.declared.header.PlanLayout.{PlanLayout}
 use Rattle.plan.specs.declared.rules.Scan.{Scan}
 use Rattle.plan.specs.Plan.{Plan, pointCount, pointStart, pointTicks}
 use Rattle.plan.specs.PlanDecode.{pointTotal}
-use Rattle.plan.specs.Cursor.{cursorFirst, cursorAt, moved, cursor-first, cursor-next}
+use Rattle.blocks.specs.Cursor.{cursorFirst, cursorAt, moved, cursor-first, cursor-next}
 use Rattle.plan.specs.PlanRules.{badCount, badTick, badProfile, badPoint, judgedTicks, judgedSum, judgedCounts}
 use Rattle.plan.specs.PlanScan.{Scanned}
 

@@ -2,15 +2,15 @@
 //   header    the header's numbers, and where the tables stand
 //   read      the entries of a plan file, in place
 //   borders   the borders of a network, listed
-//   cursor    a walk over a run's entries without a division
 //   rules     the rules 17 to 19
+//   rising    do a profile's ticks rise, yes or no?
 //   validate  refusals 11 to 19
 //   answer    what validation answers
 // It may call `blocks` and `network`, and cites `loops`, `paths` and `travel`. Both files are read in place.
 pub mod answer;
 pub mod borders;
-pub mod cursor;
 pub mod header;
 pub mod read;
+pub mod rising;
 pub mod rules;
 pub mod validate;

@@ -1,8 +1,10 @@
-// The rules 17 to 19 of document 01, on a plan file that is laid out as its header says. The counts and the points are each read once, in one
-// pass: rule 19 is judged at the points of each profile while rule 18 is judged at its count, and told where 18 holds everywhere.
-use crate::cursor::Cursor;
+// The rules 17 to 19 of document 01, on a plan file that is laid out as its header says. The counts and the points are read in one pass: rule
+// 19 is judged at the points of each profile while rule 18 is judged at its count, and told where 18 holds everywhere. A profile's points are
+// first asked whether they keep the rule (rising.rt), and scanned for the place where they do not.
 use crate::header::PlanLayout;
 use crate::read::flag_word;
+use crate::rising::is_rising;
+use blocks::cursor::Cursor;
 use network::answer::Judged;
 use network::answer::faulty;
 ghost use mathlib.Core.Path.{_≡_};
@@ -11,7 +13,7 @@ ghost use Prim.Native.Nat.{_+_, _≤_, _<_, _^_};
 ghost use lib.Dec.{leb, ltb};
 ghost use Rattle.loops.specs.First.{first};
 ghost use Rattle.plan.specs.PlanDecode.{decodePlan, PlanLaid};
-ghost use Rattle.plan.specs.Cursor.{cursorAt};
+ghost use Rattle.blocks.specs.Cursor.{cursorAt};
 ghost use Rattle.plan.specs.PlanRules.{badFlags, judgedCounts, judgedFlags};
 ghost use Rattle.plan.specs.PlanScan.{Scanned};
 ghost use Rattle.plan.specs.PlanScanAll.{Standing, ScannedOn};
@@ -66,8 +68,8 @@ fn is_outside(t: usize, low: usize, high: usize) -> bool
     high <= t
 }
 
-// Rule 19 over the points of one profile, `count` of them from number `from` on, where the cursor stands.
-fn scan_profile(plan: &[u8], l: PlanLayout, at: Cursor, from: usize, count: usize) -> Scan
+// The first bad point of one profile, `count` of them from number `from` on, where the cursor stands.
+fn find_bad(plan: &[u8], l: PlanLayout, at: Cursor, from: usize, count: usize) -> Scan
     requires { ⌜ PlanLaid (now plan) l ⌝ }
     requires { ⌜ from + count ≤ l .points ⌝ }
     requires { ⌜ at ≡ cursorAt (l .pointblock) 83 from ⌝ }
@@ -92,6 +94,23 @@ fn scan_profile(plan: &[u8], l: PlanLayout, at: Cursor, from: usize, count: usiz
         bad: l.points,
         at: next,
     }
+}
+
+// Rule 19 over the points of one profile. Where it is kept, a test that finds no place says so sooner.
+fn scan_profile(plan: &[u8], l: PlanLayout, at: Cursor, from: usize, count: usize) -> Scan
+    requires { ⌜ PlanLaid (now plan) l ⌝ }
+    requires { ⌜ from + count ≤ l .points ⌝ }
+    requires { ⌜ at ≡ cursorAt (l .pointblock) 83 from ⌝ }
+    ensures { λ r. ⌜ Scanned (decodePlan (now (plan .entry))) l from count r ⌝ }
+{
+    if is_rising(plan, l, from, count) {
+        let after = Cursor::before(l.pointblock, 83, from + count);
+        return Scan {
+            bad: l.points,
+            at: after,
+        };
+    }
+    find_bad(plan, l, at, from, count)
 }
 
 // The scan goes on over one profile more, as long as nothing is found and the points stand in the file.

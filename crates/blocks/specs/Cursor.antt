@@ -7,8 +7,8 @@ use native.Mathlib.Nat.{mod-lt, div-add-mod, div-eq-of-lt, mod-eq-of-lt}
 use native.Mathlib.Omega.{arith}
 use lib.Dec.{ltb}
 use borrow.Author.Tests.{ltb-true, ltb-false}
 use Rattle.blocks.specs.Place.{index-block, index-entry}
-use Rattle.plan.specs.declared.cursor.Cursor.{Cursor}
+use Rattle.blocks.specs.declared.cursor.Cursor.{Cursor}
 
 abbrev pub cursorAt : ℕ → ℕ → ℕ → Cursor
 cursorAt from per i = record { base = 512 * (from + i / per) + 8; slot = i % per }

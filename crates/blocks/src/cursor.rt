@@ -1,11 +1,11 @@
 // A walk over the entries of a run in their order, without a division: the byte at which the entries of a block start, and the number of
 // the entry in that block. specs/Cursor.antt says where it stands before entry i.
-use blocks::fields::le16;
+use crate::fields::le16;
 ghost use mathlib.Core.Path.{_≡_};
-ghost use Prim.Native.Nat.{_+_, _*_, _≤_, _<_};
+ghost use Prim.Native.Nat.{_+_, _*_, _/_, _^_, _≤_, _<_};
 ghost use lib.ListN.{length};
 ghost use Rattle.blocks.specs.Fields;
-ghost use Rattle.plan.specs.Cursor.{cursorFirst, moved};
+ghost use Rattle.blocks.specs.Cursor.{cursorFirst, cursorAt, moved};
 
 pub struct Cursor {
     pub base: usize,
@@ -21,6 +21,17 @@ impl Cursor {
         Cursor {
             base: 512 * from + 8,
             slot: 0,
+        }
+    }
+
+    // Before entry i of a run of `per` entries a block whose first block is `from`.
+    pub fn before(from: usize, per: usize, i: usize) -> Cursor
+        requires { ⌜ (0 < per) × (from + i / per < 2 ^ 54) ⌝ }
+        ensures { λ r. ⌜ r ≡ cursorAt from per i ⌝ }
+    {
+        Cursor {
+            base: 512 * (from + i / per) + 8,
+            slot: i % per,
         }
     }
 

@@ -1,9 +1,9 @@
--- `plan::cursor::Cursor::next` meets its contract: the test picks the arm, as the definition does.
+-- `blocks::cursor::Cursor::next` meets its contract: the test picks the arm, as the definition does.
 use borrow.Author.Needs.{needs}
 use Rattle.loops.specs.Pick.{picks}
-use Rattle.plan.specs.Cursor.{moved}
-use Rattle.plan.proofs.cursor.Cursor.next.Statement.{statement}
-use Rattle.plan.proofs.cursor.Cursor.next.Tie as tie
+use Rattle.blocks.specs.Cursor.{moved}
+use Rattle.blocks.proofs.cursor.Cursor.next.Statement.{statement}
+use Rattle.blocks.proofs.cursor.Cursor.next.Tie as tie
 
 add-if1 : tie.Need-add-if1
 add-if1 c = search needs
