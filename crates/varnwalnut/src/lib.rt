@@ -5,5 +5,5 @@
 //   reply    how numbers and bytes are written
 // It may call every operation. No entry requires anything.
 pub mod desk;
-pub mod reply;
+mod reply;
 pub mod trip;

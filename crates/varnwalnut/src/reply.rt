@@ -13,13 +13,13 @@ ghost use Rattle.trips.specs.declared.answer.Answer.the-variants as answered;
 ghost use Rattle.varnwalnut.specs.Reply.{bytes, roadBytes, tripBytes, tripCode, tripCount};
 
 // The refusal of an answer for which there is too little room.
-pub const SHORT: u32 = 31;
+pub(crate) const SHORT: u32 = 31;
 
 // The bytes of the longest answer to a trip, which lists 511 roads.
-pub const TRIP_BYTES: usize = 1032;
+pub(crate) const TRIP_BYTES: usize = 1032;
 
 // The numbers become the first of the lent ones.
-pub fn write(numbers: &[u32], answer: &mut [u32])
+pub(crate) fn write(numbers: &[u32], answer: &mut [u32])
     requires { ⌜ length (now numbers) ≤ length (now answer) ⌝ }
     ensures { λ _. ⌜ now (answer .exit) ≡ overwritten (now (numbers .entry)) (now (answer .entry)) ⌝ }
 {
@@ -60,7 +60,7 @@ fn write_arrived(a: Arrival, roads: &[u16], answer: &mut [u8])
 }
 
 // The answer to a trip whose roads stand in a list, and its refusal or 0.
-pub fn write_trip(trip: Answer, roads: &[u16], answer: &mut [u8]) -> u32
+pub(crate) fn write_trip(trip: Answer, roads: &[u16], answer: &mut [u8]) -> u32
     requires { ⌜ (tripCount trip ≤ 511) × (511 ≤ length (now roads)) × (1032 ≤ length (now answer)) ⌝ }
     ensures code { λ r. ⌜ r ≡ tripCode trip ⌝ }
     ensures bytes { λ _. ⌜ now (answer .exit) ≡ sets (now (answer .entry)) 0 (tripBytes trip (take (tripCount trip) (now (roads .entry)))) ⌝ }
