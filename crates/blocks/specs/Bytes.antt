@@ -12,9 +12,9 @@ use lib.Seq.{ext-getD, getD-take, getD-drop, length-take-le}
 use lib.Dec.{ltb, eqb}
 use borrow.Author.Tests.{lt-ltb, le-ltb, eq-eqb, eqb-true}
 use Rattle.loops.specs.Fill.{tab, length-tab, getD-tab}
-use Rattle.blocks.specs.Fields.{Bytes, le16, le32, byteOf, byteOf-below, le32-byte, le32-is}
-use Rattle.blocks.specs.Sum.{sums, checked, good, sums-below}
-use Rattle.blocks.specs.declared.sum.Sums.{Sums}
+use Rattle.words.specs.Fields.{Bytes, le16, le32, byteOf, byteOf-below, le32-byte, le32-is}
+use Rattle.words.specs.Sum.{sums, checked, good, sums-below}
+use Rattle.words.specs.declared.sum.Sums.{Sums}
 
 -- A and then B, as the one number that their four bytes make
 abbrev pub check : Sums → ℕ

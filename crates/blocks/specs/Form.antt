@@ -9,7 +9,7 @@ use lib.ListN.{getD}
 use lib.Dec.{eqb}
 use borrow.Author.Tests.{eq-eqb, ne-eqb, eqb-true, le-ltb, ltb-false, not-true, not-false}
 use Rattle.loops.specs.First.{first, any, First, some, none, none-yet, pass, clear, first-le, first-is}
-use Rattle.blocks.specs.Fields.{le16, le32}
+use Rattle.words.specs.Fields.{le16, le32}
 use Rattle.blocks.specs.Place.{entriesIn}
 
 -- byte k from a on is no zero

@@ -1,10 +1,7 @@
 -- What the contracts of this crate say, one subject a module, in the order in which they build on each other.
-pub mod Fields
-pub mod Put
 pub mod Place
 pub mod Cursor
 pub mod Table
-pub mod Sum
 pub mod Form
 pub mod Read
 pub mod Bytes

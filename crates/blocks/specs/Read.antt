@@ -6,7 +6,7 @@ use Prim.Native.Nat.{ℕ, _/_, _<_}
 use borrow.Author.Tests.{lt-leb}
 use lib.ListN.{length}
 use lib.Dec.{leb}
-use Rattle.blocks.specs.Sum.{good}
+use Rattle.words.specs.Sum.{good}
 use Rattle.blocks.specs.declared.reader.Step.{Step}
 use Rattle.blocks.specs.declared.reader.Step.the-variants.{Good, Bad, End}
 

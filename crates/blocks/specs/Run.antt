@@ -10,7 +10,7 @@ use native.Mathlib.Omega.{arith}
 use lib.ListN.{getD}
 use lib.Dec.{ltb, eqb}
 use borrow.Author.Tests.{lt-ltb, le-ltb}
-use Rattle.blocks.specs.Fields.{Bytes, number, byteOf, byteOf-below, number-byteOf, number-same, le16-byte, le32-byte, le16-is, le32-is}
+use Rattle.words.specs.Fields.{Bytes, number, byteOf, byteOf-below, number-byteOf, number-same, le16-byte, le32-byte, le16-is, le32-is}
 use Rattle.blocks.specs.Place.{offset, blocks, entriesIn, index-in, index-below, offset-at, block-below}
 use Rattle.blocks.specs.Form.{formed, runFormed, Formed, formed-parts, parts-formed}
 

@@ -6,8 +6,8 @@ use native.Mathlib.Nat.{mul-le-mul-left, lt-div-mul-add, mul-comm}
 use native.Mathlib.Omega.{arith}
 use lib.ListN.{length, set}
 use Rattle.loops.specs.Fill.{Filled, fill-none, fill-up, fill-end}
-use Rattle.blocks.specs.Fields.{le16}
-use Rattle.blocks.specs.Put.{fill-within, fill-join}
+use Rattle.words.specs.Fields.{le16}
+use Rattle.words.specs.Put.{fill-within, fill-join}
 use Rattle.blocks.specs.Place.{offset, blocks, entriesIn, Stored, offset-at, block-starts}
 
 -- the field at byte `at` of entry i

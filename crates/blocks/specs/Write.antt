@@ -6,10 +6,10 @@ use Prim.Native.Nat.{ℕ, _+_, _-_, _*_, _≤_, _<_}
 use native.Mathlib.Omega.{arith}
 use lib.ListN.{length, getD, take, drop}
 use Rattle.loops.specs.Fill.{Filled, fill-end, fill-none, tab}
-use Rattle.blocks.specs.Fields.{byteOf}
-use Rattle.blocks.specs.Put.{put, put-filled, put-pair, fill-put}
-use Rattle.blocks.specs.Sum.{sums, checked, sums-below, sums-at}
-use Rattle.blocks.specs.declared.sum.Sums.{Sums}
+use Rattle.words.specs.Fields.{byteOf}
+use Rattle.words.specs.Put.{put, put-filled, put-pair, fill-put}
+use Rattle.words.specs.Sum.{sums, checked, sums-below, sums-at}
+use Rattle.words.specs.declared.sum.Sums.{Sums}
 use Rattle.blocks.specs.Bytes.{check, fileByte, fileByte-at, stored-body, stored-check, checked-body}
 use Rattle.blocks.specs.Run.{headByte, head-first, head-entries, head-number}
 

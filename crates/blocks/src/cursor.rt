@@ -1,10 +1,10 @@
 // A walk over the entries of a run in their order, without a division: the byte at which the entries of a block start, and the number of
 // the entry in that block. specs/Cursor.antt says where it stands before entry i.
-use crate::fields::le16;
+use words::fields::le16;
 ghost use mathlib.Core.Path.{_≡_};
 ghost use Prim.Native.Nat.{_+_, _*_, _/_, _^_, _≤_, _<_};
 ghost use lib.ListN.{length};
-ghost use Rattle.blocks.specs.Fields;
+ghost use Rattle.words.specs.Fields;
 ghost use Rattle.blocks.specs.Cursor.{cursorFirst, cursorAt, moved};
 
 pub struct Cursor {

@@ -1,8 +1,8 @@
 // A block's form, and the first block of a run that has not the form it is to have: specs/Form.antt.
-use crate::fields::le16;
-use crate::fields::le32;
 use crate::place::blocks;
 use crate::place::entries_in;
+use words::fields::le16;
+use words::fields::le32;
 ghost use mathlib.Core.Path.{_≡_};
 ghost use Prim.Native.Nat.{_+_, _*_, _≤_, _<_, _^_};
 ghost use lib.ListN.{length};

@@ -1,6 +1,6 @@
 // Where the entries of a kind stand in a file, and a table filled from one field of them.
 // A kind is given by its first block, its entries a block and an entry's size: specs/Place.antt.
-use crate::fields::le16;
+use words::fields::le16;
 ghost use mathlib.Core.Path.{_≡_};
 ghost use Prim.Native.Nat.{_+_, _-_, _*_, _/_, _%_, _≤_, _<_, _^_, min};
 ghost use lib.ListN.{length};

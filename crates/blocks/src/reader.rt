@@ -1,6 +1,6 @@
 // A reader that carries the lent blocks and the number of the next one: specs/Read.antt.
 // Each function over it takes the struct apart and leaves the work to `step_at`; `read` stands above them, and whoever walks blocks calls that.
-use crate::sum::is_good;
+use words::sum::is_good;
 ghost use mathlib.Core.Path.{_≡_};
 ghost use Prim.Native.Nat.{_/_};
 ghost use lib.ListN.{length};

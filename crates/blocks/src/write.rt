@@ -1,8 +1,8 @@
 // A block's bytes written into a lent file: its head, zeros after its entries, and its check once all else stands.
 // Each contract gives the list that is left; specs/Write.antt says of each which bytes that changes, and to what.
-use crate::fields::put16;
-use crate::fields::put32;
-use crate::sum::sums_of;
+use words::fields::put16;
+use words::fields::put32;
+use words::sum::sums_of;
 ghost use mathlib.Core.Path.{_≡_};
 ghost use Prim.Native.Nat.{_+_, _*_, _≤_, _<_, _^_};
 ghost use lib.ListN.{length};

@@ -1,7 +1,7 @@
 -- The first index below a bound at which a test holds, with its laws: what every loop cites that is left at the first failing index.
 use mathlib.Core.Path.{_≡_, refl, sym, _∙_}
 use mathlib.Core.Logic.{_↔_}
-use mathlib.Core.Bool.{Bool, true, false}
+use mathlib.Core.Bool.{Bool, true, false, cond}
 use Prim.Native.Nat.{ℕ, zero, suc, _+_, _≤_, _<_}
 use native.Mathlib.Nat.{le-antisymm}
 use native.Mathlib.Decide.{decLe}
@@ -120,6 +120,16 @@ module _ (p : ℕ → Bool) where
 
   pub no-any : (n i : ℕ) → first i p ≡ i → i ≤ n → n ≤ i → any n p ≡ false
   no-any n i e l h = sym (none n i e l h)
+
+-- one index more
+pub first-more : (k : ℕ) (p : ℕ → Bool) → first (suc k) p ≡ cond (ltb (first k p) k) (first k p) (cond (p k) k (suc k))
+unfolding first
+first-more k p = go (ltb (first k p) k) (p k)
+  where
+    go : (a b : Bool) → (elim a [ true ↦ first k p | false ↦ elim b [ true ↦ k | false ↦ suc k ] ]) ≡ cond a (first k p) (cond b k (suc k))
+    go true b = refl
+    go false true = refl
+    go false false = refl
 
 -- two tests that agree below n have one first
 pub first-same : (p q : ℕ → Bool) (n : ℕ) → ((k : ℕ) → k < n → p k ≡ q k) → first n p ≡ first n q

@@ -39,17 +39,11 @@ module _ (p : ℕ → ℕ → ℕ → Bool) (l m n : ℕ) where
     third : k ≡ first n (p i j)
     third = stop (p i j) n k ek lk h
 
-    pub triple-any : anyTriple l m n p ≡ true
+    triple-any : anyTriple l m n p ≡ true
     triple-any = yes-any _ l i li at-first
 
-    pub triple-first : i ≡ firstOf l m n p
+    triple-first : i ≡ firstOf l m n p
     triple-first = stop _ l i ei li at-first
-
-    pub triple-second : j ≡ secondOf l m n p
-    triple-second = rw (← triple-first) second
-
-    pub triple-third : k ≡ thirdOf l m n p
-    triple-third = rw (← triple-first, ← second) third
 
     pub triple-at : {A : Type 0} (f : ℕ → ℕ → ℕ → A) (r b : A) → r ≡ f i j k → r ≡ firstTripleRung f l m n p b
     unfolding firstTripleRung
@@ -57,7 +51,7 @@ module _ (p : ℕ → ℕ → ℕ → Bool) (l m n : ℕ) where
 
   -- the outer loop ran to its end
   module _ (i : ℕ) (e : first i (λ i. any m (λ j. any n (p i j))) ≡ i) (h : i ≤ l) (g : l ≤ i) where
-    pub triple-none : anyTriple l m n p ≡ false
+    triple-none : anyTriple l m n p ≡ false
     triple-none = no-any _ l i e h g
 
     pub triple-past : {A : Type 0} (f : ℕ → ℕ → ℕ → A) (r b : A) → r ≡ b → r ≡ firstTripleRung f l m n p b
@@ -70,6 +64,3 @@ module _ (p : ℕ → ℕ → ℕ → Bool) (l m n : ℕ) where
     λ e i j k li lj lk. any-clear (p i j) n .0 (any-clear (λ j. any n (p i j)) m .0 (any-clear (λ i. any m (λ j. any n (p i j))) l .0 e i li) j lj) k lk,
     λ h. any-clear _ l .1 (λ i li. any-clear _ m .1 (λ j lj. any-clear (p i j) n .1 (λ k lk. h i j k li lj lk))),
   )
-
--- for `search (triples, firsts)` where such loops are left
-pub ruleset triples = (triple-at, triple-past, triple-any, triple-first, triple-second, triple-third, triple-none)

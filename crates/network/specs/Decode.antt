@@ -7,7 +7,7 @@ use native.Mathlib.Omega.{arith}
 use lib.ListN.{length, getD}
 use lib.Dec.{lit<, lit≤}
 use Rattle.loops.specs.Fill.{tab, getD-tab, length-tab}
-use Rattle.blocks.specs.Fields.{le16, le32}
+use Rattle.words.specs.Fields.{le16, le32}
 use Rattle.blocks.specs.Table.{entry16}
 use Rattle.blocks.specs.Place.{offset, blocks, entry-in, block-below}
 use Rattle.network.specs.declared.header.Header.{Header}

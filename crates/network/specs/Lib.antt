@@ -4,13 +4,9 @@ pub mod Layout
 pub mod Network
 pub mod Decode
 pub mod Rules
-pub mod Scan
-pub mod ScanAll
-pub mod Steady
+pub mod FirstPoint
 pub mod Sound
-pub mod Judge
 pub mod Validate
 pub mod Valid
 pub mod Numbers
-pub mod Open
 pub mod Town

@@ -14,7 +14,7 @@ use Rattle.travel.specs.Day.{Day, closed, closed-in}
 use Rattle.network.specs.declared.answer.Judged.the-variants.{Sound}
 use Rattle.network.specs.Network.{Network, nodes, arcs, points, cell, tail, head, count, start}
 use Rattle.network.specs.Rules.{faulty, badCell, badEnds, badArc, misplaced, badPointBy, badPoint, overtaken, ticksOf, travelsOf, badPointOf, overtakenOf, firstPoint, judgedPoints, judgedSum, judgedArcs, judged}
-use Rattle.network.specs.ScanAll.{Counted, anyOf, points-in, none-first, at-first}
+use Rattle.network.specs.FirstPoint.{Counted, anyOf, points-in, none-first, at-first}
 
 -- 8, of arc a
 pub record SoundArc (n : Network) (a : ℕ) : Type 0 where

@@ -11,7 +11,7 @@ use lib.Dec.{ltb, eqb}
 use borrow.Author.Tests.{ltb-false, eqb-true, not-false, le-ltb, eq-eqb, ne-eqb}
 use Rattle.loops.specs.Pick.{firstRung, passed-by, reached-by, rung-passed, rung-clear}
 use Rattle.blocks.specs.Place.{blocks}
-use Rattle.blocks.specs.Sum.{good}
+use Rattle.words.specs.Sum.{good}
 use Rattle.blocks.specs.Form.{formed, runFormed, unformed}
 use Rattle.blocks.specs.Read.{bad}
 use Rattle.network.specs.declared.answer.Judged.{Judged}

@@ -11,7 +11,7 @@ use lib.Dec.{ltb, eqb, lit<, lit≤}
 use borrow.Author.Tests.{lt-ltb, le-ltb, eq-eqb, ne-eqb, eqb-true, eqb-false, ltb-false, not-false}
 use Rattle.loops.specs.First.{first, first-le}
 use Rattle.loops.specs.Pick.{firstRung, at-first, past-first, or-passed}
-use Rattle.blocks.specs.Fields.{le16, le32}
+use Rattle.words.specs.Fields.{le16, le32}
 use Rattle.blocks.specs.Place.{blocks, Stored}
 use Rattle.blocks.specs.Form.{formed, unformed}
 use Rattle.blocks.specs.Read.{bad}

@@ -12,7 +12,7 @@ fn field(file: &[u8], from: usize, per: usize, size: usize, at: usize, i: usize)
     requires { ⌜ Readable (now file) from per size at i ⌝ }
     ensures { λ r. ⌜ (r ≡ entry16 (now (file .entry)) from per size at i) × (r < 65536) ⌝ }
 {
-    blocks::fields::le16(file, blocks::place::offset(from, per, size, i) + at) as usize
+    words::fields::le16(file, blocks::place::offset(from, per, size, i) + at) as usize
 }
 
 // The cell of node v.

@@ -12,12 +12,12 @@ use lib.Seq.{ext-getD}
 use lib.Dec.{ltb}
 use borrow.Author.Tests.{lt-ltb, le-ltb}
 use Rattle.loops.specs.Fill.{Filled, fill-none, fill-end, tab, length-tab, getD-tab}
-use Rattle.blocks.specs.Fields.{byteOf}
+use Rattle.words.specs.Fields.{byteOf}
 use Rattle.blocks.specs.Place.{blocks, entriesIn, index-below}
-use Rattle.blocks.specs.Sum.{sums, checked}
+use Rattle.words.specs.Sum.{sums, checked}
 use Rattle.blocks.specs.Bytes.{check, stored, fileByte, fileByte-at, stored-body, stored-check, checked-body}
 use Rattle.blocks.specs.Run.{headByte, entryByte, runBody, past-byte}
-use Rattle.blocks.specs.Put.{put, fill-put, fill-within, fill-join}
+use Rattle.words.specs.Put.{put, fill-put, fill-within, fill-join}
 use Rattle.blocks.specs.Write.{headed, sealed, headed-filled, sealed-filled}
 
 -- byte i of entries of `size` bytes that start at byte `base`, the first of them entry `first`; entry e has the bytes f e

@@ -8,7 +8,7 @@ use native.Mathlib.Omega.{arith}
 use lib.ListN.{length, getD}
 use lib.Dec.{ltb}
 use borrow.Author.Tests.{lt-ltb, le-ltb}
-use Rattle.blocks.specs.Fields.{byteOf, byteOf-low, byteOf-high}
+use Rattle.words.specs.Fields.{byteOf, byteOf-low, byteOf-high}
 use Rattle.blocks.specs.Bytes.{fileOf}
 use Rattle.blocks.specs.Run.{runBody, headerBody}
 use Rattle.network.specs.declared.header.Header.{Header}

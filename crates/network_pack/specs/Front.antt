@@ -16,7 +16,7 @@ use Rattle.network.specs.Layout.{layoutOf, allBlocks}
 use Rattle.network.specs.Network.{Network}
 use Rattle.network.specs.Decode.{headerAt, decode, Laid, LaidBlocks}
 use Rattle.network.specs.Rules.{judged}
-use Rattle.network.specs.Open.{overwritten}
+use Rattle.network_open.specs.Open.{overwritten}
 use Rattle.network_pack.specs.Encode.{encode, Words, Proper}
 use Rattle.network_pack.specs.Holds.{tab-is}
 use Rattle.network_pack.specs.RoundTrip.{encode-long, header-encode, decode-encode}

@@ -11,9 +11,9 @@ use lib.ListN.{length, getD}
 use lib.Seq.{ext-getD}
 use lib.Dec.{lit<, lit≤}
 use Rattle.loops.specs.Fill.{tab, getD-tab, length-tab}
-use Rattle.blocks.specs.Fields.{Bytes, le16, le32, number, byteOf, byteOf-number, le16-number, le16-is, le32-is}
+use Rattle.words.specs.Fields.{Bytes, le16, le32, number, byteOf, byteOf-number, le16-number, le16-is, le32-is}
 use Rattle.blocks.specs.Place.{offset, blocks}
-use Rattle.blocks.specs.Sum.{good}
+use Rattle.words.specs.Sum.{good}
 use Rattle.blocks.specs.Form.{formed}
 use Rattle.blocks.specs.Bytes.{body-byte, file-is}
 use Rattle.blocks.specs.Run.{runBody, RunLaid, laid-run, run-laid, run-formed, formed-run, run-value}

@@ -21,7 +21,7 @@ use Rattle.network.specs.Limits.{made, Within, made-within}
 use Rattle.network.specs.Layout.{layoutOf}
 use Rattle.network.specs.Network.{Network}
 use Rattle.network.specs.Rules.{refusal, judged}
-use Rattle.network.specs.Open.{tooShort, overwritten, Room, open-room}
+use Rattle.network_open.specs.Open.{tooShort, overwritten, Room, open-room}
 use Rattle.network_pack.specs.Encode.{encode}
 
 -- the header of these numbers

@@ -11,7 +11,7 @@ use borrow.Author.Tests.{le-ltb}
 use lib.Seq.{take-at}
 use Rattle.loops.specs.Fill.{length-tab}
 use Rattle.loops.specs.Pick.{passed-by}
-use Rattle.blocks.specs.Fields.{Bytes}
+use Rattle.words.specs.Fields.{Bytes}
 use Rattle.network.specs.declared.answer.Judged.{Judged}
 use Rattle.network.specs.declared.answer.Judged.the-variants.{Sound, Faulty}
 use Rattle.network.specs.declared.answer.Opening.{Opening}
@@ -30,7 +30,7 @@ use Rattle.network.specs.Rules.{refusal, judged}
 use Rattle.network.specs.Sound.{sound-exactly}
 use Rattle.network.specs.Validate.{validated}
 use Rattle.network.specs.Valid.{ValidFile, valid-exactly}
-use Rattle.network.specs.Open.{tooShort, openedIn, opening, overwritten}
+use Rattle.network_open.specs.Open.{tooShort, openedIn, opening, overwritten}
 use Rattle.network_pack.specs.Encode.{headerOf, encode, Proper}
 use Rattle.network_pack.specs.RoundTrip.{decode-encode, encode-valid, encode-decode}
 use Rattle.network_pack.specs.Pack.{networkOf, numbers, Packable, packedInto, packedRules, packedTables, packedMade, packing, now-packable}

@@ -8,7 +8,7 @@ use native.Mathlib.Omega.{arith}
 use native.Mathlib.Decide.{decLt}
 use lib.ListN.{length, List·getD-eq-default}
 use Rattle.loops.specs.Fill.{tab, getD-tab, length-tab}
-use Rattle.blocks.specs.Fields.{Bytes}
+use Rattle.words.specs.Fields.{Bytes}
 use Rattle.blocks.specs.Place.{offset}
 use Rattle.blocks.specs.Bytes.{file-good}
 use Rattle.blocks.specs.Table.{entry16}

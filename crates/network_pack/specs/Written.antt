@@ -10,7 +10,7 @@ use lib.Dec.{lit<, lit≤}
 use Rattle.loops.specs.Fill.{Filled, filled-list, length-tab}
 use Rattle.blocks.specs.Bytes.{fileByte}
 use Rattle.blocks.specs.Run.{runBody, headerBody}
-use Rattle.blocks.specs.Put.{put, fill-join}
+use Rattle.words.specs.Put.{put, fill-join}
 use Rattle.network.specs.declared.header.Header.{Header}
 use Rattle.network.specs.declared.header.Layout.{Layout}
 use Rattle.network.specs.Limits.{Within}
@@ -19,7 +19,7 @@ use Rattle.network.specs.Network.{Network}
 use Rattle.network.specs.Decode.{LaidBlocks}
 use Rattle.network_pack.specs.Encode.{headerOf, encodeBy, encode, headerByte, cellByte, arcByte, pointByte, bodyBy, header-body, cells-body, arcs-body, points-body, number-byte, period-byte, nodes-byte, arcs-byte, cells-byte, points-byte}
 use Rattle.network_pack.specs.Block.{partByte, InRun, entry-none, entry-first, entry-field, entry-put, same-body, same-block}
-use Rattle.network.specs.Open.{overwritten}
+use Rattle.network_open.specs.Open.{overwritten}
 use Rattle.network_pack.specs.Pack.{networkOf, Packable}
 
 -- AN ENTRY is put as one number

@@ -1,24 +1,24 @@
 // The file of a network, written block by block from its start on. specs/Encode.antt says which bytes these are, and specs/Block.antt that a head,
 // entries, zeros and a check make a block of them.
-use blocks::fields::put16;
-use blocks::fields::put32;
 use blocks::place::entries_in;
 use blocks::write::write_check;
 use blocks::write::write_head;
 use blocks::write::write_zeros;
 use network::header::Header;
 use network::header::Layout;
+use words::fields::put16;
+use words::fields::put32;
 ghost use mathlib.Core.Path.{_≡_};
 ghost use Prim.Native.Nat.{_+_, _*_, _^_, _≤_, _<_};
 ghost use lib.ListN.{length};
 ghost use Rattle.loops.specs.Fill.{Filled};
 ghost use Rattle.blocks.specs.Bytes.{fileByte};
-ghost use Rattle.blocks.specs.Put.{put};
+ghost use Rattle.words.specs.Put.{put};
 ghost use Rattle.blocks.specs.Run.{runBody, headerBody};
 ghost use Rattle.network.specs.Limits.{Within};
 ghost use Rattle.network_pack.specs.Encode.{headerByte, cellByte, arcByte, pointByte, bodyBy, encode};
 ghost use Rattle.network_pack.specs.Block.{partByte, InRun};
-ghost use Rattle.network.specs.Open.{overwritten};
+ghost use Rattle.network_open.specs.Open.{overwritten};
 ghost use Rattle.network_pack.specs.Pack.{networkOf, Packable};
 
 // Two fields of two bytes, one behind the other.

@@ -7,9 +7,6 @@ pub mod PlanLayout
 pub mod Marks
 pub mod PlanDecode
 pub mod PlanRules
-pub mod PlanScan
-pub mod Rising
-pub mod PlanScanAll
 pub mod PlanValidate
 pub mod PlanMatch
 pub mod WellFormed

@@ -8,7 +8,7 @@ use native.Mathlib.Omega.{arith}
 use lib.ListN.{length, getD}
 use lib.Dec.{lit<, lit≤}
 use Rattle.loops.specs.Fill.{tab, getD-tab, length-tab}
-use Rattle.blocks.specs.Fields.{le16, le32, le64}
+use Rattle.words.specs.Fields.{le16, le32, le64}
 use Rattle.blocks.specs.Table.{entry16}
 use Rattle.blocks.specs.Place.{offset, blocks, Stored, entry-in, block-below}
 use Rattle.plan.specs.declared.header.PlanHeader.{PlanHeader}

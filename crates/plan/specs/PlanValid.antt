@@ -10,9 +10,9 @@ use lib.ListN.{length}
 use lib.Dec.{ltb, eqb}
 use borrow.Author.Tests.{ltb-false, eqb-true, not-false, le-ltb, eq-eqb, ne-eqb}
 use Rattle.loops.specs.Pick.{firstRung, passed-by, reached-by, rung-passed, rung-clear}
-use Rattle.blocks.specs.Fields.{le16}
+use Rattle.words.specs.Fields.{le16}
 use Rattle.blocks.specs.Place.{blocks}
-use Rattle.blocks.specs.Sum.{good}
+use Rattle.words.specs.Sum.{good}
 use Rattle.blocks.specs.Form.{formed, unformed}
 use Rattle.blocks.specs.Read.{bad}
 use Rattle.network.specs.declared.answer.Judged.{Judged}

@@ -12,7 +12,7 @@ use lib.Dec.{leb, ltb, eqb}
 use borrow.Author.Tests.{lt-ltb, le-ltb, eq-eqb, ne-eqb, eqb-true, eqb-false, ltb-false, not-false}
 use Rattle.loops.specs.First.{first}
 use Rattle.loops.specs.Pick.{firstRung, at-first, past-first, or-passed}
-use Rattle.blocks.specs.Fields.{le16}
+use Rattle.words.specs.Fields.{le16}
 use Rattle.blocks.specs.Place.{blocks}
 use Rattle.blocks.specs.Form.{formed, unformed}
 use Rattle.blocks.specs.Read.{bad}

@@ -1,17 +1,15 @@
 -- The check of a well-formed plan against a network: the lowest of 20 to 24 that fails anywhere, then its first place. From 21 on the places are the
 -- border's number, the node and the tick.
-use mathlib.Core.Path.{_≡_, refl}
-use mathlib.Core.Bool.{cond}
 use Prim.Native.Nat.{ℕ}
 use Rattle.loops.specs.Pick.{firstRung}
-use Rattle.loops.specs.Triple.{anyTriple, firstOf, secondOf, thirdOf, firstTripleRung}
+use Rattle.loops.specs.Triple.{firstTripleRung}
 use Rattle.network.specs.Network.{Network, nodes, arcs}
 use Rattle.network.specs.Rules.{refusal}
 use Rattle.plan_check.specs.declared.answer.Checking.{Checking}
 use Rattle.plan_check.specs.declared.answer.Checking.the-variants.{Accepted, Refused}
 use Rattle.plan.specs.Border.{borderCount}
 use Rattle.plan.specs.Plan.{Plan}
-use Rattle.plan_check.specs.Tests.{fails20, fails}
+use Rattle.plan_tests.specs.Tests.{fails20, fails}
 
 -- a refusal at a border number, a node and a tick
 abbrev pub refusedAt : ℕ → ℕ → ℕ → ℕ → Checking
@@ -19,13 +17,7 @@ refusedAt number i u x = Refused (record { number = number; first = i; second = 
 
 -- a rung of the ladder: the test fails at some triple
 unfoldable pub tripleRung : ℕ → Network → Plan → Checking → Checking
-tripleRung number n p next =
-    let b = borderCount n in
-    let v = nodes n in
-    let t = n .period in
-    cond (anyTriple b v t (fails number n p))
-    (refusedAt number (firstOf b v t (fails number n p)) (secondOf b v t (fails number n p)) (thirdOf b v t (fails number n p)))
-    next
+tripleRung number n p next = firstTripleRung (refusedAt number) (borderCount n) (nodes n) (n .period) (fails number n p) next
 
 unfoldable pub checked : Network → Plan → Checking
 checked n p =
@@ -35,9 +27,3 @@ checked n p =
     (tripleRung 23 n p
     (tripleRung 24 n p
     Accepted))))
-
--- FOR THE CODE: the rung in the shape that `search (triples, firsts)` knows
-pub rung-triple : (number : ℕ) (n : Network) (p : Plan) (next : Checking)
-    → tripleRung number n p next ≡ firstTripleRung (refusedAt number) (borderCount n) (nodes n) (n .period) (fails number n p) next
-unfolding tripleRung firstTripleRung
-rung-triple number n p next = refl

@@ -16,7 +16,7 @@ use Rattle.network.specs.Decode.{decode, Laid, laid-sizes}
 use Rattle.network.specs.Sound.{SoundNetwork}
 use Rattle.network.specs.Validate.{validated}
 use Rattle.network.specs.Valid.{ValidFile, valid-laid, valid-exactly}
-use Rattle.search.specs.Town.{town-of}
+use Rattle.arcs.specs.Town.{town-of}
 use Rattle.plan.specs.declared.answer.Planning.{Planning}
 use Rattle.plan.specs.declared.answer.Planning.the-variants as planning
 use Rattle.plan_check.specs.declared.answer.Checking.{Checking}
@@ -32,7 +32,8 @@ use Rattle.plan.specs.PlanValidate.{planned}
 use Rattle.plan.specs.PlanValid.{ValidPlan, valid-within, valid-plan-laid, valid-for, plan-exactly}
 use Rattle.plan_check.specs.Check.{checked}
 use Rattle.plan_check.specs.CheckPlan.{checkedBy, checking}
-use Rattle.plan_check.specs.Checkable.{Checkable, formed-of}
+use Rattle.plan_tests.specs.Checkable.{Checkable}
+use Rattle.profiles.specs.Formed.{formed-of}
 use Rattle.plan_check.specs.Finding.{Listed}
 
 module _ {network : List ℕ} {h : Header} (v : ValidFile network h) where

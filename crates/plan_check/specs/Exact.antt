@@ -7,7 +7,7 @@ use mathlib.Core.Bool.{false}
 use Prim.Native.Nat.{ℕ, _≤_, _<_}
 use native.Mathlib.Omega.{arith}
 use Rattle.loops.specs.Pick.{passed-by, rung-passed, rung-clear}
-use Rattle.loops.specs.Triple.{triple-clear}
+use Rattle.loops.specs.Triple.{firstTripleRung, triple-clear}
 use Rattle.paths.specs.Flags.{EnoughFlags, TrueProfiles, Checked, checked-exact}
 use Rattle.network.specs.Network.{Network, nodes, arcs, cell}
 use Rattle.network.specs.Rules.{refusal}
@@ -18,7 +18,7 @@ use Rattle.plan_check.specs.declared.answer.Checking.{Checking}
 use Rattle.plan_check.specs.declared.answer.Checking.the-variants.{Accepted, Refused}
 use Rattle.plan.specs.Border.{borderCount}
 use Rattle.plan.specs.Plan.{Plan, flag, profileTo}
-use Rattle.plan_check.specs.Tests.{fails20, fails}
+use Rattle.plan_tests.specs.Tests.{fails20, fails}
 use Rattle.plan_check.specs.Check.{tripleRung, checked}
 use Rattle.plan_check.specs.Meaning.{Nowhere, inside-exactly, local-exactly, flags-exactly}
 
@@ -36,13 +36,13 @@ module _ (n : Network) (p : Plan) where
   not-accepted r e = let z : _≡_ {A = ℕ} 0 1 = cc in omega arith
 
   rung-nowhere : (number : ℕ) (next : Checking) → tripleRung number n p next ≡ Accepted → Nowhere n p number × (next ≡ Accepted)
-  unfolding tripleRung
+  unfolding tripleRung firstTripleRung
   rung-nowhere number next e =
       let (c, f) = passed-by _ _ next Accepted (not-accepted _) e in
       (triple-clear (fails number n p) (borderCount n) (nodes n) (n .period) .0 c, f)
 
-  nowhere-rung : (number : ℕ) (next : Checking) → Nowhere n p number → tripleRung number n p next ≡ next
-  unfolding tripleRung
+  pub nowhere-rung : (number : ℕ) (next : Checking) → Nowhere n p number → tripleRung number n p next ≡ next
+  unfolding tripleRung firstTripleRung
   nowhere-rung number next h = rw (triple-clear (fails number n p) (borderCount n) (nodes n) (n .period) .1 h)
 
   accepted-passed : checked n p ≡ Accepted → NoneFails n p

@@ -16,8 +16,8 @@ use Rattle.network.specs.Network.{Network, nodes, arcs, tail, start}
 use Rattle.network.specs.Decode.{decode}
 use Rattle.network.specs.Rules.{refusal}
 use Rattle.network.specs.declared.answer.Refusal.{Refusal}
-use Rattle.search.specs.Chain.{endOf, Chained}
-use Rattle.search.specs.declared.chain.End.the-variants.{Tail}
+use Rattle.arcs.specs.Chain.{endOf, Chained}
+use Rattle.arcs.specs.declared.chain.End.the-variants.{Tail}
 use Rattle.plan_check.specs.declared.answer.Checking.{Checking}
 use Rattle.plan_check.specs.declared.answer.Checking.the-variants.{Accepted, Refused}
 use Rattle.plan_check.specs.declared.check.Triple.{Triple}
@@ -27,11 +27,13 @@ use Rattle.plan.specs.declared.header.PlanLayout.{PlanLayout}
 use Rattle.plan.specs.Border.{isBorder, borders, borderCount, borderAt}
 use Rattle.plan.specs.Plan.{Plan, pointCount, pointStart}
 use Rattle.plan.specs.PlanDecode.{decodePlan}
-use Rattle.plan_check.specs.Tests.{fails20, fails}
+use Rattle.plan_tests.specs.Tests.{fails20, fails}
 use Rattle.plan_check.specs.Check.{refusedAt, tripleRung, checked}
-use Rattle.plan_check.specs.Checkable.{Checkable}
-use Rattle.plan_check.specs.Starts.{startOf, started-of}
-use Rattle.plan_check.specs.Giving.{Prepared}
+use Rattle.plan_check.specs.Exact.{nowhere-rung}
+use Rattle.plan_check.specs.Clean.{NothingFails}
+use Rattle.plan_tests.specs.Checkable.{Checkable}
+use Rattle.profiles.specs.Starts.{startOf, started-of}
+use Rattle.plan_tests.specs.Failing.{AtBorder}
 
 abbrev pub foundAt : ℕ → ℕ → ℕ → Found
 foundAt i u x = At (record { border = i; node = u; tick = x })
@@ -65,15 +67,18 @@ module _ {network : List ℕ} {l : Layout} {plan : List ℕ} {pl : PlanLayout} {
   unfolding firstFailing
   failing-is number e = rw (w .check .borders, w .check .town .sizes .nodes, w .check .town .sizes .period) at e
 
-  module _ {i : ℕ} (h : i < pl .borders) where
-    pub prepared-of : {old starts : List ℕ} → Filled 0 (pl .nodes) (startOf (decodePlan plan) (pl .nodes) i) old starts → Prepared network l plan pl points i starts
-    prepared-of f = record { check = w .check; first = w .point; started = started-of f; border = h }
-
-    pub border-is : {b : ℕ} → b ≡ getD list i 0 → b ≡ borderAt (decode network) i
-    border-is e = e ∙ w .listed .at i (omega (arith, w .check .borders))
-
-    pub border-node : {b : ℕ} → b ≡ getD list i 0 → b < l .nodes
-    border-node e = omega (arith, border-is e, border-below (decode network) i (omega (arith, w .check .borders)), w .check .town .sizes .nodes)
+  -- the tables of border number i are filled, and b was read in the list
+  pub at-border : {i b : ℕ} {old starts : List ℕ} → i < pl .borders → Filled 0 (pl .nodes) (startOf (decodePlan plan) (pl .nodes) i) old starts
+      → b ≡ getD list i 0 → AtBorder network l plan pl points firsts next starts b i
+  at-border {i} {b} h f e =
+      let k : i < borderCount (decode network) = omega (arith, w .check .borders) in
+      let is : b ≡ borderAt (decode network) i = e ∙ w .listed .at i k in
+      record {
+        prepared = record { check = w .check; first = w .point; started = started-of f; border = h };
+        chained = w .chained;
+        is = is;
+        node = omega (arith, is, border-below (decode network) i k, w .check .town .sizes .nodes);
+      }
 
 -- a table keeps its length, and the first border's profiles start with the first point
 pub still-long : {a b : ℕ} {f : ℕ → ℕ} {old new : List ℕ} {m : ℕ} → Filled a b f old new → m ≤ length old → m ≤ length new
@@ -83,13 +88,16 @@ pub from-start : (p : Plan) (nodes : ℕ) → 0 ≡ pointStart p (0 * nodes)
 unfolding pointStart
 from-start p nodes = let z : 0 * nodes ≡ 0 = omega arith in rw z (total-none (pointCount p))
 
--- for `search (findings, triples, firsts)` at the needs of the loops
-pub ruleset findings = (failing-is, prepared-of, border-is, border-node, still-long, from-start)
-
 -- the tests from one number on, k of them
 unfoldable pub triplesFrom : ℕ → ℕ → Network → Plan → Checking
 triplesFrom zero number n p = Accepted
 triplesFrom (suc k) number n p = tripleRung number n p (triplesFrom k (number + 1) n p)
+
+-- nothing fails anywhere
+pub clean-accepted : (n : Network) (p : Plan) → NothingFails n p → Accepted ≡ triplesFrom 4 21 n p
+unfolding triplesFrom
+clean-accepted n p h =
+    sym (nowhere-rung n p 21 _ (h 21) ∙ nowhere-rung n p 22 _ (h 22) ∙ nowhere-rung n p 23 _ (h 23) ∙ nowhere-rung n p 24 Accepted (h 24))
 
 -- FOR THE LADDER: the test with a number was tried
 module _ (number : ℕ) (n : Network) (p : Plan) {f : Found} (e : f ≡ firstFailing number n p) (next : Checking) where

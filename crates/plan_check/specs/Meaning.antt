@@ -17,7 +17,8 @@ use Rattle.network.specs.Town.{graphOf, town-lawful}
 use Rattle.plan.specs.Border.{borderCount, borderAt}
 use Rattle.plan_check.specs.Borders.{at-node, every-border}
 use Rattle.plan.specs.Plan.{Plan, flag, profile, profileTo}
-use Rattle.plan_check.specs.Tests.{fails20, same, less, isNumber, giving, given, fails21, fails22, fails23, fails24, fails}
+use Rattle.plan_tests.specs.Tests.{fails20, giving, given, fails21, fails22, fails23, fails24, fails}
+use Rattle.profiles.specs.Compare.{same, less, isNumber}
 
 -- a test of 21 to 24 fails at no border number, node and tick
 abbrev pub Nowhere : Network → Plan → ℕ → Type 0
@@ -31,7 +32,7 @@ abbrev pub FlaggedProfiles : Network → Plan → Type 0
 FlaggedProfiles n p = (b : ℕ) → Border (graphOf n) (cell n) b → Attained (graphOf n) (flagged (flag p) (cell n b)) b (profileTo n p b)
 
 -- TRAVELS COMPARED
-same-true : (s t : Travel) → same s t ≡ true → s ≡ t
+pub same-true : (s t : Travel) → same s t ≡ true → s ≡ t
 same-true unreachable unreachable e = refl
 same-true unreachable (ticks d) e = let z : _≡_ {A = ℕ} 0 1 = cc in absurd (omega arith)
 same-true (ticks c) unreachable e = let z : _≡_ {A = ℕ} 0 1 = cc in absurd (omega arith)
@@ -62,7 +63,7 @@ plus-some k d unreachable l e = let z : _≡_ {A = ℕ} 0 1 = cc in absurd (omeg
 plus-some k d (ticks c) l e = let z : k + c ≡ d = cc in omega arith
 
 -- an arc takes a tick or more, so it gives no 0
-gives-some : {g : Graph} (ok : Lawful g) (D : Profile) {q : Permit} {u : ℕ} (a x d : ℕ) → ArcFrom g q u a → x < g .period → gives g D a x ≡ ticks d → 1 ≤ d
+pub gives-some : {g : Graph} (ok : Lawful g) (D : Profile) {q : Permit} {u : ℕ} (a x d : ℕ) → ArcFrom g q u a → x < g .period → gives g D a x ≡ ticks d → 1 ≤ d
 gives-some {g} ok D a x d f m e = plus-some (g .travel a x) d (D (g .head a) ((x + g .travel a x) % g .period)) (ok .takes a x (f .listed) m) e
 
 module _ (n : Network) (p : Plan) where
@@ -97,7 +98,7 @@ module _ (n : Network) (p : Plan) where
     )
 
     -- some permitted arc gives the number d
-    attained-given : (permit : Permit) (u x d : ℕ) → profile n p i u x ≡ ticks d
+    pub attained-given : (permit : Permit) (u x d : ℕ) → profile n p i u x ≡ ticks d
         → (given n p permit i u x ≡ true) ↔ ((a : ℕ) × ArcFrom (graphOf n) permit u a × (giving n p i a x ≡ ticks d))
     unfolding given
     attained-given permit u x d q = (

@@ -4,7 +4,7 @@ use mathlib.Core.List.{List}
 use Prim.Native.Nat.{ℕ, _≤_}
 use native.Mathlib.Omega.{arith}
 use Rattle.loops.specs.Pick.{cond-holds, rung-holds}
-use Rattle.loops.specs.Triple.{anyTriple}
+use Rattle.loops.specs.Triple.{firstTripleRung, anyTriple}
 use Rattle.network.specs.declared.answer.Refusal.{Refusal}
 use Rattle.network.specs.declared.answer.Opening.{Opening}
 use Rattle.network.specs.declared.answer.Opening.the-variants as opening
@@ -20,7 +20,7 @@ use Rattle.plan_check.specs.declared.answer.Checking.the-variants as che
 use Rattle.plan.specs.Border.{borderCount}
 use Rattle.plan.specs.Plan.{Plan}
 use Rattle.plan.specs.PlanDecode.{decodePlan}
-use Rattle.plan_check.specs.Tests.{fails}
+use Rattle.plan_tests.specs.Tests.{fails}
 use Rattle.plan_check.specs.Check.{tripleRung, checked}
 use Rattle.plan_check.specs.CheckPlan.{checkedBy, checkedOver, checking as checkingOf}
 
@@ -32,7 +32,7 @@ abbrev Checks : Checking → Type 0
 Checks = Numbered checking.Refused 20 24
 
 triple-numbered : (number : ℕ) (n : Network) (p : Plan) (next : Checking) → 20 ≤ number → number ≤ 24 → Checks next → Checks (tripleRung number n p next)
-unfolding tripleRung
+unfolding tripleRung firstTripleRung
 triple-numbered number n p next l h q =
     cond-holds Checks (anyTriple (borderCount n) (nodes n) (n .period) (fails number n p)) _ _ (numbered checking.Refused 20 24 same-checking _ l h) q
 

@@ -1,34 +1,36 @@
 // The check of a well-formed plan against its network: the lowest of the tests 20 to 24 that fails anywhere, and the first place where it fails.
 // Both files are read in place; the few tables that spare reading stand on the stack.
 use crate::answer::Checking;
-use crate::tests;
-use crate::value;
+use crate::clean;
+use arcs::chain;
+use arcs::chain::End;
+use arcs::times;
+use arcs::wide;
 use network::answer::Opening;
 use network::answer::Refusal;
 use network::header::Header;
 use network::header::Layout;
-use network::validate::validate;
+use network_open::validate::validate;
 use plan::answer::Planning;
 use plan::borders::list_borders;
 use plan::header::PlanHeader;
 use plan::header::PlanLayout;
-use plan::validate::validate_plan;
-use search::chain;
-use search::chain::End;
-use search::times;
-use search::wide;
+use plan_form::validate::validate_plan;
+use plan_tests::tests;
+use profiles::value;
 ghost use mathlib.Core.Path.{_≡_};
+ghost use Prim.Native.Nat.{_<_};
 ghost use Rattle.loops.specs.First;
 ghost use Rattle.network.specs.Decode.{decode};
 ghost use Rattle.network.specs.Valid.{ValidFile};
 ghost use Rattle.plan.specs.PlanDecode.{decodePlan};
-ghost use Rattle.plan_check.specs.Tests.{fails20};
+ghost use Rattle.plan_tests.specs.Tests.{fails20};
 ghost use Rattle.plan_check.specs.Check.{refusedAt, checked};
 ghost use Rattle.plan_check.specs.CheckPlan.{checkedBy, checking};
 ghost use Rattle.plan.specs.PlanValidate.{planned};
 ghost use Rattle.plan.specs.PlanValid.{ValidPlan};
-ghost use Rattle.plan_check.specs.Checkable.{Checkable};
-ghost use Rattle.plan_check.specs.Finding.{Listed, Equipped, firstFailing, triplesFrom};
+ghost use Rattle.plan_tests.specs.Checkable.{Checkable};
+ghost use Rattle.plan_check.specs.Finding.{Listed, Equipped, foundAt, firstFailing, triplesFrom};
 
 // A border number, a node and a tick.
 pub struct Triple {
@@ -40,6 +42,18 @@ pub struct Triple {
 pub enum Found {
     At(Triple),
     Nothing,
+}
+
+// A triple of indices.
+fn found_at(i: usize, u: usize, x: usize) -> Found
+    requires { ⌜ (i < 512) × (u < 512) × (x < 2880) ⌝ }
+    ensures { λ r. ⌜ r ≡ foundAt i u x ⌝ }
+{
+    Found::At(Triple {
+        border: i as u32,
+        node: u as u32,
+        tick: x as u32,
+    })
 }
 
 // A refusal of the test with this number at a triple.
@@ -109,11 +123,7 @@ pub fn first_failing(
                     u,
                     x,
                 ) {
-                    found = Found::At(Triple {
-                        border: i as u32,
-                        node: u as u32,
-                        tick: x as u32,
-                    });
+                    found = found_at(i, u, x);
                     break 'borders;
                 }
             }
@@ -122,7 +132,7 @@ pub fn first_failing(
     found
 }
 
-// The tests 21 to 24, the lowest number first.
+// The tests 21 to 24, the lowest number first. Where one pass tells that nothing fails, there is none to find.
 fn check_triples(
     network: &[u8],
     l: Layout,
@@ -136,6 +146,9 @@ fn check_triples(
     requires { ⌜ Equipped (now network) l (now plan) pl (now points) (now first) (now next) (now borders) ⌝ }
     ensures { λ r. ⌜ r ≡ triplesFrom 4 21 (decode (now (network .entry))) (decodePlan (now (plan .entry))) ⌝ }
 {
+    if clean::is_clean(network, l, plan, pl, points, first, next, borders) {
+        return Checking::Accepted;
+    }
     for number in 21..25 {
         let found = first_failing(number, network, l, plan, pl, points, first, next, borders);
         if let Found::At(at) = found {

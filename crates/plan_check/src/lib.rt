@@ -1,11 +1,10 @@
-// plan_check: the check of a plan against its network. It owns the tests 20 to 24 and the theorem that the check accepts exactly the plans whose profiles
+// plan_check: the check of a plan against its network, 20 to 24. It owns the theorem that the check accepts exactly the plans whose profiles
 // are the true least travels and whose flags are enough (specs/CheckPlan.antt, `accepts-exactly`).
-//   value   the value of a profile at a tick
-//   tests   the tests at a border, a node and a tick
+//   clean   whether nothing fails anywhere, yes or no, in one pass
 //   check   the first place at which a test fails, and the check of two files
 //   answer  what the check answers
-// It may call `network` and `plan` to validate and read files, and `search` for the arcs out of a node and when an arc ends. Both files are read in place.
+// It may call `network_open` and `plan_form` to validate files, `plan_tests` for the tests, `profiles` for values, and `arcs` for the arcs out of a node. Both files
+// are read in place.
 pub mod answer;
 pub mod check;
-pub mod tests;
-pub mod value;
+pub mod clean;

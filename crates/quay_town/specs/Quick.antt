@@ -10,10 +10,10 @@ use lib.ListN.{getD, drop}
 use lib.Seq.{getD-drop, drop-drop}
 use lib.Dec.{eqb}
 use borrow.Author.Tests.{eqb-true, eq-eqb}
-use Rattle.blocks.specs.Fields.{le16, le32}
-use Rattle.blocks.specs.Sum.{sums, checked, good}
+use Rattle.words.specs.Fields.{le16, le32}
+use Rattle.words.specs.Sum.{sums, checked, good}
 use Rattle.blocks.specs.Form.{zeros, formed, zeros-each, zeros-all}
-use Rattle.blocks.specs.declared.sum.Sums.{Sums}
+use Rattle.words.specs.declared.sum.Sums.{Sums}
 
 -- THE CHECK
 -- the sums r with n words more, those at the front of s

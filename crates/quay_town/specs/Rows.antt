@@ -6,7 +6,7 @@ use Rattle.network.specs.declared.answer.Refusal.{Refusal}
 use Rattle.network.specs.declared.answer.Opening.{Opening}
 use Rattle.network.specs.declared.answer.Opening.the-variants as opening
 use Rattle.network.specs.Decode.{decode}
-use Rattle.network.specs.Open.{opening}
+use Rattle.network_open.specs.Open.{opening}
 use Rattle.network.specs.Town.{travelAt}
 use Rattle.plan_check.specs.declared.answer.Checking.{Checking}
 use Rattle.plan_check.specs.declared.answer.Checking.the-variants as checking

@@ -9,6 +9,7 @@ use lib.Dec.{eqb}
 use borrow.Author.Tests.{eqb-true}
 use Rattle.loops.specs.First.{first}
 use Rattle.loops.specs.Pick.{firstRung}
+use Rattle.loops.specs.Triple.{firstTripleRung}
 use Rattle.loops.specs.Select.{select}
 use Rattle.loops.specs.Total.{total}
 use Rattle.loops.specs.Fill.{tab}
@@ -28,7 +29,7 @@ use Rattle.network.specs.Network.{Network, start}
 use Rattle.network.specs.Decode.{decode}
 use Rattle.network.specs.Rules.{judged, judgedArcs, judgedSum, judgedPoints, badEnds, firstPoint, badPoint, badPointBy, misplaced, overtaken}
 use Rattle.network.specs.Validate.{badLength, validated}
-use Rattle.network.specs.Open.{openedIn, tooShort}
+use Rattle.network_open.specs.Open.{openedIn, tooShort}
 use Rattle.network.specs.Town.{travelAt}
 use Rattle.plan.specs.declared.answer.Planning.{Planning}
 use Rattle.plan_check.specs.declared.answer.Checking.{Checking}
@@ -38,7 +39,7 @@ use Rattle.plan.specs.Plan.{pointStart, profileValue}
 use Rattle.plan.specs.PlanDecode.{decodePlan}
 use Rattle.plan.specs.PlanRules as rules
 use Rattle.plan.specs.PlanValidate.{badPlanLength, matching, planned}
-use Rattle.plan_check.specs.Tests.{fails, fails22, given}
+use Rattle.plan_tests.specs.Tests.{fails, fails22, given}
 use Rattle.plan_check.specs.Check.{checked, tripleRung}
 use Rattle.plan_check.specs.CheckPlan.{checkedBy}
 use Rattle.plan_check.specs.Promise.{towards}
@@ -98,7 +99,7 @@ allAgree [] = true
 allAgree (r ∷ l) = agrees r && allAgree l
 
 rows-agree : allAgree rows ≡ true
-unfolding allAgree agrees same rows first firstRung select total tab offset line segment value closed dayValue entryAt ends relaxed rounds labels lowest back chosen made start decode judged judgedArcs judgedSum judgedPoints badEnds firstPoint badPoint badPointBy misplaced overtaken badLength tooShort travelAt borders isBorder pointStart profileValue decodePlan rules.badTick rules.badProfile rules.badPoint rules.judgedTicks rules.judgedSum rules.judgedCounts rules.judgedFlags badPlanLength matching fails fails22 given checked tripleRung asked networkFile planFile summed blank quickFormed
+unfolding allAgree agrees same rows first firstRung select total tab offset line segment value closed dayValue entryAt ends relaxed rounds labels lowest back chosen made start decode judged judgedArcs judgedSum judgedPoints badEnds firstPoint badPoint badPointBy misplaced overtaken badLength tooShort travelAt borders isBorder pointStart profileValue decodePlan rules.badTick rules.badProfile rules.badPoint rules.judgedTicks rules.judgedSum rules.judgedCounts rules.judgedFlags badPlanLength matching fails fails22 given checked tripleRung firstTripleRung asked networkFile planFile summed blank quickFormed
 rows-agree = refl
 
 -- THE RULE

@@ -7,9 +7,9 @@ use Prim.Native.Nat.{ℕ, _+_, _*_, _/_}
 use lib.ListN.{length}
 use lib.Dec.{ltb, eqb}
 use Rattle.loops.specs.Pick.{firstRung}
-use Rattle.blocks.specs.Fields.{le16}
+use Rattle.words.specs.Fields.{le16}
 use Rattle.blocks.specs.Place.{blocks, entriesIn}
-use Rattle.blocks.specs.Sum.{good}
+use Rattle.words.specs.Sum.{good}
 use Rattle.blocks.specs.Form.{formed}
 use Rattle.network.specs.declared.answer.Opening.{Opening}
 use Rattle.network.specs.declared.header.Header.{Header}

@@ -48,7 +48,7 @@ fn print_open(file: &[u8; 2048]) {
     let mut counts = [0u16; 4];
     let mut ticks = [0u16; 5];
     let mut travels = [0u16; 5];
-    print_opening(network::open::open_network(
+    print_opening(network_open::open::open_network(
         file,
         &mut cells,
         &mut tails,

@@ -16,11 +16,12 @@ use Rattle.paths.specs.Earliest.{never, Exact}
 use Rattle.paths.specs.Labels.{label, label-at, labels, labels-exact, labels-capped}
 use Rattle.search.specs.Trim.{shown, target-same, shown-same}
 use Rattle.paths.specs.Chosen.{chosen, chosen-same}
-use Rattle.search.specs.Town.{Town, Leaving, leaving, permitOf}
+use Rattle.arcs.specs.Town.{Town}
+use Rattle.labels.specs.Ready.{Leaving, leaving, permitOf}
 use Rattle.network.specs.declared.header.Layout.{Layout}
 use Rattle.network.specs.Decode.{decode}
 use Rattle.network.specs.Town.{graphOf}
-use Rattle.search.specs.Reach.{Reached, small}
+use Rattle.labels.specs.Reach.{Reached, small}
 use Rattle.search.specs.Path.{Listed}
 use Rattle.search.specs.Answer.{Answered, Told, entryOf}
 use Rattle.search.specs.declared.Outcome.{Outcome}

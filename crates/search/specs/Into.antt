@@ -18,8 +18,8 @@ use Rattle.network.specs.declared.header.Layout.{Layout}
 use Rattle.network.specs.Network.{head}
 use Rattle.network.specs.Decode.{decode}
 use Rattle.network.specs.Town.{graphOf}
-use Rattle.search.specs.Town.{Ready, permitOf}
-use Rattle.search.specs.Chain.{NextArc, Chained}
+use Rattle.labels.specs.Ready.{Ready, permitOf}
+use Rattle.arcs.specs.Chain.{NextArc, Chained}
 
 -- In the loop: the walk stands at arc k into v, or past the last; no arc before it explains v's label.
 pub record Passing (file : List ℕ) (l : Layout) (mask starts first next L : List ℕ) (v k : ℕ) : Type 0 where

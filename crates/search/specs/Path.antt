@@ -4,7 +4,7 @@ use mathlib.Core.Path.{_≡_, sym, _∙_, ap}
 use mathlib.Core.Logic.{_≢_}
 use mathlib.Core.Bool.{cond}
 use mathlib.Core.List.{List}
-use Prim.Native.Nat.{ℕ, _+_, _-_, _≤_, _<_}
+use Prim.Native.Nat.{ℕ, _+_, _-_, _*_, _≤_, _<_}
 use native.Mathlib.Nat.{le-refl, sub-zero}
 use native.Mathlib.Omega.{arith}
 use mir.Val.{Fits}
@@ -21,8 +21,9 @@ use Rattle.network.specs.Network.{tail}
 use Rattle.network.specs.Decode.{decode}
 use Rattle.network.specs.Town.{graphOf}
 use Rattle.search.specs.Answer.{entryOf}
-use Rattle.search.specs.Town.{Ready, permitOf, lawful}
-use Rattle.search.specs.Reach.{Reached}
+use Rattle.labels.specs.Ready.{Ready, permitOf}
+use Rattle.arcs.specs.Town.{lawful}
+use Rattle.labels.specs.Reach.{Reached}
 use Rattle.search.specs.Back.{Walk, Onward, walk-start, walk-on, walk-end}
 
 -- The path that is counted and written.
@@ -111,13 +112,19 @@ module _ {file : List ℕ} {l : Layout} {mask starts : List ℕ} {s t : ℕ} {L 
     write-size = back-size (k .back)
 
     -- the list has room, and the path is short
-    pub write-room : (count ≤ length new) × (count < 512)
+    write-room : (count ≤ length new) × (count < 512)
     write-room =
         let b = k .back in
         let c = chosen-path (lawful (b .ready .town)) L (b .reached .exact) (b .known) in
         (omega (arith, k .room, k .written .long), omega (arith, c .short, k .total, b .known .node, b .ready .town .sizes .nodes, b .ready .town .small .nodes-most))
 
     module _ (h : n < count) where
+      pub write-place : count - 1 - n < length new
+      write-place = omega (arith, write-room)
+
+      pub write-scaled : Fits w64 ((count - 1 - n) * 2)
+      write-scaled = omega (arith, write-room)
+
       -- it is not at the path's start yet
       ahead : v ≢ s
       ahead e = omega (arith, back-end (k .back) e, k .total)

@@ -19,7 +19,8 @@ use Rattle.paths.specs.Earliest.{never, earliest-unique, exact-bound, exact-rea
 use Rattle.paths.specs.Labels.{label, labels}
 use Rattle.paths.specs.Chosen.{Known, chosen, chosen-path, chosen-empty}
 use Rattle.search.specs.Trim.{shown-all}
-use Rattle.search.specs.Town.{Leaving, lastTick}
+use Rattle.labels.specs.Ready.{Leaving}
+use Rattle.arcs.specs.Town.{lastTick}
 use Rattle.search.specs.Answering.{true-exact, true-capped}
 use Rattle.search.specs.Answer.{Answered, outcomeOf}
 use Rattle.search.specs.declared.Outcome.{Outcome}

@@ -1,13 +1,13 @@
-// search: the earliest arrival over permitted arcs, by settling the nearest node first, stopped at the target, and the chosen path from the labels.
-// It owns the search of a sound network file, read in place, and the meaning of its answer (specs/Answer.antt, specs/Promise.antt).
-// It may call `network` for the entries of the file and `travel` for the straight line, and cites `loops` and `paths`.
+// search: the earliest arrival over permitted arcs and the chosen path, of a sound network file that is read in place. It owns the answer of a search and
+// its meaning (specs/Answer.antt, specs/Promise.antt).
+//   path   the chosen path, from the labels
+// It may call `labels` for the labels, `arcs` for the arcs at a node and their ends, and `network` for the entries of the file; it cites `loops` and `paths`.
+use arcs::times;
+use labels::NEVER;
+use labels::reach::reach;
 use network::header::Layout;
 
-pub mod chain;
-mod frontier;
 mod path;
-mod reach;
-pub mod times;
 
 ghost use mathlib.Core.Path.{_≡_};
 ghost use Prim.Native.Nat.{_≤_, _<_};
@@ -16,8 +16,9 @@ ghost use Rattle.loops.specs.Fill.{Filled};
 ghost use Rattle.network.specs.Decode.{decode, Laid};
 ghost use Rattle.network.specs.Sound.{SoundNetwork};
 ghost use Rattle.network.specs.Town.{graphOf};
-ghost use Rattle.search.specs.Town.{Town, Ready, permitOf};
-ghost use Rattle.search.specs.Reach.{Reached};
+ghost use Rattle.arcs.specs.Town.{Town};
+ghost use Rattle.labels.specs.Ready.{Ready, permitOf};
+ghost use Rattle.labels.specs.Reach.{Reached};
 ghost use Rattle.search.specs.Trim.{shown, shownOf};
 ghost use Rattle.search.specs.Answer.{Answered, Told};
 
@@ -32,16 +33,6 @@ pub enum Outcome {
     Arrived(Trip),
     NoWay,
     Short,
-}
-
-// The label of a node to which no arrival is known.
-pub const NEVER: u32 = 4294967295;
-
-// An entry of a table as a size: what its readers need of the cast.
-pub fn wide(x: u16) -> usize
-    ensures { λ r. ⌜ (r ≡ x) × (r < 65536) ⌝ }
-{
-    x as usize
 }
 
 // What is shown of a node's label, where the target's is `limit`.
@@ -113,7 +104,7 @@ fn answer(
 {
     let mut starts = [0u16; 2048];
     times::first_points(file, l, &mut starts);
-    reach::reach(file, l, mask, &starts, source, target, departure, labels);
+    reach(file, l, mask, &starts, source, target, departure, labels);
     let outcome = tell(file, l, mask, &starts, labels, source, target, roads);
     trim(labels, target);
     outcome

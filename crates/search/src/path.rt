@@ -1,10 +1,10 @@
 // The chosen path, from the labels: back from the target, by the lowest arc into each node that explains its label. The arcs into a node are
 // walked by their chain. The path is counted first, and then written from its end, so that the list holds it from its first arc to its last.
-use crate::NEVER;
-use crate::chain;
-use crate::chain::End;
-use crate::times;
-use crate::wide;
+use arcs::chain;
+use arcs::chain::End;
+use arcs::times;
+use arcs::wide;
+use labels::NEVER;
 use network::header::Layout;
 use network::read;
 ghost use mathlib.Core.Path.{_≡_};
@@ -17,10 +17,10 @@ ghost use Rattle.paths.specs.Chosen.{explains, arcInto};
 ghost use Rattle.network.specs.Network.{head};
 ghost use Rattle.network.specs.Decode.{decode};
 ghost use Rattle.network.specs.Town.{graphOf};
-ghost use Rattle.search.specs.Town.{Ready, Early, permitOf};
+ghost use Rattle.labels.specs.Ready.{Ready, Early, permitOf};
 ghost use Rattle.search.specs.Answer.{entryOf};
-ghost use Rattle.search.specs.Chain.{Chained};
-ghost use Rattle.search.specs.Reach.{Reached};
+ghost use Rattle.arcs.specs.Chain.{Chained};
+ghost use Rattle.labels.specs.Reach.{Reached};
 ghost use Rattle.search.specs.Path.{pathOf, Listed};
 
 // Does an arc into v, taken at its tail's label, end at v's?

@@ -13,7 +13,7 @@ use borrow.Author.Tests.{lt-ltb, le-ltb}
 use Rattle.loops.specs.First.{first-same}
 use Rattle.travel.specs.Line.{line}
 use Rattle.travel.specs.Points.{Points, Fifo, segment, value, valueOver, value-point, value-least, value-most, fifo-over}
-use Rattle.travel.specs.Search.{Last, last-at, last-next}
+use Rattle.travel.specs.Search.{Sorted, Last, last-at, last-next}
 
 -- f at the day's n points, and from there on e, the next day's first
 unfoldable pub closed : ℕ → (ℕ → ℕ) → ℕ → ℕ → ℕ
@@ -46,6 +46,10 @@ module _ {t : ℕ → ℕ} {n period : ℕ} (d : Day t n period) where
   -- any tick, reduced, is one of the day
   pub day-reduced : (tick : ℕ) → tick % period < period
   day-reduced tick = mod-lt tick day-positive
+
+  -- its ticks can be searched for any tick
+  pub day-sorted : (x : ℕ) → Sorted t n x
+  day-sorted x = record { some = d .some; begun = omega (arith, d .start); rise = d .rise }
 
   -- its end is the next day's first tick
   day-end : closed n t period n ≡ period
@@ -112,4 +116,4 @@ module _ (t v : ℕ → ℕ) (n period x k r a p b q : ℕ) (at : Last t n x k) 
   to-first l h i = on-line (h ∙ sym (closed-end n t period (k + 1) l)) (i ∙ sym (closed-end n v (v 0) (k + 1) l))
 
 -- for `search readings` at the needs of such code
-pub ruleset readings = (to-next, to-first, day-positive, day-reduced, last-at, last-next)
+pub ruleset readings = (to-next, to-first, day-positive, day-reduced, day-sorted, last-at, last-next)

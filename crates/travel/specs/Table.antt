@@ -1,6 +1,6 @@
 -- Points that stand in lists: the ticks in one and the values in another, `count` of them from index `from` on, for one arc or profile.
 -- The value at a tick by such points, which is what the code computes. The laws of a day's points hold of them as they stand.
-use mathlib.Core.Path.{_≡_}
+use mathlib.Core.Path.{_≡_, _∙_}
 use mathlib.Core.List.{List}
 use Prim.Native.Nat.{ℕ, _+_, _≤_}
 use native.Mathlib.Nat.{add-zero}
@@ -38,3 +38,7 @@ table-points {values = values} {from = from} p = day-points (p .day) (entryAt va
 pub entry-first : (list : List ℕ) (from : ℕ) → getD list from 0 ≡ entryAt list from 0
 unfolding entryAt
 entry-first list from = rw add-zero
+
+-- and where it was read by itself
+pub entry-start : (list : List ℕ) (from q : ℕ) → q ≡ getD list from 0 → q ≡ entryAt list from 0
+entry-start list from q e = e ∙ entry-first list from

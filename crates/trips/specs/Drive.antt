@@ -22,7 +22,7 @@ use Rattle.network.specs.Layout.{layoutOf}
 use Rattle.network.specs.Decode.{decode, Laid}
 use Rattle.network.specs.Sound.{SoundNetwork}
 use Rattle.network.specs.Valid.{ValidFile, valid-laid}
-use Rattle.network.specs.Open.{overwritten}
+use Rattle.network_open.specs.Open.{overwritten}
 use Rattle.network.specs.Town.{graphOf}
 use Rattle.search.specs.declared.Trip.{Trip}
 use Rattle.search.specs.declared.Outcome.{Outcome}

@@ -16,7 +16,7 @@ use Rattle.network.specs.declared.header.Header.{Header}
 use Rattle.network.specs.Network.{Network, arcs, cell}
 use Rattle.network.specs.Decode.{decode}
 use Rattle.network.specs.Validate.{validated}
-use Rattle.network.specs.Valid.{ValidFile, valid-exactly}
+use Rattle.network.specs.Valid.{ValidFile}
 use Rattle.plan.specs.declared.answer.Planning.{Planning}
 use Rattle.plan.specs.declared.answer.Planning.the-variants as planning
 use Rattle.plan.specs.declared.header.PlanHeader.{PlanHeader}
@@ -29,12 +29,11 @@ use Rattle.plan.specs.PlanHeader.{PlanWithin}
 use Rattle.plan.specs.PlanValid.{ValidPlan, valid-within, valid-plan-laid, valid-for, plan-exactly}
 use Rattle.plan_check.specs.Promise.{towards}
 use Rattle.search.specs.declared.Outcome.{Outcome}
-use Rattle.search.specs.Town.{permitOf}
+use Rattle.labels.specs.Ready.{permitOf}
 use Rattle.trips.specs.declared.answer.Answer.{Answer}
 use Rattle.trips.specs.declared.answer.Answer.the-variants as answer
 use Rattle.trips.specs.Trip.{asked, andThen, told, searched, tripAnswer, tripArrivals, tripRoads}
 use Rattle.trips.specs.Drive.{searched-same, arrivals-same, roads-same, drive-nodes, drive-arcs, drive-cells, drive-period}
-use Rattle.trips.specs.Plain.{Asked, asked-passed}
 
 -- a ladder after the validation of a plan
 abbrev pub plannedThen : Planning → Opening → Opening
@@ -115,25 +114,6 @@ module _ {network plan : List ℕ} {h : Header} {k : PlanHeader} (v : ValidFile 
 -- for `search flags` where the flagged trip is driven
 pub ruleset flags = (flags-within, flags-laid, flags-few, fresh-mask, filled-mask, cell-few, flagged-answer, flagged-arrivals, flagged-roads)
 
--- FOR CODE that goes on from stage to stage: b is what a stage answered, B the definition that it meets
-module _ (b B : Opening) (e : b ≡ B) where
-  pub stage-refused : (r : Refusal) (o : Outcome) → b ≡ Refused r → answer.Refused r ≡ tripAnswer B o
-  stage-refused r o f = rw (← e, f)
-
-  pub stage-answer : (h : Header) (r : Answer) (o : Outcome) → b ≡ Opened h → r ≡ told o → r ≡ tripAnswer B o
-  stage-answer h r o f g = rw (← e, f) g
-
-  module _ (n : Network) (p : Permit) (s t x : ℕ) where
-    pub stage-untouched : (r : Refusal) (old : List ℕ) → b ≡ Refused r → old ≡ tripArrivals B n p s t x old
-    stage-untouched r old f = rw (← e, f)
-
-    pub stage-arrivals : (h : Header) (old new : List ℕ) → b ≡ Opened h → new ≡ tripArrivals (Opened h) n p s t x old → new ≡ tripArrivals B n p s t x old
-    stage-arrivals h old new f g = rw (← e, f) g
-
--- the calls that the search needs, from the stage 25 to 27
-pub stage-asks : (b : Opening) (h k : Header) (from to departure room : ℕ) → b ≡ asked h from to departure room → b ≡ Opened k → Asked h from to departure room
-stage-asks b h k from to departure room e f = let (a, q) = asked-passed h k from to departure room (sym e ∙ f) in rw q a
-
 -- the stage of the plan: refused, or gone on from
 module _ (m M : Planning) (e : m ≡ M) where
   pub plan-refused : (r : Refusal) (next : Opening) (o : Outcome) → m ≡ planning.Refused r → answer.Refused r ≡ tripAnswer (plannedThen M next) o
@@ -150,28 +130,10 @@ module _ (m M : Planning) (e : m ≡ M) where
       → new ≡ tripArrivals next n p s t x old → new ≡ tripArrivals (plannedThen M next) n p s t x old
   plan-arrivals k next n p s t x old new f g = rw (← e, f) g
 
--- the stage of the network
-module _ (v W : Opening) (e : v ≡ W) (next : Header → Opening) where
-  pub network-refused : (r : Refusal) (o : Outcome) → v ≡ Refused r → answer.Refused r ≡ tripAnswer (andThen W next) o
-  network-refused r o f = rw (← e, f)
-
-  pub network-untouched : (r : Refusal) (n : Network) (p : Permit) (s t x : ℕ) (old : List ℕ) → v ≡ Refused r → old ≡ tripArrivals (andThen W next) n p s t x old
-  network-untouched r n p s t x old f = rw (← e, f)
-
-  pub network-answer : (h : Header) (a : Answer) (o : Outcome) → v ≡ Opened h → a ≡ tripAnswer (next h) o → a ≡ tripAnswer (andThen W next) o
-  network-answer h a o f g = rw (← e, f) g
-
-  pub network-arrivals : (h : Header) (n : Network) (p : Permit) (s t x : ℕ) (old new : List ℕ) → v ≡ Opened h
-      → new ≡ tripArrivals (next h) n p s t x old → new ≡ tripArrivals (andThen W next) n p s t x old
-  network-arrivals h n p s t x old new f g = rw (← e, f) g
-
 -- what is valid by then
-pub stage-valid : (file : List ℕ) (v : Opening) (h : Header) → v ≡ validated file → v ≡ Opened h → ValidFile file h
-stage-valid file v h e f = valid-exactly file h .0 (sym e ∙ f)
-
 module _ {network : List ℕ} {h : Header} (v : ValidFile network h) where
   pub stage-plan : (plan : List ℕ) (m : Planning) (k : PlanHeader) → m ≡ planned h (decode network) plan → m ≡ planning.WellFormed k → ValidPlan h (decode network) plan k
   stage-plan plan m k e f = plan-exactly v plan k .0 (sym e ∙ f)
 
--- for `search stages`
-pub ruleset stages = (stage-refused, stage-untouched, stage-answer, stage-arrivals, stage-asks, plan-refused, plan-untouched, plan-answer, plan-arrivals, network-refused, network-untouched, network-answer, network-arrivals, stage-valid, stage-plan)
+-- for `search (stages, plan-stages)`
+pub ruleset plan-stages = (plan-refused, plan-untouched, plan-answer, plan-arrivals, stage-plan)

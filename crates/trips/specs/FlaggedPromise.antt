@@ -29,7 +29,7 @@ use Rattle.trips.specs.declared.answer.Answer.{Answer}
 use Rattle.trips.specs.declared.answer.Answer.the-variants as answer
 use Rattle.trips.specs.Trip.{asked, told, searched, tripAnswer, tripRoads}
 use Rattle.trips.specs.Drive.{drive-nodes, drive-period}
-use Rattle.trips.specs.Plain.{Asked}
+use Rattle.trips.specs.Stage.{Asked}
 use Rattle.trips.specs.Flagged.{flaggedBegin}
 use Rattle.trips.specs.Promise.{Arrives, trip-arrives, trip-none, trip-home, trip-reaches}
 

@@ -1,6 +1,7 @@
--- Trips: what each answers and leaves (Trip, Plain, Flagged, Calls), the laws between a search and its trip (Drive), and what an answer means (Promise,
+-- Trips: what each answers and leaves (Trip, Plain, Flagged, Calls), the stages before a search (Stage), the laws between a search and its trip (Drive), and what an answer means (Promise,
 -- Numbers, PlainPromise, FlaggedPromise).
 pub mod Trip
+pub mod Stage
 pub mod Drive
 pub mod Plain
 pub mod Flagged

@@ -19,13 +19,14 @@ use Rattle.network.specs.Network.{Network, nodes}
 use Rattle.network.specs.Decode.{decode}
 use Rattle.network.specs.Rules.{refusal}
 use Rattle.network.specs.Valid.{ValidFile}
-use Rattle.network.specs.Open.{overwritten}
+use Rattle.network_open.specs.Open.{overwritten}
 use Rattle.network.specs.Town.{graphOf}
 use Rattle.search.specs.declared.Trip.{Trip}
 use Rattle.search.specs.declared.Outcome.{Outcome}
 use Rattle.search.specs.declared.Outcome.the-variants.{Arrived, NoWay, Short}
 use Rattle.search.specs.Answer.{Answered, written, entryOf}
-use Rattle.search.specs.Town.{Leaving, town-of, leaving}
+use Rattle.labels.specs.Ready.{Leaving, leaving}
+use Rattle.arcs.specs.Town.{town-of}
 use Rattle.search.specs.Promise.{arrived, arrives, waiting, no-way, at-home, before-never}
 use Rattle.search.specs.Trim.{shown}
 use Rattle.trips.specs.declared.answer.Arrival.{Arrival}

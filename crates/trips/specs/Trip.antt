@@ -17,7 +17,7 @@ use Rattle.network.specs.declared.header.Header.{Header}
 use Rattle.network.specs.Network.{Network, nodes}
 use Rattle.network.specs.Rules.{refusal}
 use Rattle.network.specs.Validate.{refused}
-use Rattle.network.specs.Open.{overwritten}
+use Rattle.network_open.specs.Open.{overwritten}
 use Rattle.network.specs.Town.{graphOf}
 use Rattle.search.specs.declared.Trip.{Trip}
 use Rattle.search.specs.declared.Outcome.{Outcome}

@@ -11,9 +11,9 @@ ghost use Rattle.paths.specs.Labels.{labels};
 ghost use Rattle.network.specs.Network.{nodes};
 ghost use Rattle.network.specs.Decode.{decode};
 ghost use Rattle.network.specs.Valid.{ValidFile};
-ghost use Rattle.network.specs.Open.{overwritten};
+ghost use Rattle.network_open.specs.Open.{overwritten};
 ghost use Rattle.network.specs.Town.{graphOf};
-ghost use Rattle.search.specs.Town.{permitOf};
+ghost use Rattle.labels.specs.Ready.{permitOf};
 ghost use Rattle.search.specs.Trim.{shown};
 ghost use Rattle.trips.specs.Trip.{told as toldOf, searched, tripRoads};
 

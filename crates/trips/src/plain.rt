@@ -3,7 +3,7 @@ use crate::answer::Answer;
 use crate::begin::ask;
 use crate::drive::drive;
 use network::answer::Opening;
-use network::validate::validate;
+use network_open::validate::validate;
 ghost use mathlib.Core.Path.{_≡_};
 ghost use lib.ListN.{length};
 ghost use Rattle.paths.specs.Graph.{all};

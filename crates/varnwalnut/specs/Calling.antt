@@ -14,7 +14,7 @@ use Rattle.network.specs.declared.answer.Opening.the-variants.{Opened, Refused}
 use Rattle.network_pack.specs.declared.pack.Packing.{Packing}
 use Rattle.network.specs.Network.{Network}
 use Rattle.network.specs.Decode.{decode}
-use Rattle.network.specs.Open.{overwritten, tableAfter}
+use Rattle.network_open.specs.Open.{overwritten, tableAfter}
 use Rattle.network_pack.specs.Pack.{bytesAfter}
 use Rattle.network.specs.Town.{graphOf}
 use Rattle.plan.specs.PlanDecode.{decodePlan}
@@ -28,8 +28,9 @@ use Rattle.trips.specs.Plain.{plainBegin, begun}
 use Rattle.trips.specs.Flagged.{flaggedBegin}
 use Rattle.trips.specs.Promise.{told-trip}
 use Rattle.trips.specs.Numbers.{plain-before, flagged-before, flagged-begun, count-few}
-use Rattle.varnwalnut.specs.Reply.{tripBytes, tripCode, tripCount, roomed, kept}
-use Rattle.varnwalnut.specs.Writing.{arrived-long, refused-long}
+use Rattle.replies.specs.Reply.{tripBytes, tripCode, tripCount}
+use Rattle.varnwalnut.specs.Room.{roomed, kept}
+use Rattle.replies.specs.Writing.{arrived-long, refused-long}
 use Rattle.trips.specs.Calls.{pathOf, plainAnswer, flaggedAnswer}
 
 -- ROOM
@@ -46,9 +47,12 @@ module _ (w room : ℕ) where
   unfolding kept
   kept-short old new l = rw (lt-ltb room w l)
 
-  pub kept-enough : (old new s : List ℕ) → w ≤ room → s ≡ new → s ≡ kept w room old new
+  pub kept-enough : (old : List ℕ) {new s : List ℕ} → w ≤ room → s ≡ new → s ≡ kept w room old new
   unfolding kept
-  kept-enough old new s l e = rw (le-ltb room w l) e
+  kept-enough old l e = rw (le-ltb room w l) e
+
+-- for `search enough` where there is room
+pub ruleset enough = (room-enough, kept-enough)
 
 -- THE TABLET'S TRIPS: what comes before the search is b, the answer is a, and `roads` is the list of 511 roads after the call
 module _ (b : Opening) (n : Network) (p : Permit) (s t x : ℕ) (a : Answer) (roads : List ℕ)
@@ -87,33 +91,8 @@ module _ (b : Opening) (n : Network) (p : Permit) (s t x : ℕ) (a : Answer) (ro
       → new ≡ kept 1032 (length old) old (overwritten (tripBytes (tripAnswer b (searched n p s t x 511)) (pathOf n p s t x)) old)
   call-bytes old new l q =
       let z = stored-front (tripBytes a (pathOf n p s t x)) old (omega (arith, long)) in
-      kept-enough 1032 (length old) old _ new l
+      kept-enough 1032 (length old) old l
       (q ∙ ap (λ (v : List ℕ). sets old 0 v) listed ∙ z ∙ ap (λ (c : Answer). overwritten (tripBytes c (pathOf n p s t x)) old) e)
-
--- THE DESK'S CALLS: o is what the operation answered, d its definition
-module _ {A : Type 0} (w : ℕ) where
-  pub desk-code : (code : A → ℕ) (o d : A) (room r : ℕ) → o ≡ d → w ≤ room → r ≡ code o → r ≡ roomed w room (code d)
-  desk-code code o d room r e l q = room-enough w room (code d) r l (q ∙ ap code e)
-
-  desk-list : (list : A → List ℕ) (o d : A) (room : ℕ) (old new : List ℕ) → o ≡ d → w ≤ room → new ≡ list o → new ≡ kept w room old (list d)
-  desk-list list o d room old new e l q = kept-enough w room old (list d) new l (q ∙ ap list e)
-
-  pub desk-numbers : (numbers : A → List ℕ) (o d : A) (old new : List ℕ) → o ≡ d → w ≤ length old → new ≡ overwritten (numbers o) old
-      → new ≡ kept w (length old) old (overwritten (numbers d) old)
-  desk-numbers numbers o d old new = desk-list (λ k. overwritten (numbers k) old) o d (length old) old new
-
--- the lists that go by the answer
-pub desk-table : (values : List ℕ) (o d : Opening) (room : ℕ) (old new : List ℕ) → o ≡ d → 9 ≤ room → new ≡ tableAfter o values old
-    → new ≡ kept 9 room old (tableAfter d values old)
-desk-table values o d room old new = desk-list 9 (λ k. tableAfter k values old) o d room old new
-
-pub desk-file : (file : List ℕ) (o d : Packing) (room : ℕ) (old new : List ℕ) → o ≡ d → 4 ≤ room → new ≡ bytesAfter o file old
-    → new ≡ kept 4 room old (bytesAfter d file old)
-desk-file file o d room old new = desk-list 4 (λ k. bytesAfter k file old) o d room old new
-
-pub desk-roads : (n : Network) (p : Permit) (s t x : ℕ) (o d : Answer) (room : ℕ) (old new : List ℕ) → o ≡ d → 5 ≤ room → new ≡ tripRoads o n p s t x old
-    → new ≡ kept 5 room old (tripRoads d n p s t x old)
-desk-roads n p s t x o d room old new = desk-list 5 (λ k. tripRoads k n p s t x old) o d room old new
 
 -- a trip counts at most 511 roads
 few-roads : (a : Answer) → ((r : Arrival) → a ≡ answer.Arrived r → r .count ≤ 511) → tripCount a ≤ 511

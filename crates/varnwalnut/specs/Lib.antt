@@ -1,6 +1,4 @@
--- The C library: how answers stand in lent memory (Reply), what the tablet's calls never answer (Never), and the laws for the code that writes them
--- (Writing, Calling).
-pub mod Reply
-pub mod Writing
+-- The C library: that too little room is refused first (Room), what the tablet's calls never answer (Never), and the laws for the entries (Calling).
+pub mod Room
 pub mod Calling
 pub mod Never

@@ -1,24 +1,22 @@
 // The entries for desk programs: an answer is a refusal or 0, with lent numbers: the three places of the refusal, then the answer's own numbers.
 // A list of numbers that is shorter than named gives 31 before all else, and nothing is written.
-use crate::reply::SHORT;
-use crate::reply::write;
-use network::answer::Opening;
-use network::open::open_network;
-use network_pack::pack::Packing;
+use crate::SHORT;
+use network_open::open::open_network;
 use network_pack::pack::pack_network;
-use plan_check::answer::Checking;
 use plan_check::check::check_plan;
-use trips::answer::Answer;
+use replies::numbers::write_checking;
+use replies::numbers::write_lists;
+use replies::numbers::write_opening;
+use replies::numbers::write_packing;
 use trips::flagged::flagged_trip;
 use trips::plain::plain_trip;
 ghost use mathlib.Core.Path.{_≡_};
-ghost use Prim.Native.Nat.{_≤_};
 ghost use lib.ListN.{length};
 ghost use Rattle.paths.specs.Graph.{all};
 ghost use Rattle.network.specs.Decode.{decode};
 ghost use Rattle.network_pack.specs.Encode.{encode};
-ghost use Rattle.network.specs.Open.{overwritten, tableAfter};
-ghost use Rattle.network.specs.Open.{opening as openingOf};
+ghost use Rattle.network_open.specs.Open.{overwritten, tableAfter};
+ghost use Rattle.network_open.specs.Open.{opening as openingOf};
 ghost use Rattle.network_pack.specs.Pack.{networkOf, numbers, bytesAfter};
 ghost use Rattle.network_pack.specs.Pack.{packing as packingOf};
 ghost use Rattle.plan.specs.PlanDecode.{decodePlan};
@@ -27,98 +25,9 @@ ghost use Rattle.plan_check.specs.CheckPlan.{checking as checkingOf};
 ghost use Rattle.trips.specs.Trip.{tripArrivals, tripRoads};
 ghost use Rattle.trips.specs.Plain.{plainBegin};
 ghost use Rattle.trips.specs.Flagged.{flaggedBegin};
-ghost use Rattle.varnwalnut.specs.Reply.{checkNumbers, checkCode, openNumbers, openCode, packNumbers, packCode, tripNumbers, tripCode, tripCount, roomed, kept};
+ghost use Rattle.replies.specs.Reply.{checkNumbers, checkCode, openNumbers, openCode, packNumbers, packCode, tripNumbers, tripCode};
+ghost use Rattle.varnwalnut.specs.Room.{roomed, kept};
 ghost use Rattle.trips.specs.Calls.{plainAnswer, flaggedAnswer};
-
-// What the check answers.
-fn write_checking(checking: Checking, answer: &mut [u32]) -> u32
-    requires { ⌜ 3 ≤ length (now answer) ⌝ }
-    ensures code { λ r. ⌜ r ≡ checkCode checking ⌝ }
-    ensures numbers { λ _. ⌜ now (answer .exit) ≡ overwritten (checkNumbers checking) (now (answer .entry)) ⌝ }
-{
-    match checking {
-        Checking::Accepted => {
-            let numbers = [0u32, 0, 0];
-            write(&numbers, answer);
-            0
-        }
-        Checking::Refused(r) => {
-            let numbers = [r.first, r.second, r.third];
-            write(&numbers, answer);
-            r.number
-        }
-    }
-}
-
-// What Open answers.
-fn write_opening(opening: Opening, answer: &mut [u32]) -> u32
-    requires { ⌜ 9 ≤ length (now answer) ⌝ }
-    ensures code { λ r. ⌜ r ≡ openCode opening ⌝ }
-    ensures numbers { λ _. ⌜ now (answer .exit) ≡ overwritten (openNumbers opening) (now (answer .entry)) ⌝ }
-{
-    match opening {
-        Opening::Opened(h) => {
-            let numbers = [
-                0,
-                0,
-                0,
-                h.number,
-                h.period as u32,
-                h.nodes as u32,
-                h.arcs as u32,
-                h.cells as u32,
-                h.points,
-            ];
-            write(&numbers, answer);
-            0
-        }
-        Opening::Refused(r) => {
-            let numbers = [r.first, r.second, r.third, 0, 0, 0, 0, 0, 0];
-            write(&numbers, answer);
-            r.number
-        }
-    }
-}
-
-// What Pack answers.
-fn write_packing(packing: Packing, answer: &mut [u32]) -> u32
-    requires { ⌜ 4 ≤ length (now answer) ⌝ }
-    ensures code { λ r. ⌜ r ≡ packCode packing ⌝ }
-    ensures numbers { λ _. ⌜ now (answer .exit) ≡ overwritten (packNumbers packing) (now (answer .entry)) ⌝ }
-{
-    match packing {
-        Packing::Packed(l) => {
-            let numbers = [0, 0, 0, l.bytes];
-            write(&numbers, answer);
-            0
-        }
-        Packing::Refused(r) => {
-            let numbers = [r.first, r.second, r.third, 0];
-            write(&numbers, answer);
-            r.number
-        }
-    }
-}
-
-// What a trip answers.
-fn write_lists(trip: Answer, answer: &mut [u32]) -> u32
-    requires { ⌜ (tripCount trip ≤ 511) × (5 ≤ length (now answer)) ⌝ }
-    ensures code { λ r. ⌜ r ≡ tripCode trip ⌝ }
-    ensures numbers { λ _. ⌜ now (answer .exit) ≡ overwritten (tripNumbers trip) (now (answer .entry)) ⌝ }
-{
-    match trip {
-        Answer::Arrived(a) => {
-            let numbers = [0, 0, 0, a.tick, a.count as u32];
-            write(&numbers, answer);
-            0
-        }
-        Answer::Refused(r) => {
-            let numbers = [r.first, r.second, r.third, 0, 0];
-            write(&numbers, answer);
-            r.number
-        }
-    }
-}
 
 // Is the plan one that the flagged trips of the network may trust?
 #[no_mangle]

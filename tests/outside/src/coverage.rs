@@ -18,6 +18,16 @@ impl Coverage {
         self.second[operation][refusal as usize] += 1;
     }
 
+    /// Counts what another run met as well.
+    pub fn add(&mut self, other: &Coverage) {
+        for operation in 0..7 {
+            for refusal in 0..32 {
+                self.alone[operation][refusal] += other.alone[operation][refusal];
+                self.second[operation][refusal] += other.second[operation][refusal];
+            }
+        }
+    }
+
     pub fn print(&self) {
         println!("refusals by operation: alone / with a second fault");
         print!("{:>4}", "");

@@ -56,7 +56,7 @@ pub fn fuzz(seed: u64, folder: &Path, seconds: Option<u64>) -> io::Result<u64> {
     let started = Instant::now();
     let mut rounds = 0u64;
     while seconds.is_none_or(|seconds| started.elapsed() < Duration::from_secs(seconds)) {
-        watch::case(false, rounds);
+        watch::case(0, false, rounds);
         let input = fuzzer.next_input();
         fuzzer.try_input(input)?;
         rounds += 1;

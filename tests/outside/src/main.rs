@@ -23,9 +23,10 @@ mod watch;
 use runner::{CaseName, Runner};
 use std::path::PathBuf;
 use std::process::ExitCode;
+use std::sync::atomic::{AtomicU64, Ordering};
 use std::time::Instant;
 
-/// The run without arguments: about 90 seconds on one core.
+/// The run without arguments: about 90 seconds of processor time.
 const DEFAULT_SEED: u64 = 20_261_115;
 const DEFAULT_CASES: u64 = 110_000;
 const DEFAULT_LARGE: u64 = 550;
@@ -115,10 +116,7 @@ fn run_cases(seed: u64, cases: u64, large: u64) -> u64 {
     let mut runner = runner(seed);
     for (is_large, count) in [(false, cases), (true, large)] {
         let started = Instant::now();
-        for number in 0..count {
-            watch::case(is_large, number);
-            runner.run(CaseName { large: is_large, number });
-        }
+        run_in_threads(&mut runner, is_large, count);
         let seconds = started.elapsed().as_secs_f64();
         let size = if is_large { "large" } else { "small" };
         println!("{count} {size} cases in {seconds:.1} s");
@@ -137,9 +135,40 @@ fn run_cases(seed: u64, cases: u64, large: u64) -> u64 {
     differences
 }
 
+/// The cases from 0 on, dealt out one by one to as many threads as there are cores. A case depends on its name and the
+/// seed alone, so the outcome is the same for any number of threads.
+fn run_in_threads(whole: &mut Runner, large: bool, count: u64) {
+    let seed = whole.seed;
+    let next = &AtomicU64::new(0);
+    let threads = std::thread::available_parallelism().map_or(1, |cores| cores.get().min(watch::MOST_THREADS));
+    std::thread::scope(|scope| {
+        let parts: Vec<_> =
+            (0..threads).map(|thread| scope.spawn(move || run_dealt(seed, thread, large, next, count))).collect();
+        for part in parts {
+            let part = part.join().expect("a case that panicked has said so");
+            whole.coverage.add(&part.coverage);
+            whole.differences += part.differences;
+        }
+    });
+}
+
+/// One thread's cases: the next one that no thread has taken, again and again.
+fn run_dealt(seed: u64, thread: usize, large: bool, next: &AtomicU64, count: u64) -> Runner {
+    let mut part = runner(seed);
+    loop {
+        let number = next.fetch_add(1, Ordering::Relaxed);
+        if number >= count {
+            watch::rest(thread);
+            return part;
+        }
+        watch::case(thread, large, number);
+        part.run(CaseName { large, number });
+    }
+}
+
 fn run_only(seed: u64, name: CaseName) -> u64 {
     let mut runner = runner(seed);
-    watch::case(name.large, name.number);
+    watch::case(0, name.large, name.number);
     runner.run(name);
     println!("outside: 1 cases, {} differences", runner.differences);
     runner.differences

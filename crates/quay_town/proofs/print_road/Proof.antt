@@ -1,3 +1,4 @@
+-- `quay_town::print_road` meets its contract.
 use Prim.Native.Nat.{_≤_, _-_}
 use borrow.Author.Needs.{needs}
 use Rattle.quay_town.proofs.print_road.Statement.{statement}

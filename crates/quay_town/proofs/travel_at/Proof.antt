@@ -1,5 +1,4 @@
 -- `quay_town::travel_at` meets its contract: road 1's points are a day's points.
--- Assumes nothing.
 use Rattle.quay_town.specs.Road.{road-points}
 use borrow.Author.Needs.{needs}
 use Rattle.quay_town.proofs.travel_at.Statement.{statement}

@@ -1,7 +1,6 @@
 -- `search::answer` meets its contract: what is told by the labels that the search left is told by the true labels.
--- Assumes nothing.
 use Rattle.search.specs.Answering.{answered, in-labels}
-use Rattle.search.specs.Town.{ready-of}
+use Rattle.labels.specs.Ready.{ready-of}
 use borrow.Author.Needs.{needs}
 use Rattle.search.proofs.answer.Statement.{statement}
 use Rattle.search.proofs.answer.Tie as tie

@@ -1,11 +1,10 @@
 -- `search::search` meets its contract: what holds of the lent part of the arrivals holds of the whole list.
--- Assumes nothing.
 use native.Mathlib.Omega.{arith}
 use lib.Seq.{length-take-le}
 use lib.ListN.{length-take}
 use Rattle.network.specs.Decode.{laid-sizes}
 use Rattle.search.specs.Answering.{answered-front}
-use Rattle.search.specs.Town.{town-of}
+use Rattle.arcs.specs.Town.{town-of}
 use borrow.Author.Needs.{needs}
 use Rattle.search.proofs.search.Statement.{statement}
 use Rattle.search.proofs.search.Tie as tie

@@ -1,5 +1,4 @@
 -- `search::tell` meets its contract: each way out is a case of `outcomeOf`.
--- Assumes nothing.
 use Rattle.search.specs.Answering.{tells}
 use borrow.Author.Needs.{needs}
 use Rattle.search.proofs.tell.Statement.{statement}

@@ -1,5 +1,4 @@
 -- `search::trim` meets its contract: the invariant is the contract itself at the nodes passed.
--- Assumes nothing.
 use mathlib.Core.Path.{_≡_, refl}
 use Prim.Native.Nat.{_≤_, _-_}
 use lib.ListN.{length}

@@ -1,6 +1,5 @@
 -- `travel::line` meets its contract. A product is below 65,536 · 4,294,967,296 = 2^48, since ticks have 16 bits and values 32, so the sum of two fits 64 bits;
 -- the quotient lies between the two values, so it fits 32.
--- Assumes nothing.
 use mathlib.Core.Path.{refl}
 use Prim.Native.Nat.{_-_, _*_, _≤_}
 use native.Mathlib.Nat.{mul-le-mul-left}

@@ -1,5 +1,4 @@
 -- `travel::segment` meets its contract: the two ends stand on either side of x, and come together by halves.
--- Assumes nothing.
 use Prim.Native.Nat.{_-_}
 use Rattle.travel.specs.Search.{Between, halves}
 use Rattle.travel.specs.Table.{entryAt}

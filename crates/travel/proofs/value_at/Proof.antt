@@ -1,7 +1,6 @@
 -- `travel::value_at` meets its contract: the segment of the reduced tick and the next point, or the next day's first, are the ends of the line.
--- Assumes nothing.
 use native.Mathlib.Omega.{arith}
-use Rattle.travel.specs.Day.{day-reduced, readings}
+use Rattle.travel.specs.Day.{day-reduced, day-sorted, readings}
 use Rattle.travel.specs.Table.{entryAt, entry-first}
 use borrow.Author.Needs.{needs}
 use Rattle.travel.proofs.value_at.Statement.{statement}
@@ -14,7 +13,9 @@ cast-x : tie.Need-cast-x
 cast-x c = omega (arith, day-reduced (c .before .before .pre .day) (c .before .before .args .tick))
 
 segment-requires : tie.Need-segment-requires
-segment-requires c κs = search needs
+segment-requires c κs =
+    let p = c .before .before .pre in
+    (p .in-ticks, day-sorted (p .day) _)
 
 add-a : tie.Need-add-a
 add-a c = search needs

@@ -1,3 +1,4 @@
+-- `blocks::form::first_unformed` meets its contract.
 use native.Mathlib.Omega.{arith}
 use Rattle.blocks.specs.Form.{unformed}
 use Rattle.loops.specs.First.{first, stop, end, firsts}

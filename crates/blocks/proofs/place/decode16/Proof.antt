@@ -1,3 +1,4 @@
+-- `blocks::place::decode16` meets its contract.
 use native.Mathlib.Nat.{mul-le-mul-right}
 use Rattle.blocks.specs.Table.{entry16, whole-more, whole-end, wholes}
 use Rattle.blocks.specs.Place.{blocks, entriesIn, block-starts, block-in, block-fits}

@@ -1,3 +1,4 @@
+-- `blocks::place::decode_part16` meets its contract.
 use Prim.Native.Nat.{_≤_, _+_, _*_, _-_}
 use denote.Ref.{now}
 use lib.ListN.{length}

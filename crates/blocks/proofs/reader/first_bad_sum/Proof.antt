@@ -1,3 +1,4 @@
+-- `blocks::reader::first_bad_sum` meets its contract.
 use Rattle.blocks.specs.Read.{bad, bad-told}
 use Rattle.loops.specs.First.{first, pass, stop, firsts}
 use Prim.Native.Nat.{_≤_, _-_}

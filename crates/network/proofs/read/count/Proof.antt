@@ -1,3 +1,4 @@
+-- `network::read::count` meets its contract.
 use Rattle.network.specs.Decode.{reads}
 use borrow.Author.Needs.{needs}
 use Rattle.network.proofs.read.count.Statement.{statement}

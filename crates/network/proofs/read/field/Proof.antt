@@ -1,3 +1,4 @@
+-- `network::read::field` meets its contract.
 use borrow.Author.Needs.{needs}
 use Rattle.network.proofs.read.field.Statement.{statement}
 use Rattle.network.proofs.read.field.Tie as tie
@@ -15,7 +16,7 @@ cast-result : tie.Need-cast-result
 cast-result c = search needs
 
 returns : tie.Need-returns
-returns c = (cc, search needs)
+returns c = (rw (c .before .offset .ensures) at (c .le16 .ensures), search needs)
 
 pub field-spec : {M : Type 1} → statement M
 field-spec = tie.close (tie.spec offset-requires add-le16 le16-requires cast-result returns)

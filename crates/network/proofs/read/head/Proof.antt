@@ -1,3 +1,4 @@
+-- `network::read::head` meets its contract.
 use Rattle.network.specs.Decode.{reads}
 use borrow.Author.Needs.{needs}
 use Rattle.network.proofs.read.head.Statement.{statement}

@@ -1,3 +1,4 @@
+-- `network::read::tail` meets its contract.
 use Rattle.network.specs.Decode.{reads}
 use borrow.Author.Needs.{needs}
 use Rattle.network.proofs.read.tail.Statement.{statement}

@@ -1,3 +1,4 @@
+-- `network_pack::encode::encode_network` meets its contract.
 use Rattle.network_pack.specs.Written.{file-more, file-whole}
 use Prim.Native.Nat.{_-_, _*_, _≤_}
 use Rattle.loops.specs.Fill.{Filled, fill-none}

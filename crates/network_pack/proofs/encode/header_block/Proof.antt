@@ -1,3 +1,4 @@
+-- `network_pack::encode::header_block` meets its contract.
 use mathlib.Core.Path.{refl}
 use lib.Dec.{lit<, lit≤}
 use Rattle.network_pack.specs.Encode.{headerByte}

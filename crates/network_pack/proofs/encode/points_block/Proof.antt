@@ -1,3 +1,4 @@
+-- `network_pack::encode::points_block` meets its contract.
 use Prim.Native.Nat.{_*_, _≤_}
 use native.Mathlib.Omega.{arith}
 use lib.Dec.{lit<}

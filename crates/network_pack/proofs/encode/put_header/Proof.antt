@@ -1,3 +1,4 @@
+-- `network_pack::encode::put_header` meets its contract.
 use Rattle.network_pack.specs.Written.{header-put}
 use borrow.Author.Needs.{needs}
 use Rattle.network_pack.proofs.encode.put_header.Statement.{statement}

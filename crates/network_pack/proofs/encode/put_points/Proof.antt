@@ -1,3 +1,4 @@
+-- `network_pack::encode::put_points` meets its contract.
 use Prim.Native.Nat.{_+_, _-_, _*_, _≤_}
 use Rattle.loops.specs.Fill.{Filled}
 use Rattle.network_pack.specs.Encode.{pointByte}

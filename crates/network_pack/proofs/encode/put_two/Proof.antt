@@ -1,3 +1,4 @@
+-- `network_pack::encode::put_two` meets its contract.
 use native.Mathlib.Omega.{arith}
 use Prim.Native.Nat.{_<_}
 use Rattle.network_pack.specs.Block.{put-more}

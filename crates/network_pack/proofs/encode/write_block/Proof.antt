@@ -1,3 +1,4 @@
+-- `network_pack::encode::write_block` meets its contract.
 use Rattle.network_pack.specs.Written.{blockwise}
 use borrow.Author.Needs.{needs}
 use Rattle.network_pack.proofs.encode.write_block.Statement.{statement}

@@ -1,3 +1,4 @@
+-- `network_pack::pack::copy` meets its contract.
 use denote.Ref.{now}
 use mathlib.Core.Path.{refl}
 use native.Mathlib.Omega.{arith}

@@ -1,3 +1,4 @@
+-- `network_pack::pack::pack_file` meets its contract.
 use mathlib.Core.Path.{refl}
 use Rattle.network_pack.specs.Pack.{rules-sound, rules-faulty}
 use borrow.Author.Needs.{needs}

@@ -1,3 +1,4 @@
+-- `network_pack::pack::pack_network` meets its contract.
 use Rattle.network_pack.specs.Pack.{inside-within, inside-number, inside-bytes, numbers-inside, numbers-outside, short-bytes}
 use borrow.Author.Needs.{needs}
 use Rattle.network_pack.proofs.pack.pack_network.Statement.{statement}

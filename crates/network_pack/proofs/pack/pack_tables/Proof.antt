@@ -1,3 +1,4 @@
+-- `network_pack::pack::pack_tables` meets its contract.
 use mathlib.Core.Path.{sym, _∙_, ap}
 use native.Mathlib.Omega.{arith}
 use lib.ListN.{length}

@@ -1,3 +1,4 @@
+-- `network_pack::pack::pack_within` meets its contract.
 use native.Mathlib.Omega.{arith}
 use Rattle.network.specs.Validate.{blocks-few}
 use Rattle.network_pack.specs.Pack.{now-packable, tables-short, tables-long, short-bytes}

@@ -1,3 +1,4 @@
+-- `network_pack::pack::write_out` meets its contract.
 use Rattle.network_pack.specs.Pack.{into-short, into-whole, short-bytes}
 use borrow.Author.Needs.{needs}
 use Rattle.network_pack.proofs.pack.write_out.Statement.{statement}

@@ -47,7 +47,19 @@ loop-less : tie.Need-loop-less Inv-loop μ-loop
 loop-less c = search needs
 
 loop-again : tie.Need-loop-again Inv-loop μ-loop
-loop-again c = let i = c .before .before .loop .inv in (search needs, search needs, search needs, search needs, search needs, ⊎-elim (λ w. rw (w .1, w .2) (choose-yes _ _ _ _ _ (i .5) (omega (arith, i .5 .few)) (border-yes _ _ (i .3) _ (omega arith) (w .0 .taken)))) (λ w. rw (w .1, w .2) (choose-no _ _ _ _ _ (i .5) (border-no _ _ (i .3) _ (omega arith) (w .0 .left)))) (c .if1 .came))
+loop-again c =
+    let t = c .before in
+    let i = t .before .loop .inv in
+    let m = i .3 in (
+      search needs,
+      i .1,
+      i .2,
+      m,
+      i .4,
+      ⊎-elim (λ w. rw (w .1, w .2) (choose-yes _ _ _ _ _ (i .5) (omega (arith, i .5 .few)) (border-yes _ _ m _ (omega arith) (w .0 .taken))))
+          (λ w. rw (w .1, w .2) (choose-no _ _ _ _ _ (i .5) (border-no _ _ m _ (omega arith) (w .0 .left))))
+          (c .if1 .came),
+    )
 
 returns : tie.Need-returns Inv-loop μ-loop
 returns c = let i = c .before .loop .inv in borders-listed _ _ _ _ (choose-end _ _ _ _ _ _ (i .5) (omega arith) (omega arith))

@@ -11,7 +11,7 @@ le64-requires : tie.Need-le64-requires
 le64-requires c κs = omega (arith, flag-in (c .before .before .pre .0) (c .before .before .pre .1))
 
 returns : tie.Need-returns
-returns c = flag-is (c .before .before .before .pre .0) (c .before .before .before .pre .1) (cc)
+returns c = flag-is (c .before .before .before .pre .0) (c .before .before .before .pre .1) (rw (c .before .offset .ensures) at (c .le64 .ensures))
 
 pub flag-word-spec : {M : Type 1} → statement M
 flag-word-spec = tie.close (tie.spec offset-requires le64-requires returns)

@@ -15,7 +15,7 @@ cast-result : tie.Need-cast-result
 cast-result c = search needs
 
 returns : tie.Need-returns
-returns c = (count-is (c .before .before .before .pre .0) (c .before .before .before .pre .1) (cc), search needs)
+returns c = (count-is (c .before .before .before .pre .0) (c .before .before .before .pre .1) (rw (c .before .offset .ensures) at (c .le16 .ensures)), search needs)
 
 pub point-count-spec : {M : Type 1} → statement M
 point-count-spec = tie.close (tie.spec offset-requires le16-requires cast-result returns)

@@ -14,7 +14,7 @@ le32-requires : tie.Need-le32-requires
 le32-requires c κs = omega (arith, point-in (c .before .before .pre .0) (c .before .before .pre .1))
 
 returns : tie.Need-returns
-returns c = travel-is (c .before .before .before .pre .0) (c .before .before .before .pre .1) (cc)
+returns c = travel-is (c .before .before .before .pre .0) (c .before .before .before .pre .1) (rw (c .before .offset .ensures) at (c .le32 .ensures))
 
 pub travel-spec : {M : Type 1} → statement M
 travel-spec = tie.close (tie.spec offset-requires add-le32 le32-requires returns)

@@ -1,3 +1,4 @@
+-- `plan_check::check::check_formed` meets its contract.
 use Rattle.plan_check.specs.Checking.{checks}
 use borrow.Author.Needs.{needs}
 use Rattle.plan_check.proofs.check.check_formed.Statement.{statement}

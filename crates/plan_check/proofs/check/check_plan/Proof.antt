@@ -1,3 +1,4 @@
+-- `plan_check::check::check_plan` meets its contract.
 use Rattle.plan_check.specs.Checking.{checks}
 use borrow.Author.Needs.{needs}
 use Rattle.plan_check.proofs.check.check_plan.Statement.{statement}

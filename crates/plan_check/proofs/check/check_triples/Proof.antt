@@ -1,6 +1,5 @@
--- `plan_check::check::check_triples` meets its contract: the ladder from 21 on is what is left of it from this number on.
--- Assumes nothing.
-use Rattle.plan_check.specs.Finding.{Passed, passing}
+-- `plan_check::check::check_triples` meets its contract: where nothing fails the ladder from 21 on accepts; else it is what is left of it from this number on.
+use Rattle.plan_check.specs.Finding.{Passed, passing, passed-none, passed-more, clean-accepted}
 use Rattle.plan.specs.PlanDecode.{decodePlan}
 use Rattle.network.specs.Decode.{decode}
 use Prim.Native.Nat.{_-_}
@@ -14,20 +13,26 @@ Inv-loop network l plan pl points first next borders number₀ number = Passed (
 abbrev μ-loop : tie.MeasureT-loop
 μ-loop network l plan pl points first next borders number₀ number = 25 - number
 
+is-clean-requires : tie.Need-is-clean-requires Inv-loop μ-loop
+is-clean-requires c κs = c .before .before .pre
+
+returns : tie.Need-returns Inv-loop μ-loop
+returns c = clean-accepted _ _ (c .before .is-clean .ensures (c .if1 .taken))
+
 loop-holds : tie.Need-loop-holds Inv-loop μ-loop
-loop-holds c = search passing
+loop-holds c = passed-none
 
 first-failing-requires : tie.Need-first-failing-requires Inv-loop μ-loop
-first-failing-requires c κs = search needs
+first-failing-requires c κs = c .before .before .before .before .before .before .pre
 
 enum-known-found : tie.Need-enum-known-found Inv-loop μ-loop
 enum-known-found c = search needs
 
 refused-at-requires : tie.Need-refused-at-requires Inv-loop μ-loop
-refused-at-requires c κs = search needs
+refused-at-requires c κs = tt
 
-returns : tie.Need-returns Inv-loop μ-loop
-returns c = search passing
+returns-2 : tie.Need-returns-2 Inv-loop μ-loop
+returns-2 c = search passing
 
 enum-told : tie.Need-enum-told Inv-loop μ-loop
 enum-told c = search needs
@@ -39,10 +44,12 @@ loop-less : tie.Need-loop-less Inv-loop μ-loop
 loop-less c = search needs
 
 loop-again : tie.Need-loop-again Inv-loop μ-loop
-loop-again c = search passing
+loop-again c =
+    let i = c .before .before .before in
+    passed-more (i .before .loop .inv) (i .loop-test .taken) (c .before .before .first-failing .ensures) (c .enum-told .given .1)
 
-returns-2 : tie.Need-returns-2 Inv-loop μ-loop
-returns-2 c = search passing
+returns-3 : tie.Need-returns-3 Inv-loop μ-loop
+returns-3 c = search passing
 
 pub check-triples-spec : {M : Type 1} → statement M
 check-triples-spec =
@@ -50,13 +57,15 @@ check-triples-spec =
     (tie.spec
     Inv-loop
     μ-loop
+    is-clean-requires
+    returns
     loop-holds
     first-failing-requires
     enum-known-found
     refused-at-requires
-    returns
+    returns-2
     enum-told
     add-number
     loop-less
     loop-again
-    returns-2)
+    returns-3)

@@ -1,6 +1,5 @@
 -- `plan_check::check::first_unflagged` meets its contract: 20 fails at no arc that was passed.
--- Assumes nothing.
-use Rattle.plan_check.specs.Tests.{fails20}
+use Rattle.plan_tests.specs.Tests.{fails20}
 use Rattle.plan.specs.PlanDecode.{decodePlan}
 use Rattle.network.specs.Decode.{decode}
 use Prim.Native.Nat.{_≤_, _-_}

@@ -1,3 +1,4 @@
+-- `run_sheet::input::take_bytes` meets its contract.
 use mathlib.Core.Path.{_≡_}
 use Prim.Native.Nat.{_-_, _≤_}
 use lib.ListN.{length}

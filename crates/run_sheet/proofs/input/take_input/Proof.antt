@@ -1,3 +1,4 @@
+-- `run_sheet::input::take_input` meets its contract.
 use mathlib.Core.Path.{_≡_}
 use lib.ListN.{length}
 use borrow.Author.Needs.{needs}

@@ -1,7 +1,7 @@
 -- `search::path::arc_into` meets its contract: the walk passes only arcs that do not explain the label, and is left at the first that does.
--- Assumes nothing.
 use Prim.Native.Nat.{_-_}
 use Rattle.search.specs.Into.{Passing, intos}
+use Rattle.labels.specs.Walk.{arc-place, arc-scaled}
 use borrow.Author.Needs.{needs}
 use Rattle.search.proofs.path.arc_into.Statement.{statement}
 use Rattle.search.proofs.path.arc_into.Tie as tie
@@ -25,16 +25,23 @@ loop-holds : tie.Need-loop-holds Inv-loop μ-loop
 loop-holds c = search intos
 
 is-into-requires : tie.Need-is-into-requires Inv-loop μ-loop
-is-into-requires c κs = (search needs, (search needs, (search needs, search intos)))
+is-into-requires c κs =
+    let w = c .before .loop .inv in
+    let s = c .before .before .before .before .before .before .before .pre in
+    (w .ready, (s .1 .1, (c .loop-test .taken, w .here (c .loop-test .taken))))
 
 returns : tie.Need-returns Inv-loop μ-loop
 returns c = search intos
 
 mul-wide-2 : tie.Need-mul-wide-2 Inv-loop μ-loop
-mul-wide-2 c = search needs
+mul-wide-2 c =
+    let t = c .before .before in
+    arc-scaled _ (t .before .loop .inv .ready) (t .loop-test .taken)
 
 element-copy-out-wide-2 : tie.Need-element-copy-out-wide-2 Inv-loop μ-loop
-element-copy-out-wide-2 c = search needs
+element-copy-out-wide-2 c =
+    let t = c .before .before in
+    arc-place _ (t .before .loop .inv .ready) (t .loop-test .taken)
 
 wide-requires-2 : tie.Need-wide-requires-2 Inv-loop μ-loop
 wide-requires-2 c κs = search needs

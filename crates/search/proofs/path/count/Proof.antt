@@ -1,10 +1,9 @@
 -- `search::path::count` meets its contract: the loop goes back along the chosen path, and counts its arcs.
--- Assumes nothing.
 use Prim.Native.Nat.{_-_}
 use Rattle.network.specs.Network.{head}
 use Rattle.network.specs.Decode.{decode}
-use Rattle.search.specs.Path.{Backing, backs}
-use Rattle.search.specs.Chain.{Chained}
+use Rattle.search.specs.Path.{Backing, back-node, back-size, back-more, backs}
+use Rattle.arcs.specs.Chain.{Chained}
 use borrow.Author.Needs.{needs}
 use Rattle.search.proofs.path.count.Statement.{statement}
 use Rattle.search.proofs.path.count.Tie as tie
@@ -20,7 +19,10 @@ loop-holds : tie.Need-loop-holds Inv-loop μ-loop
 loop-holds c = (search needs, search backs)
 
 arc-into-requires : tie.Need-arc-into-requires Inv-loop μ-loop
-arc-into-requires c κs = (search needs, (search needs, (search backs, search backs, search needs)))
+arc-into-requires c κs =
+    let k = c .before .loop .inv in
+    let b = k .1 in
+    (b .ready, (k .0, (back-node b, back-size b, b .reached .early)))
 
 tail-requires : tie.Need-tail-requires Inv-loop μ-loop
 tail-requires c κs = (search needs, search backs)
@@ -32,7 +34,10 @@ loop-less : tie.Need-loop-less Inv-loop μ-loop
 loop-less c = search backs
 
 loop-again : tie.Need-loop-again Inv-loop μ-loop
-loop-again c = (search needs, search backs)
+loop-again c =
+    let t = c .before .before in
+    let k = t .before .loop .inv in
+    (k .0, back-more (k .1) (t .loop-test .taken) _ (c .before .arc-into .ensures) _ (c .tail .ensures .0))
 
 returns : tie.Need-returns Inv-loop μ-loop
 returns c = search backs

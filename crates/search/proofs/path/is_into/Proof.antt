@@ -1,10 +1,9 @@
 -- `search::path::is_into` meets its contract: each way through the tests is a case of `explains`.
--- Assumes nothing.
 use Prim.Native.Nat.{_<_}
 use lib.ListN.{length}
 use Rattle.network.specs.Decode.{decode}
 use Rattle.network.specs.Town.{graphOf}
-use Rattle.search.specs.Town.{permitOf, town-reads}
+use Rattle.labels.specs.Ready.{permitOf, ready-reads}
 use Rattle.search.specs.Into.{not-permitted, no-label, by-end}
 use borrow.Author.Tests.{eq-eqb, ne-eqb}
 use borrow.Author.Needs.{needs}
@@ -24,13 +23,13 @@ mul-tick : tie.Need-mul-tick
 mul-tick c = search needs
 
 shared-slice-read-tick : tie.Need-shared-slice-read-tick
-shared-slice-read-tick c = search town-reads
+shared-slice-read-tick c = search ready-reads
 
 returns-2 : tie.Need-returns-2
-returns-2 c = search (no-label, town-reads, eq-eqb)
+returns-2 c = search (no-label, ready-reads, eq-eqb)
 
 ends-at-requires : tie.Need-ends-at-requires
-ends-at-requires c κs = (search needs, ((search needs, search town-reads), search town-reads))
+ends-at-requires c κs = (search needs, ((search needs, search ready-reads), search ready-reads))
 
 mul-result : tie.Need-mul-result
 mul-result c = search needs
@@ -44,8 +43,8 @@ returns-3 c =
     let f = e .before .before .before in
     let s = f .before .before .before .before .before in
     let L = s .args .labels .now in
-    let u : e .before .before .tail .result < length L = search town-reads in
-    let v : s .args .v < length L = search town-reads in
+    let u : e .before .before .tail .result < length L = search ready-reads in
+    let v : s .args .v < length L = search ready-reads in
     by-end (graphOf (decode (s .args .file .now))) (permitOf (s .args .mask .now)) L (s .args .v) (s .args .arc) _ u
     (e .before .before .tail .ensures .0)
     (eq-eqb _ _ (f .if1 .left))

@@ -1,7 +1,6 @@
 -- `search::path::path` meets its contract: the path is counted, and written where the list is long enough.
--- Assumes nothing.
 use Rattle.search.specs.Path.{listed-short, listed-way}
-use Rattle.search.specs.Town.{fresh-tables}
+use Rattle.arcs.specs.Town.{fresh-tables}
 use borrow.Author.Needs.{needs}
 use Rattle.search.proofs.path.path.Statement.{statement}
 use Rattle.search.proofs.path.path.Tie as tie
@@ -10,7 +9,10 @@ chain-requires : tie.Need-chain-requires
 chain-requires c κs = (search needs, search fresh-tables)
 
 count-requires : tie.Need-count-requires
-count-requires c κs = search needs
+count-requires c κs =
+    let h = c .before .before in
+    let s = h .before .before .before .before .before .before .before .pre in
+    (s .0, (h .chain .ensures, s .1))
 
 returns : tie.Need-returns
 returns c = search listed-short

@@ -1,11 +1,9 @@
 -- `search::path::write` meets its contract: the loop goes back along the chosen path, and writes each arc before those written.
--- Assumes nothing.
 use Prim.Native.Nat.{_-_}
-use native.Mathlib.Omega.{arith}
 use Rattle.network.specs.Network.{head}
 use Rattle.network.specs.Decode.{decode}
-use Rattle.search.specs.Path.{Writing, writes, write-room}
-use Rattle.search.specs.Chain.{Chained}
+use Rattle.search.specs.Path.{Writing, write-node, write-size, write-place, write-scaled, write-more, writes}
+use Rattle.arcs.specs.Chain.{Chained}
 use borrow.Author.Needs.{needs}
 use Rattle.search.proofs.path.write.Statement.{statement}
 use Rattle.search.proofs.path.write.Tie as tie
@@ -21,7 +19,10 @@ loop-holds : tie.Need-loop-holds Inv-loop μ-loop
 loop-holds c = (search needs, search writes)
 
 arc-into-requires : tie.Need-arc-into-requires Inv-loop μ-loop
-arc-into-requires c κs = (search needs, (search needs, (search writes, search writes, search needs)))
+arc-into-requires c κs =
+    let k = c .before .loop .inv in
+    let b = k .1 .back in
+    (b .ready, (k .0, (write-node (k .1), write-size (k .1), b .reached .early)))
 
 cast-roads : tie.Need-cast-roads Inv-loop μ-loop
 cast-roads c = search writes
@@ -33,10 +34,10 @@ sub-roads-2 : tie.Need-sub-roads-2 Inv-loop μ-loop
 sub-roads-2 c = search needs
 
 mul-roads : tie.Need-mul-roads Inv-loop μ-loop
-mul-roads c = omega (arith, write-room (c .before .before .loop .inv .1))
+mul-roads c = write-scaled (c .before .before .loop .inv .1) (c .before .loop-test .taken)
 
 slice-write-roads : tie.Need-slice-write-roads Inv-loop μ-loop
-slice-write-roads c = omega (arith, write-room (c .before .before .loop .inv .1))
+slice-write-roads c = write-place (c .before .before .loop .inv .1) (c .before .loop-test .taken)
 
 tail-requires : tie.Need-tail-requires Inv-loop μ-loop
 tail-requires c κs = (search needs, search writes)
@@ -48,10 +49,13 @@ loop-less : tie.Need-loop-less Inv-loop μ-loop
 loop-less c = search needs
 
 loop-again : tie.Need-loop-again Inv-loop μ-loop
-loop-again c = (search needs, search writes)
+loop-again c =
+    let t = c .before .before in
+    let k = t .before .loop .inv in
+    (k .0, write-more (k .1) (t .loop-test .taken) _ (c .before .arc-into .ensures) _ (c .tail .ensures .0))
 
 same-length : tie.Need-same-length Inv-loop μ-loop
-same-length c = search needs
+same-length c = c .before .loop .inv .1 .written .long
 
 returns : tie.Need-returns Inv-loop μ-loop
 returns c = search writes

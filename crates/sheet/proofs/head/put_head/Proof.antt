@@ -1,3 +1,4 @@
+-- `sheet::head::put_head` meets its contract.
 use Rattle.sheet.specs.HeadStored.{heads}
 use borrow.Author.Needs.{needs}
 use Rattle.sheet.proofs.head.put_head.Statement.{statement}

@@ -1,3 +1,4 @@
+-- `sheet::head::put_refusal` meets its contract.
 use Rattle.sheet.specs.HeadStored.{refusal-stored}
 use borrow.Author.Needs.{needs}
 use Rattle.sheet.proofs.head.put_refusal.Statement.{statement}

@@ -1,3 +1,4 @@
+-- `sheet::line::scan_byte` meets its contract.
 use borrow.Author.Tests.{not-true, not-false}
 use Rattle.loops.specs.Pick.{picks}
 use Rattle.sheet.specs.Scanning.{scanned}

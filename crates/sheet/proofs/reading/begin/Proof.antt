@@ -1,3 +1,4 @@
+-- `sheet::reading::begin` meets its contract.
 use Rattle.sheet.specs.Text.{printed}
 use Rattle.sheet.specs.HeadStored.{heads}
 use borrow.Author.Needs.{needs}

@@ -1,3 +1,4 @@
+-- `sheet::reading::take_byte` meets its contract.
 use Rattle.sheet.specs.ReadingSteps.{steps}
 use borrow.Author.Needs.{needs}
 use Rattle.sheet.proofs.reading.take_byte.Statement.{statement}

@@ -1,3 +1,4 @@
+-- `sheet::text::put_decimal` meets its contract.
 use native.Mathlib.Omega.{arith}
 use Rattle.sheet.specs.Number.{stored-digit, stored-digits, decimal-nine}
 use borrow.Author.Needs.{needs}

@@ -1,3 +1,4 @@
+-- `sheet::text::put_spaced` meets its contract.
 use mathlib.Core.Path.{_∙_}
 use native.Mathlib.Omega.{arith}
 use lib.ListN.{length-set}

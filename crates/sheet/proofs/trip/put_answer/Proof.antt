@@ -1,3 +1,4 @@
+-- `sheet::trip::put_answer` meets its contract.
 use Prim.Native.Nat.{_≤_}
 use native.Mathlib.Omega.{arith}
 use Rattle.sheet.specs.TripStored.{count-arrived, answer-arrived, answer-refused}

@@ -1,3 +1,4 @@
+-- `sheet::trip::put_arrival` meets its contract.
 use Rattle.sheet.specs.TripStored.{arrival-stored}
 use borrow.Author.Needs.{needs}
 use Rattle.sheet.proofs.trip.put_arrival.Statement.{statement}

@@ -1,3 +1,4 @@
+-- `sheet::trip::put_asking` meets its contract.
 use native.Mathlib.Omega.{arith}
 use Rattle.sheet.specs.Number.{decimal-few}
 use Rattle.sheet.specs.TripStored.{asking-stored}

@@ -1,3 +1,4 @@
+-- `sheet::trip::put_line` meets its contract.
 use Rattle.sheet.specs.TripStored.{line-asks, line-other}
 use borrow.Author.Needs.{needs}
 use Rattle.sheet.proofs.trip.put_line.Statement.{statement}

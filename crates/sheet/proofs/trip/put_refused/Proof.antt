@@ -1,3 +1,4 @@
+-- `sheet::trip::put_refused` meets its contract.
 use Rattle.sheet.specs.TripStored.{refused-stored}
 use borrow.Author.Needs.{needs}
 use Rattle.sheet.proofs.trip.put_refused.Statement.{statement}

@@ -1,3 +1,4 @@
+-- `sheet::trip::put_trip` meets its contract.
 use Rattle.sheet.specs.TripStored.{trip-fits, trip-stored}
 use borrow.Author.Needs.{needs}
 use Rattle.sheet.proofs.trip.put_trip.Statement.{statement}

@@ -1,3 +1,4 @@
+-- `trips::answer::told` meets its contract.
 use Rattle.trips.specs.Trip.{tellings}
 use borrow.Author.Needs.{needs}
 use Rattle.trips.proofs.answer.told.Statement.{statement}

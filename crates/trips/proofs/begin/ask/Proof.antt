@@ -1,3 +1,4 @@
+-- `trips::begin::ask` meets its contract.
 use Rattle.loops.specs.Pick.{picks}
 use Rattle.trips.specs.Trip.{asked}
 use borrow.Author.Needs.{needs}

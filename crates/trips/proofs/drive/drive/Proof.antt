@@ -1,3 +1,4 @@
+-- `trips::drive::drive` meets its contract.
 use native.Mathlib.Omega.{arith}
 use Rattle.trips.specs.Drive.{drives, arrivals-told, drive-laid, drive-sound, drive-sizes}
 use borrow.Author.Needs.{needs}

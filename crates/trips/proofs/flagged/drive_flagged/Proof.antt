@@ -1,3 +1,4 @@
+-- `trips::flagged::drive_flagged` meets its contract.
 use denote.Ref.{now}
 use native.Mathlib.Omega.{arith}
 use Rattle.trips.specs.Drive.{drive-laid, drive-sizes}

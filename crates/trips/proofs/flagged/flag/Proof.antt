@@ -1,3 +1,4 @@
+-- `trips::flagged::flag` meets its contract.
 use Rattle.loops.specs.Pick.{picks}
 use borrow.Author.Needs.{needs}
 use Rattle.trips.proofs.flagged.flag.Statement.{statement}

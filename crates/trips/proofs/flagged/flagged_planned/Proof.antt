@@ -1,5 +1,6 @@
+-- `trips::flagged::flagged_planned` meets its contract.
 use mathlib.Core.Path.{refl}
-use Rattle.trips.specs.Flagged.{stages}
+use Rattle.trips.specs.Flagged.{plan-stages}
 use borrow.Author.Needs.{needs}
 use Rattle.trips.proofs.flagged.flagged_planned.Statement.{statement}
 use Rattle.trips.proofs.flagged.flagged_planned.Tie as tie
@@ -17,10 +18,10 @@ enum-known-k : tie.Need-enum-known-k
 enum-known-k c = search needs
 
 flagged-asked-requires : tie.Need-flagged-asked-requires
-flagged-asked-requires c κs = (search needs, search stages)
+flagged-asked-requires c κs = (search needs, search plan-stages)
 
 returns : tie.Need-returns
-returns c = (search stages, (search stages, refl))
+returns c = (search plan-stages, (search plan-stages, refl))
 
 same-length : tie.Need-same-length
 same-length c = search needs
@@ -29,7 +30,7 @@ same-length-2 : tie.Need-same-length-2
 same-length-2 c = search needs
 
 returns-2 : tie.Need-returns-2
-returns-2 c = (search stages, (search stages, search needs))
+returns-2 c = (search plan-stages, (search plan-stages, search needs))
 
 pub flagged-planned-spec : {M : Type 1} → statement M
 flagged-planned-spec =

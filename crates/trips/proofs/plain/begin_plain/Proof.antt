@@ -1,3 +1,4 @@
+-- `trips::plain::begin_plain` meets its contract.
 use Rattle.trips.specs.Trip.{then-refused, then-opened}
 use borrow.Author.Needs.{needs}
 use Rattle.trips.proofs.plain.begin_plain.Statement.{statement}

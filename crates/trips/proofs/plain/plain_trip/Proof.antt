@@ -1,5 +1,7 @@
+-- `trips::plain::plain_trip` meets its contract.
 use mathlib.Core.Path.{refl}
 use Rattle.trips.specs.Plain.{plains}
+use Rattle.trips.specs.Stage.{stages}
 use borrow.Author.Needs.{needs}
 use Rattle.trips.proofs.plain.plain_trip.Statement.{statement}
 use Rattle.trips.proofs.plain.plain_trip.Tie as tie
@@ -20,7 +22,7 @@ drive-requires : tie.Need-drive-requires
 drive-requires c κs = (search plains, (search plains, search plains, search plains, search plains, search plains))
 
 returns : tie.Need-returns
-returns c = (search plains, (search plains, refl))
+returns c = (search stages, (search stages, refl))
 
 same-length : tie.Need-same-length
 same-length c = search needs

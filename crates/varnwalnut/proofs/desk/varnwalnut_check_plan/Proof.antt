@@ -1,12 +1,14 @@
-use Rattle.varnwalnut.specs.Calling.{callings, desk-code, desk-numbers}
-use Rattle.varnwalnut.specs.Reply.{checkCode, checkNumbers}
-use native.Mathlib.Omega.{arith}
+-- `varnwalnut::desk::varnwalnut_check_plan` meets its contract.
+use mathlib.Core.Path.{refl}
+use Rattle.varnwalnut.specs.Calling.{room-short, kept-short, enough}
 use borrow.Author.Needs.{needs}
 use Rattle.varnwalnut.proofs.desk.varnwalnut_check_plan.Statement.{statement}
 use Rattle.varnwalnut.proofs.desk.varnwalnut_check_plan.Tie as tie
 
 returns : tie.Need-returns
-returns c = (search callings, search callings)
+returns c =
+    let l = c .if1 .taken in
+    (room-short 3 _ _ _ l refl, kept-short 3 _ _ _ l)
 
 check-plan-requires : tie.Need-check-plan-requires
 check-plan-requires c κs = search needs
@@ -18,7 +20,7 @@ same-length : tie.Need-same-length
 same-length c = search needs
 
 returns-2 : tie.Need-returns-2
-returns-2 c = (desk-code 3 checkCode _ _ _ _ (c .before .before .before .before .check-plan .ensures) (omega arith) (c .before .before .write-checking .ensures .0), desk-numbers 3 checkNumbers _ _ _ _ (c .before .before .before .before .check-plan .ensures) (omega arith) (c .before .before .write-checking .ensures .1))
+returns-2 c = rw (← (c .before .before .before .before .check-plan .ensures)) (search enough, search enough)
 
 pub varnwalnut-check-plan-spec : {M : Type 1} → statement M
 varnwalnut-check-plan-spec =

@@ -1,42 +1,44 @@
-use Rattle.varnwalnut.specs.Calling.{callings, desk-code, desk-numbers, desk-table}
-use Rattle.varnwalnut.specs.Reply.{openCode, openNumbers}
-use native.Mathlib.Omega.{arith}
+-- `varnwalnut::desk::varnwalnut_open_network` meets its contract.
+use mathlib.Core.Path.{refl}
+use Rattle.varnwalnut.specs.Calling.{room-short, kept-short, enough}
 use borrow.Author.Needs.{needs}
 use Rattle.varnwalnut.proofs.desk.varnwalnut_open_network.Statement.{statement}
 use Rattle.varnwalnut.proofs.desk.varnwalnut_open_network.Tie as tie
 
 returns : tie.Need-returns
-returns c = (search callings, (search callings, (search callings, ((search callings, search callings, search callings), (search callings, search callings)))))
+returns c =
+    let l = c .if1 .taken in
+    (room-short 9 _ _ _ l refl, (kept-short 9 _ _ _ l, (kept-short 9 _ _ _ l, ((kept-short 9 _ _ _ l, kept-short 9 _ _ _ l, kept-short 9 _ _ _ l), (kept-short 9 _ _ _ l, kept-short 9 _ _ _ l)))))
 
 open-network-requires : tie.Need-open-network-requires
 open-network-requires c κs = search needs
 
 write-opening-requires : tie.Need-write-opening-requires
-write-opening-requires c κs = search needs
+write-opening-requires c κs = c .before .before .before .before .before .before .before .before .before .before .before .before .before .before .before .before .before .before .before .before .if1 .left
 
 same-length : tie.Need-same-length
-same-length c = search needs
+same-length c = c .before .before .before .before .before .before .before .before .before .before .before .before .before .before .before .cells .given
 
 same-length-2 : tie.Need-same-length-2
-same-length-2 c = search needs
+same-length-2 c = c .before .before .before .before .before .before .before .before .before .before .before .before .before .from .given
 
 same-length-3 : tie.Need-same-length-3
-same-length-3 c = search needs
+same-length-3 c = c .before .before .before .before .before .before .before .before .before .before .before .to .given
 
 same-length-4 : tie.Need-same-length-4
-same-length-4 c = search needs
+same-length-4 c = c .before .before .before .before .before .before .before .before .before .points .given
 
 same-length-5 : tie.Need-same-length-5
-same-length-5 c = search needs
+same-length-5 c = c .before .before .before .before .before .before .before .ticks .given
 
 same-length-6 : tie.Need-same-length-6
-same-length-6 c = search needs
+same-length-6 c = c .before .before .before .before .before .travels .given
 
 same-length-7 : tie.Need-same-length-7
-same-length-7 c = search needs
+same-length-7 c = c .before .answer .given
 
 returns-2 : tie.Need-returns-2
-returns-2 c = (desk-code 9 openCode _ _ _ _ (c .before .before .before .before .before .before .before .before .before .before .before .before .before .before .before .before .open-network .ensures .0) (omega arith) (c .before .before .write-opening .ensures .0), (desk-numbers 9 openNumbers _ _ _ _ (c .before .before .before .before .before .before .before .before .before .before .before .before .before .before .before .before .open-network .ensures .0) (omega arith) (c .before .before .write-opening .ensures .1), (desk-table _ _ _ _ _ _ (c .before .before .before .before .before .before .before .before .before .before .before .before .before .before .before .before .open-network .ensures .0) (omega arith) (c .before .before .before .before .before .before .before .before .before .before .before .before .before .before .before .before .open-network .ensures .1 .0), ((desk-table _ _ _ _ _ _ (c .before .before .before .before .before .before .before .before .before .before .before .before .before .before .before .before .open-network .ensures .0) (omega arith) (c .before .before .before .before .before .before .before .before .before .before .before .before .before .before .before .before .open-network .ensures .1 .1 .0 .0), desk-table _ _ _ _ _ _ (c .before .before .before .before .before .before .before .before .before .before .before .before .before .before .before .before .open-network .ensures .0) (omega arith) (c .before .before .before .before .before .before .before .before .before .before .before .before .before .before .before .before .open-network .ensures .1 .1 .0 .1), desk-table _ _ _ _ _ _ (c .before .before .before .before .before .before .before .before .before .before .before .before .before .before .before .before .open-network .ensures .0) (omega arith) (c .before .before .before .before .before .before .before .before .before .before .before .before .before .before .before .before .open-network .ensures .1 .1 .0 .2)), (desk-table _ _ _ _ _ _ (c .before .before .before .before .before .before .before .before .before .before .before .before .before .before .before .before .open-network .ensures .0) (omega arith) (c .before .before .before .before .before .before .before .before .before .before .before .before .before .before .before .before .open-network .ensures .1 .1 .1 .0), desk-table _ _ _ _ _ _ (c .before .before .before .before .before .before .before .before .before .before .before .before .before .before .before .before .open-network .ensures .0) (omega arith) (c .before .before .before .before .before .before .before .before .before .before .before .before .before .before .before .before .open-network .ensures .1 .1 .1 .1))))))
+returns-2 c = rw (← (c .before .before .before .before .before .before .before .before .before .before .before .before .before .before .before .before .open-network .ensures .0)) (search enough, (search enough, (search enough, ((search enough, search enough, search enough), (search enough, search enough)))))
 
 pub varnwalnut-open-network-spec : {M : Type 1} → statement M
 varnwalnut-open-network-spec =

@@ -1,12 +1,14 @@
-use Rattle.varnwalnut.specs.Calling.{callings, desk-code, desk-numbers, desk-file}
-use Rattle.varnwalnut.specs.Reply.{packCode, packNumbers}
-use native.Mathlib.Omega.{arith}
+-- `varnwalnut::desk::varnwalnut_pack_network` meets its contract.
+use mathlib.Core.Path.{refl}
+use Rattle.varnwalnut.specs.Calling.{room-short, kept-short, enough}
 use borrow.Author.Needs.{needs}
 use Rattle.varnwalnut.proofs.desk.varnwalnut_pack_network.Statement.{statement}
 use Rattle.varnwalnut.proofs.desk.varnwalnut_pack_network.Tie as tie
 
 returns : tie.Need-returns
-returns c = (search callings, (search callings, search callings))
+returns c =
+    let l = c .if1 .taken in
+    (room-short 4 _ _ _ l refl, (kept-short 4 _ _ _ l, kept-short 4 _ _ _ l))
 
 pack-network-requires : tie.Need-pack-network-requires
 pack-network-requires c κs = search needs
@@ -21,7 +23,7 @@ same-length-2 : tie.Need-same-length-2
 same-length-2 c = search needs
 
 returns-2 : tie.Need-returns-2
-returns-2 c = (desk-code 4 packCode _ _ _ _ (c .before .before .before .before .before .before .pack-network .ensures .0) (omega arith) (c .before .before .write-packing .ensures .0), (desk-numbers 4 packNumbers _ _ _ _ (c .before .before .before .before .before .before .pack-network .ensures .0) (omega arith) (c .before .before .write-packing .ensures .1), desk-file _ _ _ _ _ _ (c .before .before .before .before .before .before .pack-network .ensures .0) (omega arith) (c .before .before .before .before .before .before .pack-network .ensures .1)))
+returns-2 c = rw (← (c .before .before .before .before .before .before .pack-network .ensures .0)) (search enough, (search enough, search enough))
 
 pub varnwalnut-pack-network-spec : {M : Type 1} → statement M
 varnwalnut-pack-network-spec =

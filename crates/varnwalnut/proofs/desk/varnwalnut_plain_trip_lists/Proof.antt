@@ -1,12 +1,14 @@
-use Rattle.varnwalnut.specs.Calling.{callings, kept-enough, desk-code, desk-numbers, desk-roads, plain-count}
-use Rattle.varnwalnut.specs.Reply.{tripCode, tripNumbers}
-use native.Mathlib.Omega.{arith}
+-- `varnwalnut::desk::varnwalnut_plain_trip_lists` meets its contract.
+use mathlib.Core.Path.{refl}
+use Rattle.varnwalnut.specs.Calling.{room-short, kept-short, enough, plain-count}
 use borrow.Author.Needs.{needs}
 use Rattle.varnwalnut.proofs.desk.varnwalnut_plain_trip_lists.Statement.{statement}
 use Rattle.varnwalnut.proofs.desk.varnwalnut_plain_trip_lists.Tie as tie
 
 returns : tie.Need-returns
-returns c = (search callings, (search callings, (search callings, search callings)))
+returns c =
+    let l = c .if1 .taken in
+    (room-short 5 _ _ _ l refl, (kept-short 5 _ _ _ l, (kept-short 5 _ _ _ l, kept-short 5 _ _ _ l)))
 
 plain-trip-requires : tie.Need-plain-trip-requires
 plain-trip-requires c κs = search needs
@@ -24,7 +26,7 @@ same-length-3 : tie.Need-same-length-3
 same-length-3 c = search needs
 
 returns-2 : tie.Need-returns-2
-returns-2 c = (desk-code 5 tripCode _ _ _ _ (c .before .before .before .before .before .before .before .before .plain-trip .ensures .0) (omega arith) (c .before .before .write-lists .ensures .0), (desk-numbers 5 tripNumbers _ _ _ _ (c .before .before .before .before .before .before .before .before .plain-trip .ensures .0) (omega arith) (c .before .before .write-lists .ensures .1), (kept-enough _ _ _ _ _ (omega arith) (c .before .before .before .before .before .before .before .before .plain-trip .ensures .1 .0), desk-roads _ _ _ _ _ _ _ _ _ _ (c .before .before .before .before .before .before .before .before .plain-trip .ensures .0) (omega arith) (c .before .before .before .before .before .before .before .before .plain-trip .ensures .1 .1))))
+returns-2 c = rw (← (c .before .before .before .before .before .before .before .before .plain-trip .ensures .0)) (search enough, (search enough, (search enough, search enough)))
 
 pub varnwalnut-plain-trip-lists-spec : {M : Type 1} → statement M
 varnwalnut-plain-trip-lists-spec =

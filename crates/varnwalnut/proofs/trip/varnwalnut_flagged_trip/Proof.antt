@@ -1,3 +1,4 @@
+-- `varnwalnut::trip::varnwalnut_flagged_trip` meets its contract.
 use Rattle.varnwalnut.specs.Calling.{callings, flagged-count}
 use borrow.Author.Needs.{needs}
 use Rattle.varnwalnut.proofs.trip.varnwalnut_flagged_trip.Statement.{statement}

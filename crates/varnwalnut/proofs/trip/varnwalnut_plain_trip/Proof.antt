@@ -1,3 +1,4 @@
+-- `varnwalnut::trip::varnwalnut_plain_trip` meets its contract.
 use Rattle.varnwalnut.specs.Calling.{callings, plain-count}
 use borrow.Author.Needs.{needs}
 use Rattle.varnwalnut.proofs.trip.varnwalnut_plain_trip.Statement.{statement}

@@ -1,3 +1,4 @@
+-- `network::header::Header::layout` meets its contract.
 use mathlib.Core.Path.{refl}
 use Rattle.network.specs.Layout.{layoutOf}
 use borrow.Author.Needs.{needs}

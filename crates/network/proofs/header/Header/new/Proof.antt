@@ -1,3 +1,4 @@
+-- `network::header::Header::new` meets its contract.
 use Rattle.loops.specs.Pick.{picks}
 use Rattle.network.specs.Limits.{made}
 use borrow.Author.Needs.{needs}

@@ -1,0 +1,53 @@
+-- `network_open::open::is_short` meets its contract.
+use Rattle.loops.specs.Pick.{picks}
+use Rattle.network_open.specs.Open.{tooShort}
+use borrow.Author.Needs.{needs}
+use Rattle.network_open.proofs.open.is_short.Statement.{statement}
+use Rattle.network_open.proofs.open.is_short.Tie as tie
+
+cast-nodes : tie.Need-cast-nodes
+cast-nodes c = search needs
+
+cast-arcs : tie.Need-cast-arcs
+cast-arcs c = search needs
+
+cast-points : tie.Need-cast-points
+cast-points c = search needs
+
+returns : tie.Need-returns
+unfolding tooShort
+returns c = search picks depth 9
+
+returns-2 : tie.Need-returns-2
+unfolding tooShort
+returns-2 c = search picks depth 9
+
+returns-3 : tie.Need-returns-3
+unfolding tooShort
+returns-3 c = search picks depth 9
+
+returns-4 : tie.Need-returns-4
+unfolding tooShort
+returns-4 c = search picks depth 9
+
+returns-5 : tie.Need-returns-5
+unfolding tooShort
+returns-5 c = search picks depth 9
+
+returns-6 : tie.Need-returns-6
+unfolding tooShort
+returns-6 c = search picks depth 9
+
+pub is-short-spec : {M : Type 1} → statement M
+is-short-spec =
+    tie.close
+    (tie.spec
+    cast-nodes
+    cast-arcs
+    cast-points
+    returns
+    returns-2
+    returns-3
+    returns-4
+    returns-5
+    returns-6)

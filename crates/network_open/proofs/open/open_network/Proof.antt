@@ -1,0 +1,75 @@
+-- `network_open::open::open_network` meets its contract.
+use Rattle.network_open.specs.Open.{open-within, open-laid, open-room, open-refused, open-short, open-opened, short-table}
+use mathlib.Core.Path.{refl}
+use borrow.Author.Needs.{needs}
+use Rattle.network_open.proofs.open.open_network.Statement.{statement}
+use Rattle.network_open.proofs.open.open_network.Tie as tie
+
+validate-requires : tie.Need-validate-requires
+validate-requires c κs = search needs
+
+enum-known-r : tie.Need-enum-known-r
+enum-known-r c = search needs
+
+enum-known-h : tie.Need-enum-known-h
+enum-known-h c = search needs
+
+is-short-requires : tie.Need-is-short-requires
+is-short-requires c κs = search needs
+
+refused-requires : tie.Need-refused-requires
+refused-requires c κs = search needs
+
+returns : tie.Need-returns
+returns c = (search open-short, (search short-table, ((search short-table, search short-table, search short-table), (search short-table, search short-table))))
+
+layout-requires : tie.Need-layout-requires
+layout-requires c κs = search open-within
+
+write-tables-requires : tie.Need-write-tables-requires
+write-tables-requires c κs = (search open-laid, open-room _ _ _ _ _ _ _ _ _ (c .before .before .before .before .before .before .before .before .is-short .ensures) (c .before .before .before .before .before .before .before .if1 .left) (c .before .before .before .before .before .before .layout .ensures))
+
+returns-2 : tie.Need-returns-2
+returns-2 c = (search open-refused, (refl, ((refl, refl, refl), (refl, refl))))
+
+same-length : tie.Need-same-length
+same-length c = c .before .before .before .before .before .before .before .before .before .before .before .cells .given
+
+same-length-2 : tie.Need-same-length-2
+same-length-2 c = c .before .before .before .before .before .before .before .before .before .tails .given
+
+same-length-3 : tie.Need-same-length-3
+same-length-3 c = c .before .before .before .before .before .before .before .heads .given
+
+same-length-4 : tie.Need-same-length-4
+same-length-4 c = c .before .before .before .before .before .counts .given
+
+same-length-5 : tie.Need-same-length-5
+same-length-5 c = c .before .before .before .ticks .given
+
+same-length-6 : tie.Need-same-length-6
+same-length-6 c = c .before .travels .given
+
+returns-3 : tie.Need-returns-3
+returns-3 c = (search open-opened, (search needs, (search needs, search needs)))
+
+pub open-network-spec : {M : Type 1} → statement M
+open-network-spec =
+    tie.close
+    (tie.spec
+    validate-requires
+    enum-known-r
+    enum-known-h
+    is-short-requires
+    refused-requires
+    returns
+    layout-requires
+    write-tables-requires
+    returns-2
+    same-length
+    same-length-2
+    same-length-3
+    same-length-4
+    same-length-5
+    same-length-6
+    returns-3)

@@ -1,0 +1,20 @@
+-- `network_open::validate::is_bad_length` meets its contract.
+use Rattle.loops.specs.Pick.{picks}
+use Rattle.network.specs.Validate.{badLength}
+use Rattle.network_open.proofs.validate.is_bad_length.Statement.{statement}
+use Rattle.network_open.proofs.validate.is_bad_length.Tie as tie
+
+returns : tie.Need-returns
+unfolding badLength
+returns c = search picks depth 6
+
+returns-2 : tie.Need-returns-2
+unfolding badLength
+returns-2 c = search picks depth 6
+
+returns-3 : tie.Need-returns-3
+unfolding badLength
+returns-3 c = search picks depth 6
+
+pub is-bad-length-spec : {M : Type 1} → statement M
+is-bad-length-spec = tie.close (tie.spec returns returns-2 returns-3)

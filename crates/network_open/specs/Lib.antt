@@ -1,0 +1,2 @@
+-- What Open answers, and what it leaves in the lent tables.
+pub mod Open

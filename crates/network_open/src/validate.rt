@@ -1,0 +1,138 @@
+// Validation of a network file: refusals 1 to 10, in place, each fault found as the first in its order. Nothing is copied, and every call ends
+// at the first refusal.
+use blocks::form::first_unformed;
+use blocks::form::is_formed;
+use blocks::reader::first_bad_sum;
+use network::answer::Judged;
+use network::answer::Opening;
+use network::answer::refused;
+use network::header::Header;
+use network::header::Layout;
+use network::header::Made;
+use network_rules::rules::judge;
+use words::fields::le16;
+use words::fields::le32;
+ghost use mathlib.Core.Path.{_≡_};
+ghost use Prim.Native.Nat.{_+_, _*_, _≤_};
+ghost use lib.ListN.{length};
+ghost use Rattle.network.specs.Limits.{Within};
+ghost use Rattle.network.specs.Decode.{headerAt, decode, Laid};
+ghost use Rattle.network.specs.Validate.{badLength, madeAt, firstUnformed, validatedRules, validatedForm, validatedLength, validatedHeader, validatedFirst, validated};
+ghost use Rattle.network.specs.Rules.{judged};
+
+// Refusal 1.
+fn is_bad_length(long: usize) -> bool
+    ensures { λ r. ⌜ r ≡ badLength long ⌝ }
+{
+    if long == 0 {
+        return true;
+    }
+    if long % 512 != 0 {
+        return true;
+    }
+    283648 < long
+}
+
+// The header that the first block's numbers make.
+fn header_at(file: &[u8]) -> Made
+    requires { ⌜ 512 ≤ length (now file) ⌝ }
+    ensures { λ r. ⌜ r ≡ madeAt (now (file .entry)) ⌝ }
+{
+    Header::new(
+        le32(file, 8),
+        le16(file, 12) as u32,
+        le16(file, 14) as u32,
+        le16(file, 16) as u32,
+        le16(file, 18) as u32,
+        le32(file, 20),
+    )
+}
+
+// The first block after the header that is out of its form, or the count of blocks.
+fn first_bad_form(file: &[u8], l: Layout) -> usize
+    requires { ⌜ Laid (now file) l ⌝ }
+    ensures { λ r. ⌜ r ≡ firstUnformed (now (file .entry)) (headerAt (now (file .entry))) ⌝ }
+{
+    let i = first_unformed(file, 1, 2, 250, 2, l.nodes);
+    if 1 + i < l.arcblock {
+        return 1 + i;
+    }
+    let j = first_unformed(file, l.arcblock, 3, 83, 6, l.arcs);
+    if l.arcblock + j < l.pointblock {
+        return l.arcblock + j;
+    }
+    l.pointblock + first_unformed(file, l.pointblock, 4, 125, 4, l.points)
+}
+
+// Refusals 7 to 10.
+fn validate_rules(file: &[u8], h: Header, l: Layout) -> Opening
+    requires { ⌜ Laid (now file) l ⌝ }
+    ensures { λ r. ⌜ r ≡ validatedRules h (judged (decode (now (file .entry)))) ⌝ }
+{
+    match judge(file, l) {
+        Judged::Sound => Opening::Opened(h),
+        Judged::Faulty(r) => Opening::Refused(r),
+    }
+}
+
+// Refusals 6 to 10.
+fn validate_form(file: &[u8], h: Header, l: Layout) -> Opening
+    requires { ⌜ Laid (now file) l ⌝ }
+    requires { ⌜ h ≡ headerAt (now file) ⌝ }
+    ensures { λ r. ⌜ r ≡ validatedForm (now (file .entry)) h ⌝ }
+{
+    let b = first_bad_form(file, l);
+    if b < l.blocks {
+        return refused(6, b as u32);
+    }
+    validate_rules(file, h, l)
+}
+
+// Refusals 5 to 10.
+fn validate_length(file: &[u8], h: Header) -> Opening
+    requires { ⌜ Within h ⌝ }
+    requires { ⌜ h ≡ headerAt (now file) ⌝ }
+    ensures { λ r. ⌜ r ≡ validatedLength (now (file .entry)) h ⌝ }
+{
+    let l = h.layout();
+    if file.len() != 512 * l.blocks {
+        return refused(5, 0);
+    }
+    validate_form(file, h, l)
+}
+
+// Refusals 4 to 10.
+fn validate_header(file: &[u8]) -> Opening
+    requires { ⌜ 512 ≤ length (now file) ⌝ }
+    ensures { λ r. ⌜ r ≡ validatedHeader (now (file .entry)) (madeAt (now (file .entry))) ⌝ }
+{
+    match header_at(file) {
+        Made::Inside(h) => validate_length(file, h),
+        Made::Outside => refused(4, 0),
+    }
+}
+
+// Refusals 3 to 10.
+fn validate_first(file: &[u8]) -> Opening
+    requires { ⌜ 512 ≤ length (now file) ⌝ }
+    ensures { λ r. ⌜ r ≡ validatedFirst (now (file .entry)) ⌝ }
+{
+    if is_formed(file, 0, 1, 1, 24) {
+        return validate_header(file);
+    }
+    refused(3, 0)
+}
+
+// The header of a network file, or the lowest of the refusals 1 to 10 and its lowest place.
+pub fn validate(file: &[u8]) -> Opening
+    ensures { λ r. ⌜ r ≡ validated (now (file .entry)) ⌝ }
+{
+    if is_bad_length(file.len()) {
+        return refused(1, 0);
+    }
+    let b = first_bad_sum(file);
+    if b < file.len() / 512 {
+        return refused(2, b as u32);
+    }
+    validate_first(file)
+}

@@ -1,0 +1,24 @@
+-- `network_rules::steady::is_unclosed` meets its contract.
+use Rattle.loops.specs.Pick.{picks}
+use Rattle.network_rules.specs.Steady.{unclosed}
+use borrow.Author.Needs.{needs}
+use Rattle.network_rules.proofs.steady.is_unclosed.Statement.{statement}
+use Rattle.network_rules.proofs.steady.is_unclosed.Tie as tie
+
+returns : tie.Need-returns
+unfolding unclosed
+returns c = search picks depth 8
+
+returns-2 : tie.Need-returns-2
+unfolding unclosed
+returns-2 c = search picks depth 8
+
+add-result : tie.Need-add-result
+add-result c = search needs
+
+returns-3 : tie.Need-returns-3
+unfolding unclosed
+returns-3 c = search picks depth 8
+
+pub is-unclosed-spec : {M : Type 1} → statement M
+is-unclosed-spec = tie.close (tie.spec returns returns-2 add-result returns-3)

@@ -1,0 +1,5 @@
+-- The rules 7 to 10 as code finds their faults: the points of one arc (Scan, Steady), of all arcs (ScanAll), and the ladder of the rules (Judge).
+pub mod Scan
+pub mod ScanAll
+pub mod Steady
+pub mod Judge

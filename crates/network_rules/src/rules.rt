@@ -1,0 +1,269 @@
+// The rules 7 to 10 of document 01, on a file that is laid out as its header says. An arc's points are first asked whether they keep rules 9
+// and 10 (steady.rt). Where they do not, one scan finds the places: rule 10 is judged at each point while rule 9 is, and told where 9 holds
+// everywhere.
+use crate::steady::is_steady;
+use network::answer::Judged;
+use network::answer::faulty;
+use network::header::Layout;
+use network::read;
+ghost use mathlib.Core.Path.{_≡_};
+ghost use Prim.Native.Nat.{_+_, _-_, _≤_, _<_};
+ghost use Rattle.loops.specs.First.{first};
+ghost use Rattle.travel.specs.Table.{entryAt};
+ghost use Rattle.network.specs.Network;
+ghost use Rattle.network.specs.Decode.{decode, Laid};
+ghost use Rattle.network.specs.Rules.{badCell, badEnds, badArc, misplaced, badPointBy, judgedPoints, judgedArcs, judged};
+ghost use Rattle.network_rules.specs.Scan.{lateAt, Scanned};
+ghost use Rattle.network.specs.FirstPoint.{Counted};
+ghost use Rattle.network_rules.specs.ScanAll.{ScannedAll, lateIn};
+
+// What a scan of points finds: the first that breaks rule 9, and the first that breaks rule 10, each by its number, or how many there are.
+pub struct Scan {
+    pub bad: usize,
+    pub late: usize,
+}
+
+// What a pass over the arcs finds: the first that breaks rule 8, or how many there are, and the points of those before it.
+pub struct Arcs {
+    pub bad: usize,
+    pub sum: usize,
+}
+
+// Rule 7 at node v.
+fn is_bad_cell(file: &[u8], l: Layout, v: usize) -> bool
+    requires { ⌜ Laid (now file) l ⌝ }
+    requires { ⌜ v < l .nodes ⌝ }
+    ensures { λ r. ⌜ r ≡ badCell (decode (now (file .entry))) v ⌝ }
+{
+    l.cells <= read::cell(file, l, v)
+}
+
+// The first node that breaks rule 7, or the count of nodes.
+fn first_bad_cell(file: &[u8], l: Layout) -> usize
+    requires { ⌜ Laid (now file) l ⌝ }
+    ensures { λ r. ⌜ r ≡ first (l .nodes) (badCell (decode (now (file .entry)))) ⌝ }
+{
+    let nodes = l.nodes;
+    for v in 0..nodes {
+        if is_bad_cell(file, l, v) {
+            return v;
+        }
+    }
+    nodes
+}
+
+// Rule 8 for an arc of these ends and this count of points.
+fn bad_ends(nodes: usize, period: usize, tail: usize, head: usize, count: usize) -> bool
+    ensures { λ r. ⌜ r ≡ badEnds nodes period tail head count ⌝ }
+{
+    if nodes <= tail {
+        return true;
+    }
+    if nodes <= head {
+        return true;
+    }
+    if tail == head {
+        return true;
+    }
+    if count < 1 {
+        return true;
+    }
+    period < count
+}
+
+// Rule 8 at arc a.
+fn is_bad_arc(file: &[u8], l: Layout, a: usize) -> bool
+    requires { ⌜ Laid (now file) l ⌝ }
+    requires { ⌜ a < l .arcs ⌝ }
+    ensures { λ r. ⌜ r ≡ badArc (decode (now (file .entry))) a ⌝ }
+{
+    let tail = read::tail(file, l, a);
+    let head = read::head(file, l, a);
+    let count = read::count(file, l, a);
+    bad_ends(l.nodes, l.period, tail, head, count)
+}
+
+// The first arc that breaks rule 8, or the count of arcs; and where there is none, the points of all arcs, added up.
+fn scan_arcs(file: &[u8], l: Layout) -> Arcs
+    requires { ⌜ Laid (now file) l ⌝ }
+    ensures { λ r. ⌜ (r .bad ≡ first (l .arcs) (badArc (decode (now (file .entry))))) × (l .arcs ≤ r .bad → r .sum ≡ Network.start (decode (now (file .entry))) (l .arcs)) ⌝ }
+{
+    let arcs = l.arcs;
+    let mut sum = 0;
+    for a in 0..arcs {
+        if is_bad_arc(file, l, a) {
+            return Arcs { bad: a, sum };
+        }
+        sum += read::count(file, l, a);
+    }
+    Arcs { bad: arcs, sum }
+}
+
+// Is tick t of point i, after a point with tick p, out of its place?
+fn is_misplaced(i: usize, p: usize, t: usize) -> bool
+    ensures { λ r. ⌜ r ≡ misplaced i p t ⌝ }
+{
+    if i == 0 {
+        return t != 0;
+    }
+    t <= p
+}
+
+// Rule 9 for point i of an arc, after a point with tick p.
+fn bad_point(period: usize, i: usize, p: usize, t: usize, v: usize) -> bool
+    ensures { λ r. ⌜ r ≡ badPointBy period i p t v ⌝ }
+{
+    if is_misplaced(i, p, t) {
+        return true;
+    }
+    if period <= t {
+        return true;
+    }
+    if v < 1 {
+        return true;
+    }
+    period < v
+}
+
+// The first late point of i points, by the first of the i - 1 before: the last of them ends at `end`, and the one after it at `next`.
+fn late_at(late: usize, i: usize, end: usize, next: usize) -> usize
+    ensures { λ r. ⌜ r ≡ lateAt late i end next ⌝ }
+{
+    if i == 0 {
+        return 0;
+    }
+    if late < i - 1 {
+        return late;
+    }
+    if next < end {
+        return i - 1;
+    }
+    i
+}
+
+// The faults of one arc, whose points stand from point `from` on.
+fn find_faults(file: &[u8], l: Layout, from: usize, count: usize) -> Scan
+    requires { ⌜ Laid (now file) l ⌝ }
+    requires { ⌜ (from + count ≤ l .points) × (0 < count) ⌝ }
+    ensures { λ r. ⌜ Scanned (l .period) (entryAt (decode (now (file .entry)) .ticks) from) (entryAt (decode (now (file .entry)) .travels) from) count r ⌝ }
+{
+    let mut tick = 0;
+    let mut end = 0;
+    let mut late = 0;
+    for i in 0..count {
+        let t = read::tick(file, l, from + i);
+        let v = read::travel(file, l, from + i);
+        if bad_point(l.period, i, tick, t, v) {
+            return Scan { bad: i, late: 0 };
+        }
+        late = late_at(late, i, end, t + v);
+        tick = t;
+        end = t + v;
+    }
+    let v = read::travel(file, l, from);
+    Scan {
+        bad: count,
+        late: late_at(late, count, end, l.period + v),
+    }
+}
+
+// Rules 9 and 10 over the points of one arc. Where they are kept, a test that finds no place says so sooner.
+fn scan_arc(file: &[u8], l: Layout, from: usize, count: usize) -> Scan
+    requires { ⌜ Laid (now file) l ⌝ }
+    requires { ⌜ (from + count ≤ l .points) × (0 < count) ⌝ }
+    ensures { λ r. ⌜ Scanned (l .period) (entryAt (decode (now (file .entry)) .ticks) from) (entryAt (decode (now (file .entry)) .travels) from) count r ⌝ }
+{
+    if is_steady(file, l, from, count) {
+        return Scan {
+            bad: count,
+            late: count,
+        };
+    }
+    find_faults(file, l, from, count)
+}
+
+// The first late point of one arc more: `count` points from `from` on, of which `at` is the first late one; `points` stands for none.
+fn late_in(late: usize, points: usize, from: usize, count: usize, at: usize) -> usize
+    requires { ⌜ from + count ≤ points ⌝ }
+    ensures { λ r. ⌜ r ≡ lateIn late points from count at ⌝ }
+{
+    if late < points {
+        return late;
+    }
+    if at < count {
+        return from + at;
+    }
+    points
+}
+
+// Rules 9 and 10 over the points of all arcs.
+fn scan_points(file: &[u8], l: Layout) -> Scan
+    requires { ⌜ Laid (now file) l ⌝ }
+    requires { ⌜ Counted (decode (now file)) ⌝ }
+    ensures { λ r. ⌜ ScannedAll (decode (now (file .entry))) r ⌝ }
+{
+    let arcs = l.arcs;
+    let points = l.points;
+    let mut from = 0;
+    let mut late = points;
+    for a in 0..arcs {
+        let count = read::count(file, l, a);
+        let scan = scan_arc(file, l, from, count);
+        let bad = scan.bad;
+        if bad < count {
+            return Scan {
+                bad: from + bad,
+                late: 0,
+            };
+        }
+        late = late_in(late, points, from, count, scan.late);
+        from += count;
+    }
+    Scan { bad: points, late }
+}
+
+// Rules 9 and 10.
+fn judge_points(file: &[u8], l: Layout) -> Judged
+    requires { ⌜ Laid (now file) l ⌝ }
+    requires { ⌜ Counted (decode (now file)) ⌝ }
+    ensures { λ r. ⌜ r ≡ judgedPoints (decode (now (file .entry))) ⌝ }
+{
+    let scan = scan_points(file, l);
+    let bad = scan.bad;
+    if bad < l.points {
+        return faulty(9, bad as u32);
+    }
+    let late = scan.late;
+    if late < l.points {
+        return faulty(10, late as u32);
+    }
+    Judged::Sound
+}
+
+// Rules 8 to 10.
+fn judge_arcs(file: &[u8], l: Layout) -> Judged
+    requires { ⌜ Laid (now file) l ⌝ }
+    ensures { λ r. ⌜ r ≡ judgedArcs (decode (now (file .entry))) ⌝ }
+{
+    let found = scan_arcs(file, l);
+    let a = found.bad;
+    if a < l.arcs {
+        return faulty(8, a as u32);
+    }
+    if found.sum != l.points {
+        return faulty(8, l.arcs as u32);
+    }
+    judge_points(file, l)
+}
+
+// The lowest of the rules 7 to 10 that the network breaks, and its lowest place.
+pub fn judge(file: &[u8], l: Layout) -> Judged
+    requires { ⌜ Laid (now file) l ⌝ }
+    ensures { λ r. ⌜ r ≡ judged (decode (now (file .entry))) ⌝ }
+{
+    let v = first_bad_cell(file, l);
+    if v < l.nodes {
+        return faulty(7, v as u32);
+    }
+    judge_arcs(file, l)
+}

@@ -1,0 +1,140 @@
+-- What an arc gives at a tick, and whether it passes what is asked of an arc: that it gives less than a value, gives it, or gives it and has the flag of a cell.
+-- The definitions are those of specs/Tests.antt with what is asked as a parameter; the laws are for the code that reads what an arc gives.
+use mathlib.Core.Path.{_≡_, _∙_}
+use mathlib.Core.Bool.{Bool, true, false, _&&_}
+use mathlib.Core.List.{List}
+use Prim.Native.Nat.{ℕ, _+_, _-_, _*_, _%_, _≤_, _<_}
+use native.Mathlib.Nat.{mod-eq-of-lt, mod-lt}
+use native.Mathlib.Omega.{arith}
+use lib.ListN.{getD}
+use lib.Dec.{eqb}
+use Rattle.paths.specs.Graph.{ends}
+use Rattle.paths.specs.Profiles.{Travel, plus}
+use Rattle.network.specs.declared.header.Layout.{Layout}
+use Rattle.network.specs.Network.{Network, tail, head, start}
+use Rattle.network.specs.Decode.{decode}
+use Rattle.network.specs.Town.{graphOf, travelAt}
+use Rattle.arcs.specs.Town.{head-node}
+use Rattle.plan.specs.declared.header.PlanLayout.{PlanLayout}
+use Rattle.profiles.specs.declared.value.Value.{Value}
+use Rattle.plan_tests.specs.declared.tests.Asked.{Asked}
+use Rattle.plan_tests.specs.declared.tests.Asked.the-variants.{Less, Same, Flagged}
+use Rattle.plan.specs.Plan.{Plan, bit, flag, profile, profileValue}
+use Rattle.plan.specs.PlanDecode.{decodePlan, flagWord}
+use Rattle.profiles.specs.Compare.{same, less}
+use Rattle.plan_tests.specs.Tests.{giving}
+use Rattle.plan_tests.specs.Checkable.{Checkable}
+use Rattle.profiles.specs.Value.{valueOf, Reads}
+use Rattle.profiles.specs.Starts.{Started}
+
+-- arc a has the flag that is asked for, if one is
+abbrev pub permits : Plan → Asked → ℕ → Bool
+permits p Less a = true
+permits p Same a = true
+permits p (Flagged c) a = flag p a c
+
+-- what an arc gives, against a value
+abbrev pub meets : Asked → Travel → Travel → Bool
+meets Less got value = less got value
+meets Same got value = same got value
+meets (Flagged c) got value = same got value
+
+-- arc a passes against a value
+unfoldable pub offers : Network → Plan → Asked → ℕ → Travel → ℕ → ℕ → Bool
+offers n p asked i value x a = permits p asked a && meets asked (giving n p i a x) value
+
+-- arc a leads out of u and passes against u's profile
+unfoldable pub passes : Network → Plan → Asked → ℕ → ℕ → ℕ → ℕ → Bool
+passes n p asked i u x a = permits p asked a && (eqb (tail n a) u && meets asked (giving n p i a x) (profile n p i u x))
+
+-- a flag that is asked for is one of 64
+abbrev pub Fit : Asked → Type 0
+Fit Less = Unit {0}
+Fit Same = Unit {0}
+Fit (Flagged c) = c < 64
+
+-- FOR CODE that has taken apart what is asked
+module _ {asked : Asked} where
+  module _ (p : Plan) (a : ℕ) where
+    pub permits-less : asked ≡ Less → true ≡ permits p asked a
+    permits-less e = rw e
+
+    pub permits-same : asked ≡ Same → true ≡ permits p asked a
+    permits-same e = rw e
+
+    pub permits-flag : {c word : ℕ} {t : Bool} → asked ≡ Flagged c → word ≡ flagWord p a → t ≡ bit word c → t ≡ permits p asked a
+    permits-flag e f q = rw e (rw f at q)
+
+  pub flag-fits : {c : ℕ} → asked ≡ Flagged c → Fit asked → c < 64
+  flag-fits e h = rw e at h
+
+  module _ (got value : Travel) {t : Bool} where
+    pub meets-less : asked ≡ Less → t ≡ less got value → t ≡ meets asked got value
+    meets-less e q = rw e q
+
+    pub meets-same : asked ≡ Same → t ≡ same got value → t ≡ meets asked got value
+    meets-same e q = rw e q
+
+    pub meets-flag : {c : ℕ} → asked ≡ Flagged c → t ≡ same got value → t ≡ meets asked got value
+    meets-flag e q = rw e q
+
+-- for `search asks` at the needs of such code
+pub ruleset asks = (permits-less, permits-same, permits-flag, flag-fits, meets-less, meets-same, meets-flag)
+
+-- and has asked both of an arc
+module _ (n : Network) (p : Plan) (asked : Asked) (i : ℕ) (value : Travel) (x a : ℕ) {t : Bool} (e : t ≡ permits p asked a) where
+  pub offers-not : t ≡ false → false ≡ offers n p asked i value x a
+  unfolding offers
+  offers-not f = rw (← e, f)
+
+  pub offers-met : {got : Travel} {r : Bool} → t ≡ true → got ≡ giving n p i a x → r ≡ meets asked got value → r ≡ offers n p asked i value x a
+  unfolding offers
+  offers-met f g q = rw (← e, f) (rw g at q)
+
+-- What every function that reads what arcs give towards border number i rests on: both files, and the tables of the arcs' first points and of the
+-- starts of the border's profiles.
+pub record Prepared (network : List ℕ) (l : Layout) (plan : List ℕ) (pl : PlanLayout) (points : List ℕ) (i : ℕ) (starts : List ℕ) : Type 0 where
+  pub check : Checkable network l plan pl
+  pub first : (a : ℕ) → a < l .arcs → getD points a 0 ≡ start (decode network) a
+  pub started : Started plan pl i starts
+  pub border : i < pl .borders
+
+module _ {network : List ℕ} {l : Layout} {plan : List ℕ} {pl : PlanLayout} {points : List ℕ} {i : ℕ} {starts : List ℕ}
+    (w : Prepared network l plan pl points i starts) where
+  -- u's profile, by the layout's counts, and as it was read
+  pub profile-same : (u x : ℕ) → profileValue (pl .period) (decodePlan plan) (i * pl .nodes + u) x ≡ profile (decode network) (decodePlan plan) i u x
+  profile-same u x = rw (w .check .period, w .check .town .sizes .period, w .check .nodes, w .check .town .sizes .nodes)
+
+  pub profile-is : {v : Value} (u x : ℕ) → Reads v (profileValue (pl .period) (decodePlan plan) (i * pl .nodes + u) x)
+      → valueOf v ≡ profile (decode network) (decodePlan plan) i u x
+  profile-is u x r = r .is ∙ profile-same u x
+
+  module _ {a : ℕ} (h : a < l .arcs) where
+    pub first-point : getD points a 0 ≡ start (decode network) a
+    first-point = w .first a h
+
+    pub head-in : {y : ℕ} → y ≡ head (decode network) a → y < pl .nodes
+    head-in {y} e = omega (arith, head-node (w .check .town) a y h e, w .check .nodes)
+
+    module _ {x e : ℕ} (k : x < l .period) (f : e ≡ ends (graphOf (decode network)) a x) where
+      end-is : e ≡ x + travelAt (decode network) a x
+      unfolding ends
+      end-is =
+          let m : x < decode network .period = omega (arith, w .check .town .sizes .period) in
+          rw (mod-eq-of-lt m) at f
+
+      pub end-after : x ≤ e
+      end-after = omega (arith, end-is)
+
+      pub end-reduced : {z : ℕ} → z ≡ e % l .period → z < pl .period
+      end-reduced q = omega (arith, q, mod-lt e (w .check .town .small .period-some), w .check .period)
+
+      pub giving-is : {y z : ℕ} {v : Value} {t : Travel} → y ≡ head (decode network) a → z ≡ e % l .period
+          → Reads v (profileValue (pl .period) (decodePlan plan) (i * pl .nodes + y) z)
+          → t ≡ plus (e - x) (valueOf v) → t ≡ giving (decode network) (decodePlan plan) i a x
+      giving-is {y} {z} g r s q =
+          let d : e - x ≡ travelAt (decode network) a x = omega (arith, end-is) in
+          q ∙ rw (d, profile-is y z s, r, g, end-is, w .check .town .sizes .period)
+
+-- for `search givings` at the needs of such code
+pub ruleset givings = (offers-not, offers-met, profile-same, profile-is, first-point, head-in, end-after, end-reduced, giving-is)

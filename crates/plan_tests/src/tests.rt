@@ -1,0 +1,369 @@
+// The check's test 20 at an arc, and its tests 21 to 24 at a border number, a node and a tick. What an arc gives is read by `giving`, and the arcs out of a node are walked
+// by one loop, whatever is asked of them.
+use arcs::times;
+use arcs::wide;
+use network::header::Layout;
+use plan::header::PlanLayout;
+use profiles::value;
+use profiles::value::Value;
+ghost use mathlib.Core.Path.{_≡_};
+ghost use Prim.Native.Nat.{_+_, _*_, _<_};
+ghost use Rattle.network.specs.Decode.{decode};
+ghost use Rattle.plan.specs.Border.{borderAt};
+ghost use Rattle.plan.specs.Plan;
+ghost use Rattle.plan.specs.PlanDecode.{decodePlan, PlanLaid};
+ghost use Rattle.plan_tests.specs.Tests;
+ghost use Rattle.profiles.specs.Formed.{Formed};
+ghost use Rattle.plan_tests.specs.Checkable.{Checkable};
+ghost use Rattle.profiles.specs.Value.{valueOf};
+ghost use Rattle.profiles.specs.Starts.{Started};
+ghost use Rattle.arcs.specs.Chain.{Chained};
+ghost use Rattle.network.specs.Network.{tail};
+ghost use Rattle.plan_tests.specs.Giving.{permits, meets, offers, Fit, Prepared};
+ghost use Rattle.plan_tests.specs.Passing.{anyPasses};
+ghost use Rattle.plan_tests.specs.Failing.{offHome, AtBorder};
+
+// What is asked of an arc: that it gives less than a value, gives it, or gives it and has the flag of a cell.
+pub enum Asked {
+    Less,
+    Same,
+    Flagged(usize),
+}
+
+// What an arc gives at tick x towards border number i: its travel, and its head's value at the tick at which it ends.
+pub fn giving(
+    network: &[u8],
+    l: Layout,
+    plan: &[u8],
+    pl: PlanLayout,
+    points: &[u16; 2048],
+    starts: &[u32; 512],
+    i: usize,
+    arc: usize,
+    x: usize,
+) -> Value
+    requires { ⌜ Prepared (now network) l (now plan) pl (now points) i (now starts) ⌝ }
+    requires { ⌜ (arc < l .arcs) × (x < l .period) ⌝ }
+    ensures { λ r. ⌜ valueOf r ≡ Tests.giving (decode (now (network .entry))) (decodePlan (now (plan .entry))) i arc x ⌝ }
+{
+    let tick = x as u32;
+    let end = times::ends_at(network, l, points, arc, tick);
+    let head = network::read::head(network, l, arc);
+    let reduced = times::in_period(end, l.period);
+    let value = value::profile_at(plan, pl, starts, i, head, reduced);
+    value::plus(end - tick, value)
+}
+
+// Is bit c of a flag word set?
+pub fn is_set(word: u64, c: usize) -> bool
+    requires { ⌜ c < 64 ⌝ }
+    ensures { λ r. ⌜ r ≡ Plan.bit word c ⌝ }
+{
+    (word >> c) % 2 == 1
+}
+
+// Has an arc the flag that is asked for, if one is?
+fn is_permitted(plan: &[u8], pl: PlanLayout, asked: Asked, arc: usize) -> bool
+    requires { ⌜ PlanLaid (now plan) pl ⌝ }
+    requires { ⌜ (arc < pl .arcs) × Fit asked ⌝ }
+    ensures { λ r. ⌜ r ≡ permits (decodePlan (now (plan .entry))) asked arc ⌝ }
+{
+    match asked {
+        Asked::Less => true,
+        Asked::Same => true,
+        Asked::Flagged(c) => is_set(plan::read::flag_word(plan, pl, arc), c),
+    }
+}
+
+// Is what an arc gives what is asked, against a value?
+fn is_met(asked: Asked, got: Value, value: Value) -> bool
+    ensures { λ r. ⌜ r ≡ meets asked (valueOf got) (valueOf value) ⌝ }
+{
+    match asked {
+        Asked::Less => value::is_less(got, value),
+        Asked::Same => value::is_same(got, value),
+        Asked::Flagged(_) => value::is_same(got, value),
+    }
+}
+
+// Does an arc pass, at tick x, against a value?
+fn is_passing(
+    network: &[u8],
+    l: Layout,
+    plan: &[u8],
+    pl: PlanLayout,
+    points: &[u16; 2048],
+    starts: &[u32; 512],
+    asked: Asked,
+    i: usize,
+    value: Value,
+    x: usize,
+    arc: usize,
+) -> bool
+    requires { ⌜ Prepared (now network) l (now plan) pl (now points) i (now starts) ⌝ }
+    requires { ⌜ (arc < l .arcs) × (x < l .period) × Fit asked ⌝ }
+    ensures { λ r. ⌜ r ≡ offers (decode (now (network .entry))) (decodePlan (now (plan .entry))) asked i (valueOf value) x arc ⌝ }
+{
+    if is_permitted(plan, pl, asked, arc) {
+        let got = giving(network, l, plan, pl, points, starts, i, arc, x);
+        return is_met(asked, got, value);
+    }
+    false
+}
+
+// Does some arc out of u pass, at tick x, against u's value? The arcs out of u are walked by their chain.
+fn any_passing(
+    network: &[u8],
+    l: Layout,
+    plan: &[u8],
+    pl: PlanLayout,
+    points: &[u16; 2048],
+    first: &[u16; 512],
+    next: &[u16; 2048],
+    starts: &[u32; 512],
+    asked: Asked,
+    i: usize,
+    u: usize,
+    value: Value,
+    x: usize,
+) -> bool
+    requires { ⌜ Prepared (now network) l (now plan) pl (now points) i (now starts) ⌝ }
+    requires { ⌜ Chained (tail (decode (now network))) (l .nodes) (l .arcs) 0 (now first) (now next) ⌝ }
+    requires { ⌜ (u < l .nodes) × (x < l .period) × Fit asked ⌝ }
+    requires { ⌜ valueOf value ≡ Plan.profile (decode (now network)) (decodePlan (now plan)) i u x ⌝ }
+    ensures { λ r. ⌜ r ≡ anyPasses (decode (now (network .entry))) (decodePlan (now (plan .entry))) asked i u x ⌝ }
+{
+    let arcs = l.arcs;
+    let mut a = wide(first[u]);
+    while a < arcs {
+        if is_passing(network, l, plan, pl, points, starts, asked, i, value, x, a) {
+            return true;
+        }
+        a = wide(next[a]);
+    }
+    false
+}
+
+// 20: do both ends of an arc lie in a cell whose flag it lacks?
+pub fn is_unflagged_inside(
+    network: &[u8],
+    l: Layout,
+    plan: &[u8],
+    pl: PlanLayout,
+    arc: usize,
+) -> bool
+    requires { ⌜ Checkable (now network) l (now plan) pl ⌝ }
+    requires { ⌜ arc < l .arcs ⌝ }
+    ensures { λ r. ⌜ r ≡ Tests.fails20 (decode (now (network .entry))) (decodePlan (now (plan .entry))) arc ⌝ }
+{
+    let tail = network::read::tail(network, l, arc);
+    let head = network::read::head(network, l, arc);
+    let cell = network::read::cell(network, l, head);
+    if network::read::cell(network, l, tail) != cell {
+        return false;
+    }
+    !is_set(plan::read::flag_word(plan, pl, arc), cell)
+}
+
+// 21: is u the border, and its value at tick x not 0?
+fn is_off_home(
+    plan: &[u8],
+    pl: PlanLayout,
+    starts: &[u32; 512],
+    border: usize,
+    i: usize,
+    u: usize,
+    x: usize,
+) -> bool
+    requires { ⌜ Formed (now plan) pl ⌝ }
+    requires { ⌜ Started (now plan) pl i (now starts) ⌝ }
+    requires { ⌜ (i < pl .borders) × (u < pl .nodes) × (x < pl .period) ⌝ }
+    ensures { λ r. ⌜ r ≡ offHome u border (Plan.profileValue (pl .period) (decodePlan (now (plan .entry))) (i * pl .nodes + u) x) ⌝ }
+{
+    if u != border {
+        return false;
+    }
+    let value = value::profile_at(plan, pl, starts, i, u, x);
+    !value::is_same(value, Value::Ticks(0))
+}
+
+// 23: is u's value a number, u not the border, and no arc gives the value?
+fn is_unattained(
+    network: &[u8],
+    l: Layout,
+    plan: &[u8],
+    pl: PlanLayout,
+    points: &[u16; 2048],
+    first: &[u16; 512],
+    next: &[u16; 2048],
+    starts: &[u32; 512],
+    border: usize,
+    i: usize,
+    u: usize,
+    value: Value,
+    x: usize,
+) -> bool
+    requires { ⌜ Prepared (now network) l (now plan) pl (now points) i (now starts) ⌝ }
+    requires { ⌜ Chained (tail (decode (now network))) (l .nodes) (l .arcs) 0 (now first) (now next) ⌝ }
+    requires { ⌜ (u < l .nodes) × (x < l .period) ⌝ }
+    requires { ⌜ border ≡ borderAt (decode (now network)) i ⌝ }
+    requires { ⌜ valueOf value ≡ Plan.profile (decode (now network)) (decodePlan (now plan)) i u x ⌝ }
+    ensures { λ r. ⌜ r ≡ Tests.fails23 (decode (now (network .entry))) (decodePlan (now (plan .entry))) i u x ⌝ }
+{
+    if u == border {
+        return false;
+    }
+    if value::is_number(value) {
+        return !any_passing(
+            network,
+            l,
+            plan,
+            pl,
+            points,
+            first,
+            next,
+            starts,
+            Asked::Same,
+            i,
+            u,
+            value,
+            x,
+        );
+    }
+    false
+}
+
+// 24: is u's value a number that arcs give, none of them with the flag of the border's cell?
+fn is_unflagged_toward(
+    network: &[u8],
+    l: Layout,
+    plan: &[u8],
+    pl: PlanLayout,
+    points: &[u16; 2048],
+    first: &[u16; 512],
+    next: &[u16; 2048],
+    starts: &[u32; 512],
+    border: usize,
+    i: usize,
+    u: usize,
+    value: Value,
+    x: usize,
+) -> bool
+    requires { ⌜ Prepared (now network) l (now plan) pl (now points) i (now starts) ⌝ }
+    requires { ⌜ Chained (tail (decode (now network))) (l .nodes) (l .arcs) 0 (now first) (now next) ⌝ }
+    requires { ⌜ (u < l .nodes) × (x < l .period) × (border < l .nodes) ⌝ }
+    requires { ⌜ border ≡ borderAt (decode (now network)) i ⌝ }
+    requires { ⌜ valueOf value ≡ Plan.profile (decode (now network)) (decodePlan (now plan)) i u x ⌝ }
+    ensures { λ r. ⌜ r ≡ Tests.fails24 (decode (now (network .entry))) (decodePlan (now (plan .entry))) i u x ⌝ }
+{
+    if value::is_number(value) {
+        if any_passing(
+            network,
+            l,
+            plan,
+            pl,
+            points,
+            first,
+            next,
+            starts,
+            Asked::Same,
+            i,
+            u,
+            value,
+            x,
+        ) {
+            let cell = network::read::cell(network, l, border);
+            return !any_passing(
+                network,
+                l,
+                plan,
+                pl,
+                points,
+                first,
+                next,
+                starts,
+                Asked::Flagged(cell),
+                i,
+                u,
+                value,
+                x,
+            );
+        }
+    }
+    false
+}
+
+// Does the test with this number, 21 to 24, fail at border number i, node u and tick x?
+pub fn is_failing(
+    number: u32,
+    network: &[u8],
+    l: Layout,
+    plan: &[u8],
+    pl: PlanLayout,
+    points: &[u16; 2048],
+    first: &[u16; 512],
+    next: &[u16; 2048],
+    starts: &[u32; 512],
+    border: usize,
+    i: usize,
+    u: usize,
+    x: usize,
+) -> bool
+    requires { ⌜ AtBorder (now network) l (now plan) pl (now points) (now first) (now next) (now starts) border i ⌝ }
+    requires { ⌜ (u < l .nodes) × (x < l .period) ⌝ }
+    ensures { λ r. ⌜ r ≡ Tests.fails number (decode (now (network .entry))) (decodePlan (now (plan .entry))) i u x ⌝ }
+{
+    if number == 21 {
+        return is_off_home(plan, pl, starts, border, i, u, x);
+    }
+    let value = value::profile_at(plan, pl, starts, i, u, x);
+    if number == 22 {
+        return any_passing(
+            network,
+            l,
+            plan,
+            pl,
+            points,
+            first,
+            next,
+            starts,
+            Asked::Less,
+            i,
+            u,
+            value,
+            x,
+        );
+    }
+    if number == 23 {
+        return is_unattained(
+            network,
+            l,
+            plan,
+            pl,
+            points,
+            first,
+            next,
+            starts,
+            border,
+            i,
+            u,
+            value,
+            x,
+        );
+    }
+    is_unflagged_toward(
+        network,
+        l,
+        plan,
+        pl,
+        points,
+        first,
+        next,
+        starts,
+        border,
+        i,
+        u,
+        value,
+        x,
+    )
+}

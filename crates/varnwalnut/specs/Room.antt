@@ -1,0 +1,13 @@
+-- Too little room for an answer is refused first, and nothing is written.
+use mathlib.Core.Bool.{cond}
+use mathlib.Core.List.{List}
+use Prim.Native.Nat.{ℕ}
+use lib.Dec.{ltb}
+
+-- an answer that takes w entries is refused with 31 where fewer are lent, before all else
+unfoldable pub roomed : ℕ → ℕ → ℕ → ℕ
+roomed w room code = cond (ltb room w) 31 code
+
+-- and then what is lent stays as it was
+unfoldable pub kept : ℕ → ℕ → List ℕ → List ℕ → List ℕ
+kept w room old new = cond (ltb room w) old new

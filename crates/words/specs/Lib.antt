@@ -1,0 +1,4 @@
+-- Fields of bytes, read (Fields) and written (Put), and the check of a block (Sum).
+pub mod Fields
+pub mod Put
+pub mod Sum
