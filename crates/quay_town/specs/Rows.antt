@@ -11,8 +11,8 @@ use Rattle.network.specs.Town.{travelAt}
 use Rattle.plan_check.specs.declared.answer.Checking.{Checking}
 use Rattle.plan_check.specs.declared.answer.Checking.the-variants as checking
 use Rattle.plan_check.specs.CheckPlan.{checking}
-use Rattle.trips.specs.declared.answer.Answer.{Answer}
-use Rattle.trips.specs.declared.answer.Answer.the-variants as answer
+use Rattle.trip_call.specs.declared.answer.Answer.{Answer}
+use Rattle.trip_call.specs.declared.answer.Answer.the-variants as answer
 use Rattle.trips.specs.Calls.{plainCall, plainPath, flaggedCall, flaggedPath}
 use Rattle.quay_town.specs.Files.{networkFile, planFile}
 

@@ -43,7 +43,7 @@ use Rattle.plan_tests.specs.Tests.{fails, fails22, given}
 use Rattle.plan_check.specs.Check.{checked, tripleRung}
 use Rattle.plan_check.specs.CheckPlan.{checkedBy}
 use Rattle.plan_check.specs.Promise.{towards}
-use Rattle.trips.specs.Trip.{asked, andThen, searched, tripAnswer}
+use Rattle.trip_call.specs.Trip.{asked, andThen, searched, tripAnswer}
 use Rattle.trips.specs.Flagged.{plannedThen}
 use Rattle.trips.specs.Calls.{plainPath, flaggedPath}
 use Rattle.quay_town.specs.Files.{networkFile, planFile}

@@ -4,7 +4,7 @@ use network::answer::Opening;
 use network::answer::Refusal;
 use network_pack::pack::Packing;
 use plan_check::answer::Checking;
-use trips::answer::Answer;
+use trip_call::answer::Answer;
 
 pub fn say(text: &[u8]) {
     io::write_all(STDOUT_FILENO, text);

@@ -19,9 +19,9 @@ use Rattle.network_pack.specs.declared.pack.Packing.the-variants as packing
 use Rattle.network_open.specs.Open.{overwritten}
 use Rattle.plan_check.specs.declared.answer.Checking.{Checking}
 use Rattle.plan_check.specs.declared.answer.Checking.the-variants as checking
-use Rattle.trips.specs.declared.answer.Arrival.{Arrival}
-use Rattle.trips.specs.declared.answer.Answer.{Answer}
-use Rattle.trips.specs.declared.answer.Answer.the-variants as answer
+use Rattle.trip_call.specs.declared.answer.Arrival.{Arrival}
+use Rattle.trip_call.specs.declared.answer.Answer.{Answer}
+use Rattle.trip_call.specs.declared.answer.Answer.the-variants as answer
 use Rattle.replies.specs.Reply.{bytes, roadBytes, tripBytes, tripCode, tripCount, checkNumbers, checkCode, openNumbers, openCode, packNumbers, packCode, tripNumbers}
 
 -- THE ROADS

@@ -2,7 +2,7 @@
 use network::answer::Opening;
 use network_pack::pack::Packing;
 use plan_check::answer::Checking;
-use trips::answer::Answer;
+use trip_call::answer::Answer;
 ghost use mathlib.Core.Path.{_≡_};
 ghost use Prim.Native.Nat.{_≤_};
 ghost use lib.ListN.{length};

@@ -1,6 +1,6 @@
 // The tablet's answer to a trip in lent bytes. It returns the refusal, or 0.
-use trips::answer::Answer;
-use trips::answer::Arrival;
+use trip_call::answer::Answer;
+use trip_call::answer::Arrival;
 use words::fields::put16;
 use words::fields::put32;
 ghost use mathlib.Core.Path.{_≡_};
@@ -8,7 +8,7 @@ ghost use Prim.Native.Nat.{_≤_};
 ghost use mathlib.Core.List.{_++_};
 ghost use lib.ListN.{length, take};
 ghost use lib.Seq.{sets};
-ghost use Rattle.trips.specs.declared.answer.Answer.the-variants as answered;
+ghost use Rattle.trip_call.specs.declared.answer.Answer.the-variants as answered;
 ghost use Rattle.replies.specs.Reply.{bytes, roadBytes, tripBytes, tripCode, tripCount};
 
 // The first road numbers of a list.

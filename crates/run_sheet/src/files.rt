@@ -1,5 +1,5 @@
 // The files of the program's folder, each read into room for one byte more than the sheet takes.
-use sheet::head::MOST;
+use sheet_text::head::MOST;
 ghost use Rattle.io.specs.Counts.{Counts};
 
 // One byte more than the sheet takes, so that a file with more is seen to have more.

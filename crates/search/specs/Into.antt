@@ -37,6 +37,12 @@ module _ (g : Graph) (p : Permit) (L : List ℕ) (v a : ℕ) where
     pub no-label : never ≤ getD L u 0 → false ≡ explains g p L v a
     no-label l = rw (h, eq-eqb (g .head a) v q, ← c, ← (label-at L u t), le-ltb (getD L u 0) never l)
 
+    pub too-late : v < length L → getD L u 0 < never → getD L v 0 < getD L u 0 → false ≡ explains g p L v a
+    unfolding ends
+    too-late m l o =
+        let z : eqb (ends g a (getD L u 0)) (getD L v 0) ≡ false = ne-eqb (ends g a (getD L u 0)) (getD L v 0) (λ y. omega (arith, y)) in
+        rw (h, eq-eqb (g .head a) v q, ← c, ← (label-at L u t), lt-ltb (getD L u 0) never l, ← (label-at L v m), z)
+
     pub by-end : (e : ℕ) → v < length L → getD L u 0 < never → e ≡ ends g a (getD L u 0) → eqb e (getD L v 0) ≡ explains g p L v a
     by-end e m l z = rw (h, eq-eqb (g .head a) v q, ← c, ← (label-at L u t), lt-ltb (getD L u 0) never l, ← z, label-at L v m)
 

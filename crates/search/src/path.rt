@@ -46,7 +46,12 @@ fn is_into(
     if NEVER <= tick {
         return false;
     }
-    times::ends_at(file, l, starts, arc, tick) == labels[v]
+    let label = labels[v];
+    // An arc never ends before it is taken.
+    if label < tick {
+        return false;
+    }
+    times::ends_at(file, l, starts, arc, tick) == label
 }
 
 // The lowest such arc; the number of arcs where there is none.

@@ -11,11 +11,16 @@ use lib.ListN.{take}
 use lib.Seq.{take-nil}
 use lib.Dec.{eqb, leb}
 use borrow.Author.Tests.{le-leb, lt-leb, ne-eqb}
-use Rattle.sheet.specs.declared.line.Line.{Line}
-use Rattle.sheet.specs.declared.line.Scan.{Scan}
+use Rattle.sheet_line.specs.declared.line.Line.{Line}
+use Rattle.sheet_line.specs.declared.line.Scan.{Scan}
 use Rattle.sheet.specs.declared.reading.Reading.{Reading}
-use Rattle.sheet.specs.Scanning.{fresh, scanned, scannedAll, ended, lineOf}
+use Rattle.sheet_line.specs.Scanning.{fresh, scanned, scannedAll, ended, lineOf}
+use Rattle.sheet_text.specs.Head.{reads}
 use Rattle.sheet.specs.Lines.{isEmpty, linesFrom}
+
+-- how far the input is read before its first byte: where no line is read, as after the 64th
+unfoldable pub beginning : List ℕ → List ℕ → Reading
+beginning network plan = record { lines = cond (reads network plan) 0 64; begun = false; scan = fresh }
 
 -- the state after one more byte: a line feed ends a line, any other byte goes on with one; after the 64th line nothing is read
 unfoldable pub stepped : Reading → ℕ → Reading

@@ -1,15 +1,22 @@
 -- The laws by which the code of a step meets its definitions: by whether the 64th line is past, and by the byte.
 use mathlib.Core.Path.{_≡_}
-use mathlib.Core.Bool.{true, false}
+use mathlib.Core.Bool.{Bool, true, false, cond}
 use mathlib.Core.List.{List}
 use Prim.Native.Nat.{ℕ, _+_, _≤_, _<_}
 use borrow.Author.Tests.{le-leb, lt-leb, eq-eqb, ne-eqb}
-use Rattle.sheet.specs.declared.line.Line.{Line}
-use Rattle.sheet.specs.declared.line.Scan.{Scan}
+use Rattle.sheet_line.specs.declared.line.Line.{Line}
+use Rattle.sheet_line.specs.declared.line.Scan.{Scan}
 use Rattle.sheet.specs.declared.reading.Reading.{Reading}
-use Rattle.sheet.specs.Text.{Stored, Printed, printed, printed-none}
-use Rattle.sheet.specs.Scanning.{fresh, scanned, ended}
-use Rattle.sheet.specs.Reading.{stepped, stepText, endText}
+use Rattle.sheet_line.specs.Text.{Stored, Printed, printed, printed-none}
+use Rattle.sheet_line.specs.Scanning.{fresh, scanned, ended}
+use Rattle.sheet_text.specs.Head.{reads}
+use Rattle.sheet.specs.Reading.{beginning, stepped, stepText, endText}
+
+-- before the first byte
+pub begins : (network plan : List ℕ) (b : Bool) (n : ℕ) (s : Scan) → b ≡ reads network plan → n ≡ cond b 0 64 → s ≡ fresh
+    → record { lines = n; begun = false; scan = s } ≡ beginning network plan
+unfolding beginning
+begins network plan b n s e f g = rw (f, e, g)
 
 module _ (r : Reading) (b : ℕ) where
   pub stepped-past : 64 ≤ r .lines → r ≡ stepped r b

@@ -6,11 +6,12 @@ use mathlib.Core.List.{List, [], _++_}
 use Prim.Native.Nat.{ℕ}
 use native.Mathlib.Omega.{arith}
 use lib.ListN.{take}
-use Rattle.sheet.specs.Scanning.{fresh, scannedAll}
+use Rattle.sheet_line.specs.Scanning.{fresh, scannedAll}
 use Rattle.sheet.specs.Lines.{linesOf}
 use Rattle.sheet.specs.Reading.{runText, textsOf, reads-lines, full}
-use Rattle.sheet.specs.TripText.{lineText}
-use Rattle.sheet.specs.Head.{headText, reads, beginning}
+use Rattle.sheet_text.specs.TripText.{lineText}
+use Rattle.sheet_text.specs.Head.{headText, reads}
+use Rattle.sheet.specs.Reading.{beginning}
 
 -- the first line; then, where lines are read, the texts of the first 64
 unfoldable pub sheetText : List ℕ → List ℕ → List ℕ → List ℕ

@@ -1,18 +1,19 @@
 // The run sheet, a byte of the input at a time: what is stored at the start, at each byte and at the end is the sheet (specs/Sheet.antt, `sheet-bytes`).
 // Each step stores its text from the first lent byte on. Nothing of the input is kept but a small state, so a line may be of any length.
-use crate::head::put_head;
-use crate::line::Scan;
-use crate::line::fresh;
-use crate::line::scan_byte;
-use crate::trip::put_line;
+use sheet_line::line::Scan;
+use sheet_line::line::fresh;
+use sheet_line::line::scan_byte;
+use sheet_text::head::put_head;
+use sheet_text::trip::put_line;
 ghost use mathlib.Core.Path.{_≡_};
 ghost use mathlib.Core.Bool.{cond};
 ghost use Prim.Native.Nat.{_≤_};
 ghost use lib.ListN.{length};
-ghost use Rattle.sheet.specs.Text.{Printed};
-ghost use Rattle.sheet.specs.Head.{headText, beginning};
+ghost use Rattle.sheet_line.specs.Text.{Printed};
+ghost use Rattle.sheet_text.specs.Head.{headText};
+ghost use Rattle.sheet.specs.Reading.{beginning};
 ghost use Rattle.sheet.specs.Reading.{stepped, stepText, endText};
-ghost use Rattle.sheet.specs.TripText.{lineText};
+ghost use Rattle.sheet_text.specs.TripText.{lineText};
 
 // How many lines are answered; further ones are not read.
 pub const LINES: u32 = 64;

@@ -9,8 +9,8 @@ use Rattle.network.specs.Decode.{decode}
 use Rattle.network.specs.Town.{graphOf}
 use Rattle.plan.specs.PlanDecode.{decodePlan}
 use Rattle.plan_check.specs.Promise.{towards}
-use Rattle.trips.specs.declared.answer.Answer.{Answer}
-use Rattle.trips.specs.Trip.{searched, tripAnswer}
+use Rattle.trip_call.specs.declared.answer.Answer.{Answer}
+use Rattle.trip_call.specs.Trip.{searched, tripAnswer}
 use Rattle.trips.specs.Plain.{plainBegin}
 use Rattle.trips.specs.Flagged.{flaggedBegin}
 

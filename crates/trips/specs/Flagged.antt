@@ -30,10 +30,10 @@ use Rattle.plan.specs.PlanValid.{ValidPlan, valid-within, valid-plan-laid, vali
 use Rattle.plan_check.specs.Promise.{towards}
 use Rattle.search.specs.declared.Outcome.{Outcome}
 use Rattle.labels.specs.Ready.{permitOf}
-use Rattle.trips.specs.declared.answer.Answer.{Answer}
-use Rattle.trips.specs.declared.answer.Answer.the-variants as answer
-use Rattle.trips.specs.Trip.{asked, andThen, told, searched, tripAnswer, tripArrivals, tripRoads}
-use Rattle.trips.specs.Drive.{searched-same, arrivals-same, roads-same, drive-nodes, drive-arcs, drive-cells, drive-period}
+use Rattle.trip_call.specs.declared.answer.Answer.{Answer}
+use Rattle.trip_call.specs.declared.answer.Answer.the-variants as answer
+use Rattle.trip_call.specs.Trip.{asked, andThen, told, searched, tripAnswer, tripArrivals, tripRoads}
+use Rattle.trip_call.specs.Drive.{searched-same, arrivals-same, roads-same, drive-nodes, drive-arcs, drive-cells, drive-period}
 
 -- a ladder after the validation of a plan
 abbrev pub plannedThen : Planning → Opening → Opening

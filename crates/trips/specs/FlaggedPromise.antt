@@ -24,12 +24,12 @@ use Rattle.plan.specs.PlanDecode.{decodePlan}
 use Rattle.plan.specs.PlanValid.{ValidPlan, plan-exactly}
 use Rattle.plan_check.specs.CheckPlan.{checking, accepted-plan}
 use Rattle.plan_check.specs.Promise.{towards, accepted-trips}
-use Rattle.trips.specs.declared.answer.Arrival.{Arrival}
-use Rattle.trips.specs.declared.answer.Answer.{Answer}
-use Rattle.trips.specs.declared.answer.Answer.the-variants as answer
-use Rattle.trips.specs.Trip.{asked, told, searched, tripAnswer, tripRoads}
-use Rattle.trips.specs.Drive.{drive-nodes, drive-period}
-use Rattle.trips.specs.Stage.{Asked}
+use Rattle.trip_call.specs.declared.answer.Arrival.{Arrival}
+use Rattle.trip_call.specs.declared.answer.Answer.{Answer}
+use Rattle.trip_call.specs.declared.answer.Answer.the-variants as answer
+use Rattle.trip_call.specs.Trip.{asked, told, searched, tripAnswer, tripRoads}
+use Rattle.trip_call.specs.Drive.{drive-nodes, drive-period}
+use Rattle.trip_call.specs.Stage.{Asked}
 use Rattle.trips.specs.Flagged.{flaggedBegin}
 use Rattle.trips.specs.Promise.{Arrives, trip-arrives, trip-none, trip-home, trip-reaches}
 

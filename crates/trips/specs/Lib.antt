@@ -1,8 +1,4 @@
--- Trips: what each answers and leaves (Trip, Plain, Flagged, Calls), the stages before a search (Stage), the laws between a search and its trip (Drive), and what an answer means (Promise,
--- Numbers, PlainPromise, FlaggedPromise).
-pub mod Trip
-pub mod Stage
-pub mod Drive
+-- Trips: what each answers and leaves (Plain, Flagged, Calls), and what an answer means (Promise, Numbers, PlainPromise, FlaggedPromise).
 pub mod Plain
 pub mod Flagged
 pub mod Calls

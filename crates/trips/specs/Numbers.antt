@@ -29,11 +29,11 @@ use Rattle.search.specs.declared.Outcome.{Outcome}
 use Rattle.search.specs.declared.Outcome.the-variants.{Arrived, NoWay, Short}
 use Rattle.labels.specs.Ready.{Leaving}
 use Rattle.search.specs.Promise.{arrived-few, never-short}
-use Rattle.trips.specs.declared.answer.Arrival.{Arrival}
-use Rattle.trips.specs.declared.answer.Answer.the-variants as answer
-use Rattle.trips.specs.Trip.{asked, andThen, told, searched, tripAnswer}
-use Rattle.trips.specs.Drive.{drive-nodes}
-use Rattle.trips.specs.Stage.{asked-passed, then-passed}
+use Rattle.trip_call.specs.declared.answer.Arrival.{Arrival}
+use Rattle.trip_call.specs.declared.answer.Answer.the-variants as answer
+use Rattle.trip_call.specs.Trip.{asked, andThen, told, searched, tripAnswer}
+use Rattle.trip_call.specs.Drive.{drive-nodes}
+use Rattle.trip_call.specs.Stage.{asked-passed, then-passed}
 use Rattle.trips.specs.Plain.{plainBegin, Begun}
 use Rattle.trips.specs.Flagged.{plannedThen, flaggedWith, flaggedBegin}
 use Rattle.trips.specs.Promise.{valid-leaving, told-trip}

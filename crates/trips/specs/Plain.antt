@@ -14,10 +14,10 @@ use Rattle.network.specs.Decode.{decode}
 use Rattle.network.specs.Validate.{validated}
 use Rattle.network.specs.Valid.{ValidFile, valid-exactly}
 use Rattle.labels.specs.Ready.{permitOf}
-use Rattle.trips.specs.declared.answer.Answer.{Answer}
-use Rattle.trips.specs.Trip.{asked, andThen, told, searched, tripAnswer, tripArrivals, tripRoads}
-use Rattle.trips.specs.Stage.{Asked, asked-passed, then-passed}
-use Rattle.trips.specs.Drive.{searched-same, arrivals-same, roads-same, drive-arcs, drive-period}
+use Rattle.trip_call.specs.declared.answer.Answer.{Answer}
+use Rattle.trip_call.specs.Trip.{asked, andThen, told, searched, tripAnswer, tripArrivals, tripRoads}
+use Rattle.trip_call.specs.Stage.{Asked, asked-passed, then-passed}
+use Rattle.trip_call.specs.Drive.{searched-same, arrivals-same, roads-same, drive-arcs, drive-period}
 
 -- what comes before the search
 abbrev pub plainBegin : List ℕ → ℕ → ℕ → ℕ → ℕ → Opening

@@ -13,10 +13,10 @@ use Rattle.network.specs.Decode.{decode}
 use Rattle.network.specs.Rules.{refusal}
 use Rattle.network.specs.Town.{graphOf}
 use Rattle.search.specs.declared.Outcome.{Outcome}
-use Rattle.trips.specs.declared.answer.Arrival.{Arrival}
-use Rattle.trips.specs.declared.answer.Answer.{Answer}
-use Rattle.trips.specs.declared.answer.Answer.the-variants as answer
-use Rattle.trips.specs.Trip.{told, searched, tripAnswer, tripRoads}
+use Rattle.trip_call.specs.declared.answer.Arrival.{Arrival}
+use Rattle.trip_call.specs.declared.answer.Answer.{Answer}
+use Rattle.trip_call.specs.declared.answer.Answer.the-variants as answer
+use Rattle.trip_call.specs.Trip.{told, searched, tripAnswer, tripRoads}
 use Rattle.trips.specs.Plain.{plainBegin, Begun, begun}
 use Rattle.trips.specs.Promise.{Arrives, trip-arrives, trip-none, trip-home}
 

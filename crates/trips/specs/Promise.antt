@@ -29,11 +29,11 @@ use Rattle.labels.specs.Ready.{Leaving, leaving}
 use Rattle.arcs.specs.Town.{town-of}
 use Rattle.search.specs.Promise.{arrived, arrives, waiting, no-way, at-home, before-never}
 use Rattle.search.specs.Trim.{shown}
-use Rattle.trips.specs.declared.answer.Arrival.{Arrival}
-use Rattle.trips.specs.declared.answer.Answer.{Answer}
-use Rattle.trips.specs.declared.answer.Answer.the-variants as answer
-use Rattle.trips.specs.Trip.{told, searched, tripRoads}
-use Rattle.trips.specs.Drive.{count-is, drive-laid, drive-nodes}
+use Rattle.trip_call.specs.declared.answer.Arrival.{Arrival}
+use Rattle.trip_call.specs.declared.answer.Answer.{Answer}
+use Rattle.trip_call.specs.declared.answer.Answer.the-variants as answer
+use Rattle.trip_call.specs.Trip.{told, searched, tripRoads}
+use Rattle.trip_call.specs.Drive.{count-is, drive-laid, drive-nodes}
 use Rattle.network.specs.Layout.{layoutOf}
 
 -- An arrival, with the roads that are listed: a permitted path from s to t, as long as counted, that driven from tick x ends at the tick answered, and

@@ -1,7 +1,4 @@
 // The flagged trip, over the arcs with the flag of the target's cell. An unchecked plan gets the earliest arrival over its flagged arcs.
-use crate::answer::Answer;
-use crate::begin::ask;
-use crate::drive::drive;
 use network::answer::Opening;
 use network::header::Header;
 use network::read::cell;
@@ -11,6 +8,9 @@ use plan::header::PlanHeader;
 use plan::header::PlanLayout;
 use plan::read::flag_word;
 use plan_form::validate::validate_plan;
+use trip_call::answer::Answer;
+use trip_call::begin::ask;
+use trip_call::drive::drive;
 ghost use mathlib.Core.Path.{_≡_};
 ghost use mathlib.Core.Bool.{cond};
 ghost use Prim.Native.Nat.{_≤_, _<_};
@@ -27,8 +27,8 @@ ghost use Rattle.plan.specs.PlanDecode.{decodePlan, PlanLaid};
 ghost use Rattle.plan.specs.PlanValid.{ValidPlan};
 ghost use Rattle.plan_check.specs.Promise.{towards};
 ghost use Rattle.search.specs.Trim.{shown};
-ghost use Rattle.trips.specs.Trip.{asked, told, searched, tripAnswer, tripArrivals, tripRoads};
-ghost use Rattle.trips.specs.Stage.{Asked};
+ghost use Rattle.trip_call.specs.Trip.{asked, told, searched, tripAnswer, tripArrivals, tripRoads};
+ghost use Rattle.trip_call.specs.Stage.{Asked};
 ghost use Rattle.trips.specs.Flagged.{maskOf, flaggedWith, flaggedBegin};
 
 // Is bit c of the word set?

@@ -1,14 +1,14 @@
 // The plain trip, over all arcs.
-use crate::answer::Answer;
-use crate::begin::ask;
-use crate::drive::drive;
 use network::answer::Opening;
 use network_open::validate::validate;
+use trip_call::answer::Answer;
+use trip_call::begin::ask;
+use trip_call::drive::drive;
 ghost use mathlib.Core.Path.{_≡_};
 ghost use lib.ListN.{length};
 ghost use Rattle.paths.specs.Graph.{all};
 ghost use Rattle.network.specs.Decode.{decode};
-ghost use Rattle.trips.specs.Trip.{searched, tripAnswer, tripArrivals, tripRoads};
+ghost use Rattle.trip_call.specs.Trip.{searched, tripAnswer, tripArrivals, tripRoads};
 ghost use Rattle.trips.specs.Plain.{plainBegin};
 
 // The refusals before the search: 1 to 10, then 25 to 27.

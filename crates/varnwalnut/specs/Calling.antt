@@ -19,11 +19,11 @@ use Rattle.network_pack.specs.Pack.{bytesAfter}
 use Rattle.network.specs.Town.{graphOf}
 use Rattle.plan.specs.PlanDecode.{decodePlan}
 use Rattle.plan_check.specs.Promise.{towards}
-use Rattle.trips.specs.declared.answer.Arrival.{Arrival}
-use Rattle.trips.specs.declared.answer.Answer.{Answer}
-use Rattle.trips.specs.declared.answer.Answer.the-variants as answer
-use Rattle.trips.specs.Trip.{searched, tripAnswer, tripRoads}
-use Rattle.trips.specs.Drive.{count-is}
+use Rattle.trip_call.specs.declared.answer.Arrival.{Arrival}
+use Rattle.trip_call.specs.declared.answer.Answer.{Answer}
+use Rattle.trip_call.specs.declared.answer.Answer.the-variants as answer
+use Rattle.trip_call.specs.Trip.{searched, tripAnswer, tripRoads}
+use Rattle.trip_call.specs.Drive.{count-is}
 use Rattle.trips.specs.Plain.{plainBegin, begun}
 use Rattle.trips.specs.Flagged.{flaggedBegin}
 use Rattle.trips.specs.Promise.{told-trip}

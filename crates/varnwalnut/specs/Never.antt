@@ -10,7 +10,7 @@ use Rattle.network.specs.declared.answer.Refusal.{Refusal}
 use Rattle.network.specs.Decode.{decode}
 use Rattle.plan.specs.PlanDecode.{decodePlan}
 use Rattle.plan_check.specs.Promise.{towards}
-use Rattle.trips.specs.declared.answer.Answer.the-variants as answer
+use Rattle.trip_call.specs.declared.answer.Answer.the-variants as answer
 use Rattle.trips.specs.Plain.{plainBegin, begun}
 use Rattle.trips.specs.Flagged.{flaggedBegin}
 use Rattle.trips.specs.Numbers.{plain-before, plain-roomy, flagged-before, flagged-roomy, flagged-begun, no-short}

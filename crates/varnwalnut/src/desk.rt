@@ -22,7 +22,7 @@ ghost use Rattle.network_pack.specs.Pack.{packing as packingOf};
 ghost use Rattle.plan.specs.PlanDecode.{decodePlan};
 ghost use Rattle.plan_check.specs.Promise.{towards};
 ghost use Rattle.plan_check.specs.CheckPlan.{checking as checkingOf};
-ghost use Rattle.trips.specs.Trip.{tripArrivals, tripRoads};
+ghost use Rattle.trip_call.specs.Trip.{tripArrivals, tripRoads};
 ghost use Rattle.trips.specs.Plain.{plainBegin};
 ghost use Rattle.trips.specs.Flagged.{flaggedBegin};
 ghost use Rattle.replies.specs.Reply.{checkNumbers, checkCode, openNumbers, openCode, packNumbers, packCode, tripNumbers, tripCode};

@@ -4,7 +4,7 @@ use lib.ListN.{length}
 use Rattle.network.specs.Decode.{decode}
 use Rattle.network.specs.Town.{graphOf}
 use Rattle.labels.specs.Ready.{permitOf, ready-reads}
-use Rattle.search.specs.Into.{not-permitted, no-label, by-end}
+use Rattle.search.specs.Into.{not-permitted, no-label, too-late, by-end}
 use borrow.Author.Tests.{eq-eqb, ne-eqb}
 use borrow.Author.Needs.{needs}
 use Rattle.search.proofs.path.is_into.Statement.{statement}
@@ -28,18 +28,34 @@ shared-slice-read-tick c = search ready-reads
 returns-2 : tie.Need-returns-2
 returns-2 c = search (no-label, ready-reads, eq-eqb)
 
-ends-at-requires : tie.Need-ends-at-requires
-ends-at-requires c κs = (search needs, ((search needs, search ready-reads), search ready-reads))
+mul-label : tie.Need-mul-label
+mul-label c = search needs
 
-mul-result : tie.Need-mul-result
-mul-result c = search needs
-
-shared-slice-read-result : tie.Need-shared-slice-read-result
-shared-slice-read-result c = search needs
+shared-slice-read-label : tie.Need-shared-slice-read-label
+shared-slice-read-label c = search needs
 
 returns-3 : tie.Need-returns-3
 returns-3 c =
     let e = c .before .before in
+    let f = e .before .before .before in
+    let s = f .before .before .before .before .before in
+    let L = s .args .labels .now in
+    let u : e .before .before .tail .result < length L = search ready-reads in
+    let v : s .args .v < length L = search ready-reads in
+    too-late (graphOf (decode (s .args .file .now))) (permitOf (s .args .mask .now)) L (s .args .v) (s .args .arc) _ u
+    (e .before .before .tail .ensures .0)
+    (eq-eqb _ _ (f .if1 .left))
+    (s .pre .1 .1 .1)
+    v
+    (e .if2 .left)
+    (c .if3 .taken)
+
+ends-at-requires : tie.Need-ends-at-requires
+ends-at-requires c κs = (search needs, ((search needs, search ready-reads), search ready-reads))
+
+returns-4 : tie.Need-returns-4
+returns-4 c =
+    let e = c .before .before .before in
     let f = e .before .before .before in
     let s = f .before .before .before .before .before in
     let L = s .args .labels .now in
@@ -52,7 +68,7 @@ returns-3 c =
     _
     v
     (e .if2 .left)
-    (c .before .ends-at .ensures .0)
+    (c .ends-at .ensures .0)
 
 pub is-into-spec : {M : Type 1} → statement M
 is-into-spec =
@@ -64,7 +80,8 @@ is-into-spec =
     mul-tick
     shared-slice-read-tick
     returns-2
+    mul-label
+    shared-slice-read-label
+    returns-3
     ends-at-requires
-    mul-result
-    shared-slice-read-result
-    returns-3)
+    returns-4)

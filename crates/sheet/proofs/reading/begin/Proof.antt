@@ -1,6 +1,6 @@
 -- `sheet::reading::begin` meets its contract.
-use Rattle.sheet.specs.Text.{printed}
-use Rattle.sheet.specs.HeadStored.{heads}
+use Rattle.sheet_line.specs.Text.{printed}
+use Rattle.sheet.specs.ReadingSteps.{begins}
 use borrow.Author.Needs.{needs}
 use Rattle.sheet.proofs.reading.begin.Statement.{statement}
 use Rattle.sheet.proofs.reading.begin.Tie as tie
@@ -18,7 +18,7 @@ same-length : tie.Need-same-length
 same-length c = search needs
 
 returns : tie.Need-returns
-returns c = (search printed, search heads)
+returns c = (search printed, search begins)
 
 pub begin-spec : {M : Type 1} → statement M
 begin-spec =

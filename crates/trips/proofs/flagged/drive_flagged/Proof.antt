@@ -1,7 +1,7 @@
 -- `trips::flagged::drive_flagged` meets its contract.
 use denote.Ref.{now}
 use native.Mathlib.Omega.{arith}
-use Rattle.trips.specs.Drive.{drive-laid, drive-sizes}
+use Rattle.trip_call.specs.Drive.{drive-laid, drive-sizes}
 use Rattle.trips.specs.Flagged.{flags, flagged-answer, flagged-arrivals, flagged-roads}
 use borrow.Author.Needs.{needs}
 use Rattle.trips.proofs.flagged.drive_flagged.Statement.{statement}

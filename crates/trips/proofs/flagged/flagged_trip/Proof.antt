@@ -1,6 +1,6 @@
 -- `trips::flagged::flagged_trip` meets its contract.
 use mathlib.Core.Path.{refl}
-use Rattle.trips.specs.Stage.{stages}
+use Rattle.trip_call.specs.Stage.{stages}
 use borrow.Author.Needs.{needs}
 use Rattle.trips.proofs.flagged.flagged_trip.Statement.{statement}
 use Rattle.trips.proofs.flagged.flagged_trip.Tie as tie

@@ -1,5 +1,5 @@
 -- `trips::plain::begin_plain` meets its contract.
-use Rattle.trips.specs.Trip.{then-refused, then-opened}
+use Rattle.trip_call.specs.Trip.{then-refused, then-opened}
 use borrow.Author.Needs.{needs}
 use Rattle.trips.proofs.plain.begin_plain.Statement.{statement}
 use Rattle.trips.proofs.plain.begin_plain.Tie as tie

@@ -1,7 +1,7 @@
 -- `trips::plain::plain_trip` meets its contract.
 use mathlib.Core.Path.{refl}
 use Rattle.trips.specs.Plain.{plains}
-use Rattle.trips.specs.Stage.{stages}
+use Rattle.trip_call.specs.Stage.{stages}
 use borrow.Author.Needs.{needs}
 use Rattle.trips.proofs.plain.plain_trip.Statement.{statement}
 use Rattle.trips.proofs.plain.plain_trip.Tie as tie

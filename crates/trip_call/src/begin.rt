@@ -1,0 +1,25 @@
+// The refusals 25 to 27 of a trip, once its files are well.
+use network::answer::Opening;
+use network::answer::refused;
+use network::header::Header;
+ghost use mathlib.Core.Path.{_≡_};
+ghost use Rattle.trip_call.specs.Trip.{asked};
+
+// The header again, where the two nodes, the departure and the list of arrivals will do.
+pub fn ask(h: Header, from: u32, to: u32, departure: u32, room: usize) -> Opening
+    ensures { λ r. ⌜ r ≡ asked h from to departure room ⌝ }
+{
+    if h.nodes as u32 <= from {
+        return refused(25, from);
+    }
+    if h.nodes as u32 <= to {
+        return refused(25, to);
+    }
+    if h.period as u32 <= departure {
+        return refused(26, 0);
+    }
+    if room < h.nodes as usize {
+        return refused(27, 0);
+    }
+    Opening::Opened(h)
+}
