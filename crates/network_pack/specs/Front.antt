@@ -17,11 +17,12 @@ use Rattle.network.specs.Network.{Network}
 use Rattle.network.specs.Decode.{headerAt, decode, Laid, LaidBlocks}
 use Rattle.network.specs.Rules.{judged}
 use Rattle.network_open.specs.Open.{overwritten}
-use Rattle.network_pack.specs.Encode.{encode, Words, Proper}
+use Rattle.network_encode.specs.Encode.{encode, Words, Proper}
 use Rattle.network_pack.specs.Holds.{tab-is}
 use Rattle.network_pack.specs.RoundTrip.{encode-long, header-encode, decode-encode}
-use Rattle.network_pack.specs.Pack.{networkOf, Packable, packedRules, bytesAfter}
-use Rattle.network_pack.specs.Written.{layout-blocks, packed-header}
+use Rattle.network_encode.specs.Tables.{networkOf, Packable}
+use Rattle.network_pack.specs.Pack.{packedRules, bytesAfter}
+use Rattle.network_encode.specs.Written.{layout-blocks, packed-header}
 
 -- bytes copied from the first to the last
 pub copied : (file old new : List ℕ) (i : ℕ) → length file ≤ length old → Filled 0 i (λ k. getD file k 0) old new → i ≤ length file → length file ≤ i

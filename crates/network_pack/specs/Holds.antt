@@ -24,7 +24,7 @@ use Rattle.network.specs.Layout.{arcBlock, pointBlock, allBlocks}
 use Rattle.network.specs.Network.{Network, nodes, arcs, points}
 use Rattle.network.specs.Decode.{headerAt, decodeBy, decode}
 use Rattle.network.specs.Valid.{RunFormed}
-use Rattle.network_pack.specs.Encode.{headerOf, headerByte, cellByte, arcByte, pointByte, bodyBy, encodeBy, Words, Proper, header-body, cells-body, arcs-body, points-body, cell-byte, tail-byte, head-byte, count-byte, tick-byte, travel-byte, number-byte, period-byte, nodes-byte, arcs-byte, cells-byte, points-byte}
+use Rattle.network_encode.specs.Encode.{headerOf, headerByte, cellByte, arcByte, pointByte, bodyBy, encodeBy, Words, Proper, header-body, cells-body, arcs-body, points-body, cell-byte, tail-byte, head-byte, count-byte, tick-byte, travel-byte, number-byte, period-byte, nodes-byte, arcs-byte, cells-byte, points-byte}
 
 pub record Holds (file : List ℕ) (h : Header) (n : Network) : Type 0 where
   pub header : RunLaid file 0 1 1 16 1 (λ _. headerByte h) 0

@@ -1,4 +1,4 @@
--- Packing a network: the network of six tables, the answer, and what becomes of the lent bytes. They are written only where nothing is refused,
+-- Packing a network: the answer, and what becomes of the lent bytes. They are written only where nothing is refused,
 -- and then in their first bytes alone, which become the network's file.
 use mathlib.Core.Path.{_≡_, sym, _∙_, ap, subst}
 use mathlib.Core.Bool.{Bool, true, false, cond}
@@ -22,32 +22,12 @@ use Rattle.network.specs.Layout.{layoutOf}
 use Rattle.network.specs.Network.{Network}
 use Rattle.network.specs.Rules.{refusal, judged}
 use Rattle.network_open.specs.Open.{tooShort, overwritten, Room, open-room}
-use Rattle.network_pack.specs.Encode.{encode}
+use Rattle.network_encode.specs.Encode.{encode}
+use Rattle.network_encode.specs.Tables.{networkOf, Packable}
 
 -- the header of these numbers
 abbrev pub numbers : ℕ → ℕ → ℕ → ℕ → ℕ → ℕ → Header
 numbers number period nodes arcs cells points = record { number = number; period = period; nodes = nodes; arcs = arcs; cells = cells; points = points }
-
--- the network of a header and of the first entries of six tables
-abbrev pub networkOf : Header → List ℕ → List ℕ → List ℕ → List ℕ → List ℕ → List ℕ → Network
-networkOf h cells tails heads counts ticks travels = record {
-  number = h .number;
-  period = h .period;
-  cells = h .cells;
-  cellOf = take (h .nodes) cells;
-  tails = take (h .arcs) tails;
-  heads = take (h .arcs) heads;
-  counts = take (h .arcs) counts;
-  ticks = take (h .points) ticks;
-  travels = take (h .points) travels;
-}
-
--- what the writing of the file requires: a header within the limits, its layout, and tables of these lengths with room for its counts
-pub record Packable (h : Header) (l : Layout) (cells tails heads counts ticks travels : ℕ) : Type 0 where
-  pub within : Within h
-  pub number-fits : h .number < 2 ^ 32
-  pub is : l ≡ layoutOf h
-  pub room : Room l cells tails heads counts ticks travels
 
 abbrev pub refused : ℕ → Packing
 refused number = Refused (refusal number 0)

@@ -31,10 +31,11 @@ use Rattle.network.specs.Sound.{sound-exactly}
 use Rattle.network.specs.Validate.{validated}
 use Rattle.network.specs.Valid.{ValidFile, valid-exactly}
 use Rattle.network_open.specs.Open.{tooShort, openedIn, opening, overwritten}
-use Rattle.network_pack.specs.Encode.{headerOf, encode, Proper}
+use Rattle.network_encode.specs.Encode.{headerOf, encode, Proper}
 use Rattle.network_pack.specs.RoundTrip.{decode-encode, encode-valid, encode-decode}
-use Rattle.network_pack.specs.Pack.{networkOf, numbers, Packable, packedInto, packedRules, packedTables, packedMade, packing, now-packable}
-use Rattle.network_pack.specs.Written.{packed-header}
+use Rattle.network_encode.specs.Tables.{networkOf, Packable}
+use Rattle.network_pack.specs.Pack.{numbers, packedInto, packedRules, packedTables, packedMade, packing, now-packable}
+use Rattle.network_encode.specs.Written.{packed-header}
 use Rattle.network_pack.specs.Front.{Fields, packed-proper}
 
 -- THE FIRST PROMISE: the file that Pack writes has the length that it answers, and opens to the same header and tables

@@ -20,7 +20,7 @@ use Rattle.network.specs.Decode.{headerAt, decodeBy, decode}
 use Rattle.network.specs.Sound.{SoundNetwork}
 use Rattle.network.specs.Validate.{validated}
 use Rattle.network.specs.Valid.{ValidFile, valid-exactly}
-use Rattle.network_pack.specs.Encode.{headerOf, bodyBy, encodeBy, encode, Words, Proper}
+use Rattle.network_encode.specs.Encode.{headerOf, bodyBy, encodeBy, encode, Words, Proper}
 use Rattle.network_pack.specs.Holds.{encode-holds, holds-encode, header-formed, cells-formed, arcs-formed, points-formed, header-read, tables-read, formed-holds}
 
 -- THE FILE OF A NETWORK

@@ -1,12 +1,12 @@
 // Pack: the file of a network whose tables are lent, written into lent bytes once nothing is refused. The file is made in bytes of its own first, so that
 // the rules 7 to 10 are judged by the code that judges them for Open, on the bytes that are then copied.
-use crate::encode::encode_network;
 use network::answer::Judged;
 use network::answer::Refusal;
 use network::answer::refuse;
 use network::header::Header;
 use network::header::Layout;
 use network::header::Made;
+use network_encode::encode::encode_network;
 use network_open::open::is_short;
 use network_rules::rules::judge;
 ghost use mathlib.Core.Path.{_≡_};
@@ -16,9 +16,10 @@ ghost use Rattle.network.specs.Limits.{Within};
 ghost use Rattle.network.specs.Decode.{decode, Laid};
 ghost use Rattle.network.specs.Rules.{judged};
 ghost use Rattle.network_open.specs.Open.{overwritten};
-ghost use Rattle.network_pack.specs.Encode.{encode};
+ghost use Rattle.network_encode.specs.Encode.{encode};
 ghost use Rattle.network_pack.specs.Pack;
-ghost use Rattle.network_pack.specs.Pack.{networkOf, numbers, Packable, packedInto, packedRules, packedTables, packing, bytesAfter};
+ghost use Rattle.network_encode.specs.Tables.{networkOf, Packable};
+ghost use Rattle.network_pack.specs.Pack.{numbers, packedInto, packedRules, packedTables, packing, bytesAfter};
 
 // How many bytes a file that was written has.
 pub struct Length {

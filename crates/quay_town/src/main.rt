@@ -1,7 +1,7 @@
 // quay_town: the worked example, run and printed, a line for each row.
 //   town   the town's files: the network packed from its tables, plans read from files
 //   print  answers as lines
-// The same rows are proved from the files' bytes in one theorem over a table (specs/Town.antt). The program calls every operation, and `io` and `os` for its input and output.
+// The same rows are proved from the files' bytes in one theorem (`worked_example`). The program calls every operation, and `io` and `os` for its input and output.
 mod print;
 mod town;
 

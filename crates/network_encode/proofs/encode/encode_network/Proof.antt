@@ -1,0 +1,51 @@
+-- `network_encode::encode::encode_network` meets its contract.
+use Rattle.network_encode.specs.Written.{file-more, file-whole}
+use Prim.Native.Nat.{_-_, _*_, _≤_}
+use Rattle.loops.specs.Fill.{Filled, fill-none}
+use Rattle.blocks.specs.Bytes.{fileByte}
+use Rattle.network_encode.specs.Encode.{bodyBy}
+use Rattle.network_encode.specs.Tables.{networkOf}
+use borrow.Author.Needs.{needs}
+use Rattle.network_encode.proofs.encode.encode_network.Statement.{statement}
+use Rattle.network_encode.proofs.encode.encode_network.Tie as tie
+
+abbrev Inv-loop : tie.InvT-loop
+Inv-loop out₀ h l cells tails heads counts ticks travels b₀ b-end out b = (b ≤ l .blocks) × Filled 0 (512 * b) (fileByte (bodyBy h (networkOf h cells tails heads counts ticks travels))) out₀ out
+
+abbrev μ-loop : tie.MeasureT-loop
+μ-loop out₀ h l cells tails heads counts ticks travels b₀ b-end out b = l .blocks - b
+
+loop-holds : tie.Need-loop-holds Inv-loop μ-loop
+loop-holds c = (search needs, fill-none _ _ _)
+
+write-block-requires : tie.Need-write-block-requires Inv-loop μ-loop
+write-block-requires c κs = search needs
+
+add-b : tie.Need-add-b Inv-loop μ-loop
+add-b c = search needs
+
+loop-less : tie.Need-loop-less Inv-loop μ-loop
+loop-less c = search needs
+
+loop-again : tie.Need-loop-again Inv-loop μ-loop
+loop-again c = (search needs, search file-more)
+
+same-length : tie.Need-same-length Inv-loop μ-loop
+same-length c = search needs
+
+returns : tie.Need-returns Inv-loop μ-loop
+returns c = search file-whole
+
+pub encode-network-spec : {M : Type 1} → statement M
+encode-network-spec =
+    tie.close
+    (tie.spec
+    Inv-loop
+    μ-loop
+    loop-holds
+    write-block-requires
+    add-b
+    loop-less
+    loop-again
+    same-length
+    returns)

@@ -1,0 +1,38 @@
+-- `network_encode::encode::header_block` meets its contract.
+use mathlib.Core.Path.{refl}
+use lib.Dec.{lit<, lit≤}
+use Rattle.network_encode.specs.Encode.{headerByte}
+use Rattle.network_encode.specs.Block.{block-written}
+use borrow.Author.Needs.{needs}
+use Rattle.network_encode.proofs.encode.header_block.Statement.{statement}
+use Rattle.network_encode.proofs.encode.header_block.Tie as tie
+
+write-head-requires : tie.Need-write-head-requires
+write-head-requires c κs = search needs
+
+put-header-requires : tie.Need-put-header-requires
+put-header-requires c κs = search needs
+
+write-zeros-requires : tie.Need-write-zeros-requires
+write-zeros-requires c κs = search needs
+
+write-check-requires : tie.Need-write-check-requires
+write-check-requires c κs = search needs
+
+same-length : tie.Need-same-length
+same-length c = search needs
+
+returns : tie.Need-returns
+returns c =
+    block-written 1 1 16 1 (λ _. headerByte (c .before .before .before .before .before .before .before .before .before .before .before .before .before .before .before .before .before .args .h)) 0 0 1 (lit< tt) refl (lit≤ tt) _ _ _ _ _ (lit< tt) (c .before .before .before .before .before .before .before .before .before .before .before .before .before .before .before .before .before .pre .1 .1) (c .before .before .before .before .before .before .before .before .before .before .before .before .before .before .write-head .ensures) (c .before .before .before .before .before .before .before .before .before .before .put-header .ensures) (c .before .before .before .before .before .before .write-zeros .ensures) (c .before .before .write-check .ensures)
+
+pub header-block-spec : {M : Type 1} → statement M
+header-block-spec =
+    tie.close
+    (tie.spec
+    write-head-requires
+    put-header-requires
+    write-zeros-requires
+    write-check-requires
+    same-length
+    returns)

@@ -1,0 +1,42 @@
+-- `network_encode::encode::put_header` meets its contract.
+use Rattle.network_encode.specs.Written.{header-put}
+use borrow.Author.Needs.{needs}
+use Rattle.network_encode.proofs.encode.put_header.Statement.{statement}
+use Rattle.network_encode.proofs.encode.put_header.Tie as tie
+
+put32-requires : tie.Need-put32-requires
+put32-requires c κs = search needs
+
+put16-requires : tie.Need-put16-requires
+put16-requires c κs = search needs
+
+put16-requires-2 : tie.Need-put16-requires-2
+put16-requires-2 c κs = search needs
+
+put16-requires-3 : tie.Need-put16-requires-3
+put16-requires-3 c κs = search needs
+
+put16-requires-4 : tie.Need-put16-requires-4
+put16-requires-4 c κs = search needs
+
+put32-requires-2 : tie.Need-put32-requires-2
+put32-requires-2 c κs = search needs
+
+same-length : tie.Need-same-length
+same-length c = search needs
+
+returns : tie.Need-returns
+returns c = header-put _ (c .before .before .before .before .before .before .before .before .before .before .before .before .before .before .before .before .before .before .before .before .before .before .before .before .before .pre .0) (c .before .before .before .before .before .before .before .before .before .before .before .before .before .before .before .before .before .before .before .before .before .before .before .before .before .pre .1 .0) _ _ _ _ _ _ _ (c .before .before .before .before .before .before .before .before .before .before .before .before .before .before .before .before .before .before .before .before .before .before .before .before .before .pre .1 .1) (c .before .before .before .before .before .before .before .before .before .before .before .before .before .before .before .before .before .before .before .before .before .before .put32 .ensures) (c .before .before .before .before .before .before .before .before .before .before .before .before .before .before .before .before .before .before .put16 .ensures) (c .before .before .before .before .before .before .before .before .before .before .before .before .before .before .put162 .ensures) (c .before .before .before .before .before .before .before .before .before .before .put163 .ensures) (c .before .before .before .before .before .before .put164 .ensures) (c .before .before .put322 .ensures)
+
+pub put-header-spec : {M : Type 1} → statement M
+put-header-spec =
+    tie.close
+    (tie.spec
+    put32-requires
+    put16-requires
+    put16-requires-2
+    put16-requires-3
+    put16-requires-4
+    put32-requires-2
+    same-length
+    returns)

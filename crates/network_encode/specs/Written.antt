@@ -1,0 +1,161 @@
+-- A network's file as it is written from lent tables: an entry is put as one number, a block of a run is a block of the file, and the file stands
+-- once all blocks do. The tables may be longer than their counts; the file is that of their first entries.
+use mathlib.Core.Path.{_≡_, refl, sym, _∙_, ap, subst⁻¹}
+use mathlib.Core.List.{List}
+use Prim.Native.Nat.{ℕ, _+_, _*_, _^_, _≤_, _<_}
+use native.Mathlib.Omega.{arith}
+use lib.ListN.{length, getD, take}
+use lib.Seq.{getD-take, length-take-le}
+use lib.Dec.{lit<, lit≤}
+use Rattle.loops.specs.Fill.{Filled, filled-list, length-tab}
+use Rattle.blocks.specs.Bytes.{fileByte}
+use Rattle.blocks.specs.Run.{runBody, headerBody}
+use Rattle.words.specs.Put.{put, fill-join}
+use Rattle.network.specs.declared.header.Header.{Header}
+use Rattle.network.specs.declared.header.Layout.{Layout}
+use Rattle.network.specs.Limits.{Within}
+use Rattle.network.specs.Layout.{layoutOf, arcBlock, pointBlock, allBlocks}
+use Rattle.network.specs.Network.{Network}
+use Rattle.network.specs.Decode.{LaidBlocks}
+use Rattle.network_encode.specs.Encode.{headerOf, encodeBy, encode, headerByte, cellByte, arcByte, pointByte, bodyBy, header-body, cells-body, arcs-body, points-body, number-byte, period-byte, nodes-byte, arcs-byte, cells-byte, points-byte}
+use Rattle.network_encode.specs.Block.{partByte, InRun, entry-none, entry-first, entry-field, entry-put, same-body, same-block}
+use Rattle.network_open.specs.Open.{overwritten}
+use Rattle.network_encode.specs.Tables.{networkOf, Packable}
+
+-- AN ENTRY is put as one number
+module _ (base first m e : ℕ) (old s₀ s₁ : List ℕ) (l : e < m) where
+  pub cell-put : (c : List ℕ) → Filled base (base + 2 * e) (partByte 2 (cellByte c) base first) old s₀ → base + 2 * m ≤ length old
+      → s₁ ≡ put 2 s₀ (base + 2 * e) (getD c (first + e) 0) → Filled base (base + 2 * (e + 1)) (partByte 2 (cellByte c) base first) old s₁
+  unfolding cellByte
+  cell-put c h r p = entry-put 2 (cellByte c) base first m e _ old s₀ s₁ h l r (λ k. refl) p
+
+  pub arc-put : (t h k : List ℕ) → Filled base (base + 6 * e) (partByte 6 (arcByte t h k) base first) old s₀ → base + 6 * m ≤ length old
+      → s₁ ≡ put 6 s₀ (base + 6 * e) (getD t (first + e) 0 + 65536 * (getD h (first + e) 0 + 65536 * getD k (first + e) 0))
+      → Filled base (base + 6 * (e + 1)) (partByte 6 (arcByte t h k) base first) old s₁
+  unfolding arcByte
+  arc-put t h k d r p = entry-put 6 (arcByte t h k) base first m e _ old s₀ s₁ d l r (λ i. refl) p
+
+  pub point-put : (t v : List ℕ) → Filled base (base + 4 * e) (partByte 4 (pointByte t v) base first) old s₀ → base + 4 * m ≤ length old
+      → s₁ ≡ put 4 s₀ (base + 4 * e) (getD t (first + e) 0 + 65536 * getD v (first + e) 0)
+      → Filled base (base + 4 * (e + 1)) (partByte 4 (pointByte t v) base first) old s₁
+  unfolding pointByte
+  point-put t v h r p = entry-put 4 (pointByte t v) base first m e _ old s₀ s₁ h l r (λ k. refl) p
+
+-- the header's one entry
+pub header-put : (h : Header) → Within h → h .number < 2 ^ 32 → (old s₁ s₂ s₃ s₄ s₅ s₆ : List ℕ) → 24 ≤ length old → s₁ ≡ put 4 old 8 (h .number)
+    → s₂ ≡ put 2 s₁ 12 (h .period) → s₃ ≡ put 2 s₂ 14 (h .nodes) → s₄ ≡ put 2 s₃ 16 (h .arcs) → s₅ ≡ put 2 s₄ 18 (h .cells) → s₆ ≡ put 4 s₅ 20 (h .points)
+    → Filled 8 24 (partByte 16 (λ _. headerByte h) 8 0) old s₆
+header-put h w l old s₁ s₂ s₃ s₄ s₅ s₆ r e₁ e₂ e₃ e₄ e₅ e₆ =
+    let f : ℕ → ℕ → ℕ = λ _. headerByte h in
+    let number = entry-first 16 f 8 0 4 0 _ old old s₁ (entry-none 16 f 8 0 old) (lit≤ tt) (omega arith) (number-byte h w l) e₁ in
+    let period = entry-field 16 f 8 0 2 0 4 _ old s₁ s₂ number (lit≤ tt) (omega arith) (period-byte h w l) e₂ in
+    let nodes = entry-field 16 f 8 0 2 0 6 _ old s₂ s₃ period (lit≤ tt) (omega arith) (nodes-byte h w l) e₃ in
+    let arcs = entry-field 16 f 8 0 2 0 8 _ old s₃ s₄ nodes (lit≤ tt) (omega arith) (arcs-byte h w l) e₄ in
+    let cells = entry-field 16 f 8 0 2 0 10 _ old s₄ s₅ arcs (lit≤ tt) (omega arith) (cells-byte h w l) e₅ in
+    entry-field 16 f 8 0 4 0 12 _ old s₅ s₆ cells (lit≤ tt) (omega arith) (λ k n. points-byte h w l k) e₆
+
+-- the layout's counts and blocks, by the header
+pub layout-blocks : (h : Header) (l : Layout) → l ≡ layoutOf h → LaidBlocks h l
+unfolding layoutOf
+layout-blocks h l e = record {
+  nodes = ap (λ (k : Layout). k .nodes) e;
+  arcs = ap (λ (k : Layout). k .arcs) e;
+  points = ap (λ (k : Layout). k .points) e;
+  arcblock = ap (λ (k : Layout). k .arcblock) e;
+  pointblock = ap (λ (k : Layout). k .pointblock) e;
+  all = ap (λ (k : Layout). k .blocks) e;
+}
+
+-- A BLOCK stands in its run
+module _ {h : Header} {l : Layout} {c t d k x v : ℕ} (p : Packable h l c t d k x v) (b room : ℕ) (m : b < l .blocks) (r : 512 * l .blocks ≤ room) where
+  abbrev at : LaidBlocks h l
+  at = layout-blocks h l (p .is)
+
+  near : b < 1024
+  near = omega (arith, at, p .within)
+
+  pub cells-in : 1 ≤ b → b < l .arcblock → InRun 1 250 (l .nodes) b room
+  cells-in y z = record { after = y; before = omega (arith, at); near = near; whole = omega arith }
+
+  pub arcs-in : l .arcblock ≤ b → b < l .pointblock → InRun (l .arcblock) 83 (l .arcs) b room
+  arcs-in y z = record { after = y; before = omega (arith, at); near = near; whole = omega arith }
+
+  pub points-in : l .pointblock ≤ b → InRun (l .pointblock) 125 (l .points) b room
+  points-in y = record { after = y; before = omega (arith, at); near = near; whole = omega arith }
+
+-- and is the file's
+module _ {h : Header} {l : Layout} (c t d k x v : List ℕ) (p : Packable h l (length c) (length t) (length d) (length k) (length x) (length v)) (b : ℕ) (old new : List ℕ) where
+  abbrev n : Network
+  n = networkOf h c t d k x v
+
+  abbrev q : LaidBlocks h l
+  q = layout-blocks h l (p .is)
+
+  -- a run written from whole tables is that of their first entries
+  told : (kind per size m : ℕ) (f g : ℕ → ℕ → ℕ) (from : ℕ) → 0 < per → ((i r : ℕ) → i < m → f i r ≡ g i r) → bodyBy h n b ≡ runBody kind per size m g from b
+      → Filled (512 * b) (512 * (b + 1)) (fileByte (runBody kind per size m f from)) old new → Filled (512 * b) (512 * (b + 1)) (fileByte (bodyBy h n)) old new
+  told kind per size m f g from pos s e w =
+      same-block (runBody kind per size m f from) (bodyBy h n) b
+      (λ o. same-body kind per size m f g pos s from b o ∙ sym (ap (λ (y : ℕ → ℕ). y o) e)) old new w
+
+  pub header-told : b < 1 → Filled 0 512 (fileByte (headerBody 1 16 (headerByte h))) old new
+      → Filled (512 * b) (512 * (b + 1)) (fileByte (bodyBy h (networkOf h c t d k x v))) old new
+  header-told m w =
+      let z : b ≡ 0 = omega arith in
+      told 1 1 16 1 (λ _. headerByte h) (λ _. headerByte h) 0 (lit< tt) (λ i r a. refl) (header-body h n b m) (rw z w)
+
+  pub cells-told : 1 ≤ b → b < l .arcblock → Filled (512 * b) (512 * (b + 1)) (fileByte (runBody 2 250 2 (l .nodes) (cellByte c) 1)) old new
+      → Filled (512 * b) (512 * (b + 1)) (fileByte (bodyBy h (networkOf h c t d k x v))) old new
+  unfolding cellByte
+  cells-told m a w =
+      told 2 250 2 (h .nodes) (cellByte c) (cellByte (take (h .nodes) c)) 1 (lit< tt)
+      (λ i r o. rw (getD-take (h .nodes) c i 0 o))
+      (cells-body h n b m (rw (q .arcblock) at a))
+      (rw (q .nodes) at w)
+
+  pub arcs-told : l .arcblock ≤ b → b < l .pointblock → Filled (512 * b) (512 * (b + 1)) (fileByte (runBody 3 83 6 (l .arcs) (arcByte t d k) (l .arcblock))) old new
+      → Filled (512 * b) (512 * (b + 1)) (fileByte (bodyBy h (networkOf h c t d k x v))) old new
+  unfolding arcByte
+  arcs-told m a w =
+      told 3 83 6 (h .arcs) (arcByte t d k) (arcByte (take (h .arcs) t) (take (h .arcs) d) (take (h .arcs) k)) (arcBlock h) (lit< tt)
+      (λ i r o. rw (getD-take (h .arcs) t i 0 o, getD-take (h .arcs) d i 0 o, getD-take (h .arcs) k i 0 o))
+      (arcs-body h n b (rw (q .arcblock) at m) (rw (q .pointblock) at a))
+      (rw (q .arcs, q .arcblock) at w)
+
+  pub points-told : l .pointblock ≤ b → Filled (512 * b) (512 * (b + 1)) (fileByte (runBody 4 125 4 (l .points) (pointByte x v) (l .pointblock))) old new
+      → Filled (512 * b) (512 * (b + 1)) (fileByte (bodyBy h (networkOf h c t d k x v))) old new
+  unfolding pointByte
+  points-told m w =
+      told 4 125 4 (h .points) (pointByte x v) (pointByte (take (h .points) x) (take (h .points) v)) (pointBlock h) (lit< tt)
+      (λ i r o. rw (getD-take (h .points) x i 0 o, getD-take (h .points) v i 0 o))
+      (points-body h n b (rw (q .pointblock) at m))
+      (rw (q .points, q .pointblock) at w)
+
+-- THE FILE, block after block
+pub file-more : (f : ℕ → ℕ) (b : ℕ) (old mid new : List ℕ) → Filled 0 (512 * b) f old mid → Filled (512 * b) (512 * (b + 1)) f mid new → Filled 0 (512 * (b + 1)) f old new
+file-more f b old mid new g h = fill-join f 0 (512 * b) (512 * (b + 1)) old mid new (omega arith) (omega arith) g h
+
+module _ {h : Header} {l : Layout} (c t d k x v : List ℕ) (p : Packable h l (length c) (length t) (length d) (length k) (length x) (length v)) where
+  pub packed-header : headerOf (networkOf h c t d k x v) ≡ h
+  packed-header =
+      let q = layout-blocks h l (p .is) in
+      λ i. record {
+        number = h .number;
+        period = h .period;
+        nodes = length-take-le (h .nodes) c (rw (q .nodes) at (p .room .cells-room)) i;
+        arcs = length-take-le (h .arcs) t (rw (q .arcs) at (p .room .tails-room)) i;
+        cells = h .cells;
+        points = length-take-le (h .points) x (rw (q .points) at (p .room .ticks-room)) i;
+      }
+
+  pub file-whole : (b : ℕ) (old new : List ℕ) → 512 * l .blocks ≤ length old → Filled 0 (512 * b) (fileByte (bodyBy h (networkOf h c t d k x v))) old new
+      → b ≤ l .blocks → l .blocks ≤ b → new ≡ overwritten (encode (networkOf h c t d k x v)) old
+  unfolding encode
+  file-whole b old new r w y z =
+      let n = networkOf h c t d k x v in
+      let e : b ≡ allBlocks h = omega (arith, layout-blocks h l (p .is) .all) in
+      let f : new ≡ overwritten (encodeBy h n) old = rw length-tab (filled-list (fileByte (bodyBy h n)) (512 * allBlocks h) old new (omega arith) (rw e at w)) in
+      subst⁻¹ (λ (y : Header). new ≡ overwritten (encodeBy y n) old) packed-header f
+
+-- for `search blockwise` where a block is written
+pub ruleset blockwise = (cells-in, arcs-in, points-in, header-told, cells-told, arcs-told, points-told)

@@ -1,0 +1,218 @@
+// The file of a network, written block by block from its start on. specs/Encode.antt says which bytes these are, and specs/Block.antt that a head,
+// entries, zeros and a check make a block of them.
+use blocks::place::entries_in;
+use blocks::write::write_check;
+use blocks::write::write_head;
+use blocks::write::write_zeros;
+use network::header::Header;
+use network::header::Layout;
+use words::fields::put16;
+use words::fields::put32;
+ghost use mathlib.Core.Path.{_≡_};
+ghost use Prim.Native.Nat.{_+_, _*_, _^_, _≤_, _<_};
+ghost use lib.ListN.{length};
+ghost use Rattle.loops.specs.Fill.{Filled};
+ghost use Rattle.blocks.specs.Bytes.{fileByte};
+ghost use Rattle.words.specs.Put.{put};
+ghost use Rattle.blocks.specs.Run.{runBody, headerBody};
+ghost use Rattle.network.specs.Limits.{Within};
+ghost use Rattle.network_encode.specs.Encode.{headerByte, cellByte, arcByte, pointByte, bodyBy, encode};
+ghost use Rattle.network_encode.specs.Block.{partByte, InRun};
+ghost use Rattle.network_open.specs.Open.{overwritten};
+ghost use Rattle.network_encode.specs.Tables.{networkOf, Packable};
+
+// Two fields of two bytes, one behind the other.
+fn put_two(out: &mut [u8], o: usize, x: u16, y: u16)
+    requires { ⌜ o + 4 ≤ length (now out) ⌝ }
+    ensures { λ _. ⌜ now (out .exit) ≡ put 4 (now (out .entry)) o (x + 65536 * y) ⌝ }
+{
+    put16(out, o, x);
+    put16(out, o + 2, y);
+}
+
+// Three of them.
+fn put_three(out: &mut [u8], o: usize, x: u16, y: u16, z: u16)
+    requires { ⌜ o + 6 ≤ length (now out) ⌝ }
+    ensures { λ _. ⌜ now (out .exit) ≡ put 6 (now (out .entry)) o (x + 65536 * (y + 65536 * z)) ⌝ }
+{
+    put16(out, o, x);
+    put_two(out, o + 2, y, z);
+}
+
+// The header's fields, as the one entry of block 0.
+fn put_header(out: &mut [u8], h: Header)
+    requires { ⌜ Within h ⌝ }
+    requires { ⌜ (h .number < 2 ^ 32) × (24 ≤ length (now out)) ⌝ }
+    ensures { λ _. ⌜ Filled 8 24 (partByte 16 (λ _. headerByte h) 8 0) (now (out .entry)) (now (out .exit)) ⌝ }
+{
+    put32(out, 8, h.number);
+    put16(out, 12, h.period);
+    put16(out, 14, h.nodes);
+    put16(out, 16, h.arcs);
+    put16(out, 18, h.cells);
+    put32(out, 20, h.points);
+}
+
+// The m cells from node `first` on, written from byte `base` on.
+fn put_cells(out: &mut [u8], base: usize, first: usize, m: usize, cells: &[u16])
+    requires { ⌜ (base + 2 * m ≤ length (now out)) × (first + m ≤ length (now cells)) ⌝ }
+    ensures { λ _. ⌜ Filled base (base + 2 * m) (partByte 2 (cellByte (now (cells .entry))) base first) (now (out .entry)) (now (out .exit)) ⌝ }
+{
+    for e in 0..m {
+        put16(out, base + 2 * e, cells[first + e]);
+    }
+}
+
+// The m arcs from arc `first` on.
+fn put_arcs(
+    out: &mut [u8],
+    base: usize,
+    first: usize,
+    m: usize,
+    tails: &[u16],
+    heads: &[u16],
+    counts: &[u16],
+)
+    requires { ⌜ base + 6 * m ≤ length (now out) ⌝ }
+    requires { ⌜ (first + m ≤ length (now tails)) × (first + m ≤ length (now heads)) × (first + m ≤ length (now counts)) ⌝ }
+    ensures { λ _. ⌜ Filled base (base + 6 * m) (partByte 6 (arcByte (now (tails .entry)) (now (heads .entry)) (now (counts .entry))) base first) (now (out .entry)) (now (out .exit)) ⌝ }
+{
+    for e in 0..m {
+        let a = first + e;
+        put_three(out, base + 6 * e, tails[a], heads[a], counts[a]);
+    }
+}
+
+// The m points from point `first` on.
+fn put_points(out: &mut [u8], base: usize, first: usize, m: usize, ticks: &[u16], travels: &[u16])
+    requires { ⌜ base + 4 * m ≤ length (now out) ⌝ }
+    requires { ⌜ (first + m ≤ length (now ticks)) × (first + m ≤ length (now travels)) ⌝ }
+    ensures { λ _. ⌜ Filled base (base + 4 * m) (partByte 4 (pointByte (now (ticks .entry)) (now (travels .entry))) base first) (now (out .entry)) (now (out .exit)) ⌝ }
+{
+    for e in 0..m {
+        let q = first + e;
+        put_two(out, base + 4 * e, ticks[q], travels[q]);
+    }
+}
+
+// Block 0.
+fn header_block(out: &mut [u8], h: Header)
+    requires { ⌜ Within h ⌝ }
+    requires { ⌜ (h .number < 2 ^ 32) × (512 ≤ length (now out)) ⌝ }
+    ensures { λ _. ⌜ Filled 0 512 (fileByte (headerBody 1 16 (headerByte h))) (now (out .entry)) (now (out .exit)) ⌝ }
+{
+    write_head(out, 0, 1, 1);
+    put_header(out, h);
+    write_zeros(out, 24, 508);
+    write_check(out, 0);
+}
+
+// Block b, one of the cells' run.
+fn cells_block(out: &mut [u8], b: usize, nodes: usize, cells: &[u16])
+    requires { ⌜ InRun 1 250 nodes b (length (now out)) ⌝ }
+    requires { ⌜ nodes ≤ length (now cells) ⌝ }
+    ensures { λ _. ⌜ Filled (512 * b) (512 * (b + 1)) (fileByte (runBody 2 250 2 nodes (cellByte (now (cells .entry))) 1)) (now (out .entry)) (now (out .exit)) ⌝ }
+{
+    let at = 512 * b + 8;
+    let m = entries_in(250, nodes, b - 1);
+    write_head(out, b, 2, m);
+    put_cells(out, at, 250 * (b - 1), m, cells);
+    write_zeros(out, at + 2 * m, at + 500);
+    write_check(out, b);
+}
+
+// Block b, one of the arcs' run, which starts at block `from`.
+fn arcs_block(
+    out: &mut [u8],
+    b: usize,
+    from: usize,
+    arcs: usize,
+    tails: &[u16],
+    heads: &[u16],
+    counts: &[u16],
+)
+    requires { ⌜ InRun from 83 arcs b (length (now out)) ⌝ }
+    requires { ⌜ (arcs ≤ length (now tails)) × (arcs ≤ length (now heads)) × (arcs ≤ length (now counts)) ⌝ }
+    ensures { λ _. ⌜ Filled (512 * b) (512 * (b + 1)) (fileByte (runBody 3 83 6 arcs (arcByte (now (tails .entry)) (now (heads .entry)) (now (counts .entry))) from)) (now (out .entry)) (now (out .exit)) ⌝ }
+{
+    let at = 512 * b + 8;
+    let m = entries_in(83, arcs, b - from);
+    write_head(out, b, 3, m);
+    put_arcs(out, at, 83 * (b - from), m, tails, heads, counts);
+    write_zeros(out, at + 6 * m, at + 500);
+    write_check(out, b);
+}
+
+// Block b, one of the points' run, which starts at block `from`.
+fn points_block(
+    out: &mut [u8],
+    b: usize,
+    from: usize,
+    points: usize,
+    ticks: &[u16],
+    travels: &[u16],
+)
+    requires { ⌜ InRun from 125 points b (length (now out)) ⌝ }
+    requires { ⌜ (points ≤ length (now ticks)) × (points ≤ length (now travels)) ⌝ }
+    ensures { λ _. ⌜ Filled (512 * b) (512 * (b + 1)) (fileByte (runBody 4 125 4 points (pointByte (now (ticks .entry)) (now (travels .entry))) from)) (now (out .entry)) (now (out .exit)) ⌝ }
+{
+    let at = 512 * b + 8;
+    let m = entries_in(125, points, b - from);
+    write_head(out, b, 4, m);
+    put_points(out, at, 125 * (b - from), m, ticks, travels);
+    write_zeros(out, at + 4 * m, at + 500);
+    write_check(out, b);
+}
+
+// Block b of the network's file.
+fn write_block(
+    out: &mut [u8],
+    h: Header,
+    l: Layout,
+    b: usize,
+    cells: &[u16],
+    tails: &[u16],
+    heads: &[u16],
+    counts: &[u16],
+    ticks: &[u16],
+    travels: &[u16],
+)
+    requires { ⌜ Packable h l (length (now cells)) (length (now tails)) (length (now heads)) (length (now counts)) (length (now ticks)) (length (now travels)) ⌝ }
+    requires { ⌜ (b < l .blocks) × (512 * l .blocks ≤ length (now out)) ⌝ }
+    ensures { λ _. ⌜ Filled (512 * b) (512 * (b + 1)) (fileByte (bodyBy h (networkOf h (now (cells .entry)) (now (tails .entry)) (now (heads .entry)) (now (counts .entry)) (now (ticks .entry)) (now (travels .entry))))) (now (out .entry)) (now (out .exit)) ⌝ }
+{
+    if b < 1 {
+        header_block(out, h);
+        return;
+    }
+    if b < l.arcblock {
+        cells_block(out, b, l.nodes, cells);
+        return;
+    }
+    if b < l.pointblock {
+        arcs_block(out, b, l.arcblock, l.arcs, tails, heads, counts);
+        return;
+    }
+    points_block(out, b, l.pointblock, l.points, ticks, travels);
+}
+
+// The network's file, into the first bytes of a list that has room for it.
+pub fn encode_network(
+    out: &mut [u8],
+    h: Header,
+    l: Layout,
+    cells: &[u16],
+    tails: &[u16],
+    heads: &[u16],
+    counts: &[u16],
+    ticks: &[u16],
+    travels: &[u16],
+)
+    requires { ⌜ Packable h l (length (now cells)) (length (now tails)) (length (now heads)) (length (now counts)) (length (now ticks)) (length (now travels)) ⌝ }
+    requires { ⌜ 512 * l .blocks ≤ length (now out) ⌝ }
+    ensures { λ _. ⌜ now (out .exit) ≡ overwritten (encode (networkOf h (now (cells .entry)) (now (tails .entry)) (now (heads .entry)) (now (counts .entry)) (now (ticks .entry)) (now (travels .entry)))) (now (out .entry)) ⌝ }
+{
+    for b in 0..l.blocks {
+        write_block(out, h, l, b, cells, tails, heads, counts, ticks, travels);
+    }
+}
