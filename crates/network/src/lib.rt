@@ -3,7 +3,7 @@
 //   header    the header's numbers with their limits, and where the tables stand
 //   read      the entries of a network file, in place
 //   answer    refusals, and what validation answers
-// It may call `blocks` for bytes, and cites `loops`, `paths` and `travel`. Files are read in place.
+// It may call `blocks` and `words` for bytes, and cites `loops`, `paths` and `travel`. Files are read in place.
 pub mod answer;
 pub mod header;
 pub mod read;

@@ -1,4 +1,4 @@
 // network_encode: the bytes of a network's file. It owns `encode`, the file as document 01 words it, and the writing of it from six tables.
 //   encode  the file of six tables, block by block
-// It may call `blocks` and `words` to write.
+// It may call `blocks` and `words` to write, and `network` for the header and its layout.
 pub mod encode;

@@ -3,7 +3,7 @@
 //   read      the entries of a plan file, in place
 //   borders   the borders of a network, listed
 //   answer    what validation answers
-// It may call `blocks` and `network`, and cites `loops`, `paths` and `travel`. Both files are read in place.
+// It may call `words`, `blocks` and `network`, and cites `loops`, `paths` and `travel`. Both files are read in place.
 pub mod answer;
 pub mod borders;
 pub mod header;

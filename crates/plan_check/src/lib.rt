@@ -3,8 +3,8 @@
 //   clean   whether nothing fails anywhere, yes or no, in one pass
 //   check   the first place at which a test fails, and the check of two files
 //   answer  what the check answers
-// It may call `network_open` and `plan_form` to validate files, `plan_tests` for the tests, `profiles` for values, and `arcs` for the arcs out of a node. Both files
-// are read in place.
+// It may call `network_open` and `plan_form` to validate files, `plan_tests` for the tests, `profiles` for values, `arcs` for the arcs out of a node, and `network` and
+// `plan` to read both files in place.
 pub mod answer;
 pub mod check;
 pub mod clean;

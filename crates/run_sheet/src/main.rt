@@ -2,6 +2,7 @@
 // with an answer at the end of each line, up to the 64th.
 //   files  a file of the folder, read as far as there is room
 //   input  standard input, in pieces, and what each byte prints
+// It may call `sheet` for the steps and `sheet_text` for the most bytes of a file, and `io` and `os` for its input and output.
 mod files;
 mod input;
 
