@@ -6,10 +6,10 @@ use Prim.Native.Nat.{ℕ, _+_, _*_, _/_, _≤_, _<_}
 use native.Mathlib.Omega.{arith}
 use lib.ListN.{length, getD}
 use lib.Dec.{lit<, lit≤}
-use Rattle.loops.specs.Fill.{tab, getD-tab, length-tab}
-use Rattle.words.specs.Fields.{le16, le32}
-use Rattle.blocks.specs.Table.{entry16}
-use Rattle.blocks.specs.Place.{offset, blocks, entry-in, block-below}
+use Rattle.theory_loops.specs.Fill.{tab, getD-tab, length-tab}
+use Rattle.file_fields.specs.Fields.{le16, le32}
+use Rattle.file_blocks.specs.Table.{entry16}
+use Rattle.file_blocks.specs.Place.{offset, blocks, entry-in, block-below}
 use Rattle.network.specs.declared.header.Header.{Header}
 use Rattle.network.specs.declared.header.Layout.{Layout}
 use Rattle.network.specs.Limits.{Within}

@@ -4,8 +4,8 @@ use mathlib.Core.Bool.{Bool}
 use Prim.Native.Nat.{ℕ, _+_, _≤_, _<_}
 use native.Mathlib.Omega.{arith}
 use borrow.Author.Tests.{lt-ltb, le-ltb}
-use Rattle.loops.specs.First.{first, any}
-use Rattle.loops.specs.Total.{total-part}
+use Rattle.theory_loops.specs.First.{first, any}
+use Rattle.theory_loops.specs.Total.{total-part}
 use Rattle.network.specs.Network.{Network, arcs, points, count, start}
 use Rattle.network.specs.Rules.{firstPoint}
 

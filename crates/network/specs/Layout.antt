@@ -1,7 +1,7 @@
 -- Where the tables of a network stand in its file: the header in block 0, then the cells of the nodes (kind 2), the arcs (kind 3) and
 -- the points (kind 4), each a run of blocks of its own.
 use Prim.Native.Nat.{ℕ, _+_}
-use Rattle.blocks.specs.Place.{blocks}
+use Rattle.file_blocks.specs.Place.{blocks}
 use Rattle.network.specs.declared.header.Header.{Header}
 use Rattle.network.specs.declared.header.Layout.{Layout}
 

@@ -3,7 +3,7 @@
 use mathlib.Core.List.{List}
 use Prim.Native.Nat.{ℕ}
 use lib.ListN.{length, getD}
-use Rattle.loops.specs.Total.{total}
+use Rattle.theory_loops.specs.Total.{total}
 
 pub record Network : Type 0 where
   pub number : ℕ

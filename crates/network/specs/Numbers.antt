@@ -5,8 +5,8 @@ use Prim.Native.Nat.{ℕ, _*_, _≤_}
 use native.Mathlib.Omega.{arith}
 use lib.ListN.{length}
 use lib.Dec.{eqb, ltb}
-use Rattle.loops.specs.Pick.{cond-holds, rung-holds}
-use Rattle.blocks.specs.Form.{formed}
+use Rattle.theory_loops.specs.Pick.{cond-holds, rung-holds}
+use Rattle.file_blocks.specs.Form.{formed}
 use Rattle.network.specs.declared.answer.Refusal.{Refusal}
 use Rattle.network.specs.declared.answer.Judged.{Judged}
 use Rattle.network.specs.declared.answer.Judged.the-variants.{Sound, Faulty}

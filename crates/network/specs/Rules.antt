@@ -5,10 +5,10 @@ use mathlib.Core.Bool.{Bool, cond, not, _||_}
 use mathlib.Core.List.{List}
 use Prim.Native.Nat.{ℕ, suc, _+_, _-_}
 use lib.Dec.{leb, ltb, eqb}
-use Rattle.loops.specs.First.{first, any}
-use Rattle.loops.specs.Pick.{firstRung}
-use Rattle.travel.specs.Day.{closed}
-use Rattle.travel.specs.Table.{entryAt}
+use Rattle.theory_loops.specs.First.{first, any}
+use Rattle.theory_loops.specs.Pick.{firstRung}
+use Rattle.theory_travel.specs.Day.{closed}
+use Rattle.theory_travel.specs.Table.{entryAt}
 use Rattle.network.specs.declared.answer.Refusal.{Refusal}
 use Rattle.network.specs.declared.answer.Judged.{Judged}
 use Rattle.network.specs.declared.answer.Judged.the-variants.{Sound, Faulty}

@@ -7,10 +7,10 @@ use Prim.Native.Nat.{ℕ, zero, suc, _-_, _≤_, _<_}
 use native.Mathlib.Omega.{arith}
 use native.Mathlib.Decide.{decLt}
 use borrow.Author.Tests.{ltb-true, ltb-false, leb-false, eqb-true, eqb-false, not-false, lt-leb, le-ltb, eq-eqb, ne-eqb}
-use Rattle.loops.specs.First.{first, first-le, clear, all-clear, found}
-use Rattle.loops.specs.Pick.{or-passed, passed-by, reached-by, rung-passed, rung-clear}
-use Rattle.travel.specs.Points.{Fifo}
-use Rattle.travel.specs.Day.{Day, closed, closed-in}
+use Rattle.theory_loops.specs.First.{first, first-le, clear, all-clear, found}
+use Rattle.theory_loops.specs.Pick.{or-passed, passed-by, reached-by, rung-passed, rung-clear}
+use Rattle.theory_travel.specs.Points.{Fifo}
+use Rattle.theory_travel.specs.Day.{Day, closed, closed-in}
 use Rattle.network.specs.declared.answer.Judged.the-variants.{Sound}
 use Rattle.network.specs.Network.{Network, nodes, arcs, points, cell, tail, head, count, start}
 use Rattle.network.specs.Rules.{faulty, badCell, badEnds, badArc, misplaced, badPointBy, badPoint, overtaken, ticksOf, travelsOf, badPointOf, overtakenOf, firstPoint, judgedPoints, judgedSum, judgedArcs, judged}

@@ -1,8 +1,8 @@
 -- The graph of a network: its arcs, and their travel on the straight line. The graph of a sound network is lawful, so that all that the
 -- theory of paths proves holds of it.
 use Prim.Native.Nat.{ℕ, _≤_}
-use Rattle.paths.specs.Graph.{Graph, Lawful, Bounded, ends}
-use Rattle.travel.specs.Day.{dayValue, day-least, day-most, day-fifo}
+use Rattle.theory_paths.specs.Graph.{Graph, Lawful, Bounded, ends}
+use Rattle.theory_travel.specs.Day.{dayValue, day-least, day-most, day-fifo}
 use Rattle.network.specs.Network.{Network, nodes, arcs, tail, head, count}
 use Rattle.network.specs.Rules.{ticksOf, travelsOf}
 use Rattle.network.specs.Sound.{SoundNetwork}

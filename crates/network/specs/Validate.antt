@@ -9,12 +9,12 @@ use native.Mathlib.Decide.{decLt}
 use lib.ListN.{length}
 use lib.Dec.{ltb, eqb, lit<, lit≤}
 use borrow.Author.Tests.{lt-ltb, le-ltb, eq-eqb, ne-eqb, eqb-true, eqb-false, ltb-false, not-false}
-use Rattle.loops.specs.First.{first, first-le}
-use Rattle.loops.specs.Pick.{firstRung, at-first, past-first, or-passed}
-use Rattle.words.specs.Fields.{le16, le32}
-use Rattle.blocks.specs.Place.{blocks, Stored}
-use Rattle.blocks.specs.Form.{formed, unformed}
-use Rattle.blocks.specs.Read.{bad}
+use Rattle.theory_loops.specs.First.{first, first-le}
+use Rattle.theory_loops.specs.Pick.{firstRung, at-first, past-first, or-passed}
+use Rattle.file_fields.specs.Fields.{le16, le32}
+use Rattle.file_blocks.specs.Place.{blocks, Stored}
+use Rattle.file_blocks.specs.Form.{formed, unformed}
+use Rattle.file_blocks.specs.Read.{bad}
 use Rattle.network.specs.declared.answer.Refusal.{Refusal}
 use Rattle.network.specs.declared.answer.Judged.{Judged}
 use Rattle.network.specs.declared.answer.Judged.the-variants.{Sound, Faulty}

@@ -5,14 +5,14 @@ ghost use mathlib.Core.Path.{_≡_};
 ghost use Prim.Native.Nat.{_+_, _<_};
 ghost use Rattle.network.specs.Network;
 ghost use Rattle.network.specs.Decode.{Readable, decode, Laid};
-ghost use Rattle.blocks.specs.Table.{entry16};
+ghost use Rattle.file_blocks.specs.Table.{entry16};
 
 // The 16-bit field at byte `at` of entry i of a run of blocks.
 fn field(file: &[u8], from: usize, per: usize, size: usize, at: usize, i: usize) -> usize
     requires { ⌜ Readable (now file) from per size at i ⌝ }
     ensures { λ r. ⌜ (r ≡ entry16 (now (file .entry)) from per size at i) × (r < 65536) ⌝ }
 {
-    words::fields::le16(file, blocks::place::offset(from, per, size, i) + at) as usize
+    file_fields::fields::le16(file, file_blocks::place::offset(from, per, size, i) + at) as usize
 }
 
 // The cell of node v.

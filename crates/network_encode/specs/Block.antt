@@ -11,14 +11,14 @@ use lib.ListN.{length}
 use lib.Seq.{ext-getD}
 use lib.Dec.{ltb}
 use borrow.Author.Tests.{lt-ltb, le-ltb}
-use Rattle.loops.specs.Fill.{Filled, fill-none, fill-end, tab, length-tab, getD-tab}
-use Rattle.words.specs.Fields.{byteOf}
-use Rattle.blocks.specs.Place.{blocks, entriesIn, index-below}
-use Rattle.words.specs.Sum.{sums, checked}
-use Rattle.blocks.specs.Bytes.{check, stored, fileByte, fileByte-at, stored-body, stored-check, checked-body}
-use Rattle.blocks.specs.Run.{headByte, entryByte, runBody, past-byte}
-use Rattle.words.specs.Put.{put, fill-put, fill-within, fill-join}
-use Rattle.blocks.specs.Write.{headed, sealed, headed-filled, sealed-filled}
+use Rattle.theory_loops.specs.Fill.{Filled, fill-none, fill-end, tab, length-tab, getD-tab}
+use Rattle.file_fields.specs.Fields.{byteOf}
+use Rattle.file_blocks.specs.Place.{blocks, entriesIn, index-below}
+use Rattle.file_fields.specs.Sum.{sums, checked}
+use Rattle.file_blocks.specs.Bytes.{check, stored, fileByte, fileByte-at, stored-body, stored-check, checked-body}
+use Rattle.file_blocks.specs.Run.{headByte, entryByte, runBody, past-byte}
+use Rattle.file_fields.specs.Put.{put, fill-put, fill-within, fill-join}
+use Rattle.file_blocks.specs.Write.{headed, sealed, headed-filled, sealed-filled}
 
 -- byte i of entries of `size` bytes that start at byte `base`, the first of them entry `first`; entry e has the bytes f e
 unfoldable pub partByte : ℕ → (ℕ → ℕ → ℕ) → ℕ → ℕ → ℕ → ℕ

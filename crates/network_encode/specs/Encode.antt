@@ -8,9 +8,9 @@ use native.Mathlib.Omega.{arith}
 use lib.ListN.{length, getD}
 use lib.Dec.{ltb}
 use borrow.Author.Tests.{lt-ltb, le-ltb}
-use Rattle.words.specs.Fields.{byteOf, byteOf-low, byteOf-high}
-use Rattle.blocks.specs.Bytes.{fileOf}
-use Rattle.blocks.specs.Run.{runBody, headerBody}
+use Rattle.file_fields.specs.Fields.{byteOf, byteOf-low, byteOf-high}
+use Rattle.file_blocks.specs.Bytes.{fileOf}
+use Rattle.file_blocks.specs.Run.{runBody, headerBody}
 use Rattle.network.specs.declared.header.Header.{Header}
 use Rattle.network.specs.Limits.{Within}
 use Rattle.network.specs.Layout.{arcBlock, pointBlock, allBlocks}

@@ -7,10 +7,10 @@ use native.Mathlib.Omega.{arith}
 use lib.ListN.{length, getD, take}
 use lib.Seq.{getD-take, length-take-le}
 use lib.Dec.{lit<, lit≤}
-use Rattle.loops.specs.Fill.{Filled, filled-list, length-tab}
-use Rattle.blocks.specs.Bytes.{fileByte}
-use Rattle.blocks.specs.Run.{runBody, headerBody}
-use Rattle.words.specs.Put.{put, fill-join}
+use Rattle.theory_loops.specs.Fill.{Filled, filled-list, length-tab}
+use Rattle.file_blocks.specs.Bytes.{fileByte}
+use Rattle.file_blocks.specs.Run.{runBody, headerBody}
+use Rattle.file_fields.specs.Put.{put, fill-join}
 use Rattle.network.specs.declared.header.Header.{Header}
 use Rattle.network.specs.declared.header.Layout.{Layout}
 use Rattle.network.specs.Limits.{Within}

@@ -1,20 +1,20 @@
 // The file of a network, written block by block from its start on. specs/Encode.antt says which bytes these are, and specs/Block.antt that a head,
 // entries, zeros and a check make a block of them.
-use blocks::place::entries_in;
-use blocks::write::write_check;
-use blocks::write::write_head;
-use blocks::write::write_zeros;
+use file_blocks::place::entries_in;
+use file_blocks::write::write_check;
+use file_blocks::write::write_head;
+use file_blocks::write::write_zeros;
 use network::header::Header;
 use network::header::Layout;
-use words::fields::put16;
-use words::fields::put32;
+use file_fields::fields::put16;
+use file_fields::fields::put32;
 ghost use mathlib.Core.Path.{_≡_};
 ghost use Prim.Native.Nat.{_+_, _*_, _^_, _≤_, _<_};
 ghost use lib.ListN.{length};
-ghost use Rattle.loops.specs.Fill.{Filled};
-ghost use Rattle.blocks.specs.Bytes.{fileByte};
-ghost use Rattle.words.specs.Put.{put};
-ghost use Rattle.blocks.specs.Run.{runBody, headerBody};
+ghost use Rattle.theory_loops.specs.Fill.{Filled};
+ghost use Rattle.file_blocks.specs.Bytes.{fileByte};
+ghost use Rattle.file_fields.specs.Put.{put};
+ghost use Rattle.file_blocks.specs.Run.{runBody, headerBody};
 ghost use Rattle.network.specs.Limits.{Within};
 ghost use Rattle.network_encode.specs.Encode.{headerByte, cellByte, arcByte, pointByte, bodyBy, encode};
 ghost use Rattle.network_encode.specs.Block.{partByte, InRun};

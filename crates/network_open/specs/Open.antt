@@ -7,8 +7,8 @@ use Prim.Native.Nat.{ℕ, _≤_}
 use lib.ListN.{length, drop}
 use lib.Dec.{ltb}
 use borrow.Author.Tests.{ltb-false}
-use Rattle.loops.specs.Pick.{or-passed}
-use Rattle.loops.specs.Fill.{Filled, filled-list, tab, length-tab}
+use Rattle.theory_loops.specs.Pick.{or-passed}
+use Rattle.theory_loops.specs.Fill.{Filled, filled-list, tab, length-tab}
 use Rattle.network.specs.declared.answer.Refusal.{Refusal}
 use Rattle.network.specs.declared.answer.Opening.{Opening}
 use Rattle.network.specs.declared.answer.Opening.the-variants.{Opened, Refused}
@@ -16,7 +16,7 @@ use Rattle.network.specs.declared.header.Header.{Header}
 use Rattle.network.specs.declared.header.Layout.{Layout}
 use Rattle.network.specs.Limits.{Within}
 use Rattle.network.specs.Layout.{layoutOf}
-use Rattle.blocks.specs.Table.{entry16}
+use Rattle.file_blocks.specs.Table.{entry16}
 use Rattle.network.specs.Decode.{decode, Laid, laid-blocks}
 use Rattle.network.specs.Validate.{refused, validated}
 use Rattle.network.specs.Valid.{ValidFile, valid-laid, valid-exactly}

@@ -1,6 +1,6 @@
 // Open: the tables of a network file, written into lent tables once nothing is refused.
 use crate::validate::validate;
-use blocks::place::decode16;
+use file_blocks::place::decode16;
 use network::answer::Opening;
 use network::answer::refused;
 use network::header::Header;

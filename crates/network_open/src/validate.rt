@@ -1,8 +1,8 @@
 // Validation of a network file: refusals 1 to 10, in place, each fault found as the first in its order. Nothing is copied, and every call ends
 // at the first refusal.
-use blocks::form::first_unformed;
-use blocks::form::is_formed;
-use blocks::reader::first_bad_sum;
+use file_blocks::form::first_unformed;
+use file_blocks::form::is_formed;
+use file_blocks::reader::first_bad_sum;
 use network::answer::Judged;
 use network::answer::Opening;
 use network::answer::refused;
@@ -10,8 +10,8 @@ use network::header::Header;
 use network::header::Layout;
 use network::header::Made;
 use network_rules::rules::judge;
-use words::fields::le16;
-use words::fields::le32;
+use file_fields::fields::le16;
+use file_fields::fields::le32;
 ghost use mathlib.Core.Path.{_≡_};
 ghost use Prim.Native.Nat.{_+_, _*_, _≤_};
 ghost use lib.ListN.{length};

@@ -7,7 +7,7 @@ use native.Mathlib.Omega.{arith}
 use native.Mathlib.Decide.{decLt}
 use lib.ListN.{length, getD, take, length-take, List·getD-eq-default}
 use lib.Seq.{getD-take, length-take-le, take-at}
-use Rattle.loops.specs.Fill.{Filled, filled-list}
+use Rattle.theory_loops.specs.Fill.{Filled, filled-list}
 use Rattle.network.specs.declared.header.Header.{Header}
 use Rattle.network.specs.declared.header.Layout.{Layout}
 use Rattle.network_pack.specs.declared.pack.Packing.{Packing}

@@ -10,14 +10,14 @@ use native.Mathlib.Decide.{decLt}
 use lib.ListN.{length, getD}
 use lib.Seq.{ext-getD}
 use lib.Dec.{lit<, lit≤}
-use Rattle.loops.specs.Fill.{tab, getD-tab, length-tab}
-use Rattle.words.specs.Fields.{Bytes, le16, le32, number, byteOf, byteOf-number, le16-number, le16-is, le32-is}
-use Rattle.blocks.specs.Place.{offset, blocks}
-use Rattle.words.specs.Sum.{good}
-use Rattle.blocks.specs.Form.{formed}
-use Rattle.blocks.specs.Bytes.{body-byte, file-is}
-use Rattle.blocks.specs.Run.{runBody, RunLaid, laid-run, run-laid, run-formed, formed-run, run-value}
-use Rattle.blocks.specs.Table.{entry16}
+use Rattle.theory_loops.specs.Fill.{tab, getD-tab, length-tab}
+use Rattle.file_fields.specs.Fields.{Bytes, le16, le32, number, byteOf, byteOf-number, le16-number, le16-is, le32-is}
+use Rattle.file_blocks.specs.Place.{offset, blocks}
+use Rattle.file_fields.specs.Sum.{good}
+use Rattle.file_blocks.specs.Form.{formed}
+use Rattle.file_blocks.specs.Bytes.{body-byte, file-is}
+use Rattle.file_blocks.specs.Run.{runBody, RunLaid, laid-run, run-laid, run-formed, formed-run, run-value}
+use Rattle.file_blocks.specs.Table.{entry16}
 use Rattle.network.specs.declared.header.Header.{Header}
 use Rattle.network.specs.Limits.{Within}
 use Rattle.network.specs.Layout.{arcBlock, pointBlock, allBlocks}

@@ -9,9 +9,9 @@ use lib.Dec.{ltb}
 use lib.ListN.{length, take, drop, length-append}
 use borrow.Author.Tests.{le-ltb}
 use lib.Seq.{take-at}
-use Rattle.loops.specs.Fill.{length-tab}
-use Rattle.loops.specs.Pick.{passed-by}
-use Rattle.words.specs.Fields.{Bytes}
+use Rattle.theory_loops.specs.Fill.{length-tab}
+use Rattle.theory_loops.specs.Pick.{passed-by}
+use Rattle.file_fields.specs.Fields.{Bytes}
 use Rattle.network.specs.declared.answer.Judged.{Judged}
 use Rattle.network.specs.declared.answer.Judged.the-variants.{Sound, Faulty}
 use Rattle.network.specs.declared.answer.Opening.{Opening}

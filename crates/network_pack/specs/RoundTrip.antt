@@ -7,11 +7,11 @@ use Prim.Native.Nat.{ℕ, _+_, _*_}
 use native.Mathlib.Omega.{arith}
 use native.Mathlib.Decide.{decLt}
 use lib.ListN.{length, List·getD-eq-default}
-use Rattle.loops.specs.Fill.{tab, getD-tab, length-tab}
-use Rattle.words.specs.Fields.{Bytes}
-use Rattle.blocks.specs.Place.{offset}
-use Rattle.blocks.specs.Bytes.{file-good}
-use Rattle.blocks.specs.Table.{entry16}
+use Rattle.theory_loops.specs.Fill.{tab, getD-tab, length-tab}
+use Rattle.file_fields.specs.Fields.{Bytes}
+use Rattle.file_blocks.specs.Place.{offset}
+use Rattle.file_blocks.specs.Bytes.{file-good}
+use Rattle.file_blocks.specs.Table.{entry16}
 use Rattle.network.specs.declared.answer.Opening.the-variants.{Opened}
 use Rattle.network.specs.declared.header.Header.{Header}
 use Rattle.network.specs.Layout.{arcBlock, pointBlock, allBlocks}

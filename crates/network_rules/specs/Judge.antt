@@ -4,8 +4,8 @@ use mathlib.Core.List.{List}
 use Prim.Native.Nat.{ℕ, _≤_, _<_}
 use native.Mathlib.Omega.{arith}
 use borrow.Author.Tests.{lt-ltb, le-ltb, eq-eqb, ne-eqb}
-use Rattle.loops.specs.First.{first, first-le, clear}
-use Rattle.loops.specs.Pick.{at-first, past-first}
+use Rattle.theory_loops.specs.First.{first, first-le, clear}
+use Rattle.theory_loops.specs.Pick.{at-first, past-first}
 use Rattle.network.specs.declared.answer.Judged.{Judged}
 use Rattle.network.specs.declared.answer.Judged.the-variants.{Sound}
 use Rattle.network.specs.declared.header.Layout.{Layout}

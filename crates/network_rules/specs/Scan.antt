@@ -8,9 +8,9 @@ use native.Mathlib.Omega.{arith}
 use lib.ListN.{getD}
 use lib.Dec.{ltb, eqb}
 use borrow.Author.Tests.{ne-eqb}
-use Rattle.loops.specs.First.{first, none-yet, pass, stop, done, first-more}
-use Rattle.travel.specs.Day.{closed-in, closed-end}
-use Rattle.travel.specs.Table.{entryAt, entry-first}
+use Rattle.theory_loops.specs.First.{first, none-yet, pass, stop, done, first-more}
+use Rattle.theory_travel.specs.Day.{closed-in, closed-end}
+use Rattle.theory_travel.specs.Table.{entryAt, entry-first}
 use Rattle.network_rules.specs.declared.rules.Scan.{Scan}
 use Rattle.network.specs.Rules.{misplaced, badPointBy, badPoint, overtaken}
 

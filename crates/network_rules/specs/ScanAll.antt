@@ -6,9 +6,9 @@ use native.Mathlib.Numerals.{add-one}
 use native.Mathlib.Omega.{arith}
 use lib.Dec.{ltb}
 use borrow.Author.Tests.{lt-ltb, le-ltb, ltb-true, ltb-false}
-use Rattle.loops.specs.First.{first, first-le, found, none-yet, pass, stop, first-more}
-use Rattle.loops.specs.Total.{total-none, total-more}
-use Rattle.travel.specs.Table.{entryAt}
+use Rattle.theory_loops.specs.First.{first, first-le, found, none-yet, pass, stop, first-more}
+use Rattle.theory_loops.specs.Total.{total-none, total-more}
+use Rattle.theory_travel.specs.Table.{entryAt}
 use Rattle.network_rules.specs.declared.rules.Scan.{Scan}
 use Rattle.network.specs.Network.{Network, arcs, points, count, start}
 use Rattle.network.specs.FirstPoint.{Counted, anyOf, points-in, none-first, at-first}

@@ -10,15 +10,15 @@ use native.Mathlib.Omega.{arith}
 use lib.ListN.{length}
 use lib.Dec.{ltb, lit<, lit≤}
 use borrow.Author.Tests.{not-true, not-false, ltb-false, lt-leb, le-ltb, eq-eqb, ne-eqb}
-use Rattle.loops.specs.First.{all-clear}
-use Rattle.loops.specs.Pick.{or-passed}
-use Rattle.travel.specs.Points.{climbs}
-use Rattle.travel.specs.Day.{closed-in, closed-end}
-use Rattle.travel.specs.Table.{entryAt, entry-first}
-use Rattle.words.specs.Fields.{le16}
-use Rattle.blocks.specs.Place.{offset, offset-on, index-block, index-entry}
-use Rattle.blocks.specs.Cursor.{cursorAt}
-use Rattle.blocks.specs.declared.cursor.Cursor.{Cursor}
+use Rattle.theory_loops.specs.First.{all-clear}
+use Rattle.theory_loops.specs.Pick.{or-passed}
+use Rattle.theory_travel.specs.Points.{climbs}
+use Rattle.theory_travel.specs.Day.{closed-in, closed-end}
+use Rattle.theory_travel.specs.Table.{entryAt, entry-first}
+use Rattle.file_fields.specs.Fields.{le16}
+use Rattle.file_blocks.specs.Place.{offset, offset-on, index-block, index-entry}
+use Rattle.file_blocks.specs.Cursor.{cursorAt}
+use Rattle.file_blocks.specs.declared.cursor.Cursor.{Cursor}
 use Rattle.network.specs.declared.header.Layout.{Layout}
 use Rattle.network_rules.specs.declared.steady.Run.{Run}
 use Rattle.network.specs.Network.{Network, tick, travel}

@@ -4,8 +4,8 @@ use mathlib.Core.List.{List}
 use Prim.Native.Nat.{ℕ}
 use lib.ListN.{length, getD}
 use lib.Dec.{eqb}
-use Rattle.loops.specs.First.{any}
-use Rattle.loops.specs.Select.{select}
+use Rattle.theory_loops.specs.First.{any}
+use Rattle.theory_loops.specs.Select.{select}
 use Rattle.network.specs.Network.{Network, nodes, arcs, cell, tail, head}
 
 unfoldable pub isBorder : Network → ℕ → Bool

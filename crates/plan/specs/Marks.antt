@@ -11,8 +11,8 @@ use lib.ListN.{length, getD, set, replicate, length-set, length-replicate, getD-
 use lib.Seq.{getD-set-same, getD-set-other}
 use lib.Dec.{eqb, ltb}
 use borrow.Author.Tests.{eq-eqb, ne-eqb, le-ltb, lt-ltb}
-use Rattle.loops.specs.First.{first, any, first-le, yes-any, none-yet, first-more}
-use Rattle.loops.specs.Select.{Chosen, fronted}
+use Rattle.theory_loops.specs.First.{first, any, first-le, yes-any, none-yet, first-more}
+use Rattle.theory_loops.specs.Select.{Chosen, fronted}
 use Rattle.network.specs.Network.{Network, nodes, arcs, cell, tail, head}
 use Rattle.network.specs.Decode.{decode, Laid, laid-sizes}
 use Rattle.network.specs.Sound.{SoundNetwork}

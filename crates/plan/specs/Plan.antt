@@ -5,10 +5,10 @@ use mathlib.Core.List.{List}
 use Prim.Native.Nat.{ℕ, _+_, _*_, _/_, _%_, _^_}
 use lib.ListN.{getD}
 use lib.Dec.{eqb}
-use Rattle.loops.specs.Total.{total}
-use Rattle.paths.specs.Profiles.{Travel, unreachable, ticks, Profile}
-use Rattle.travel.specs.Day.{dayValue}
-use Rattle.travel.specs.Table.{entryAt}
+use Rattle.theory_loops.specs.Total.{total}
+use Rattle.theory_paths.specs.Profiles.{Travel, unreachable, ticks, Profile}
+use Rattle.theory_travel.specs.Day.{dayValue}
+use Rattle.theory_travel.specs.Table.{entryAt}
 use Rattle.network.specs.Network.{Network, nodes}
 use Rattle.plan.specs.Border.{borderIndex}
 

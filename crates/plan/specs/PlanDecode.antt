@@ -7,10 +7,10 @@ use native.Mathlib.Nat.{add-zero}
 use native.Mathlib.Omega.{arith}
 use lib.ListN.{length, getD}
 use lib.Dec.{lit<, lit≤}
-use Rattle.loops.specs.Fill.{tab, getD-tab, length-tab}
-use Rattle.words.specs.Fields.{le16, le32, le64}
-use Rattle.blocks.specs.Table.{entry16}
-use Rattle.blocks.specs.Place.{offset, blocks, Stored, entry-in, block-below}
+use Rattle.theory_loops.specs.Fill.{tab, getD-tab, length-tab}
+use Rattle.file_fields.specs.Fields.{le16, le32, le64}
+use Rattle.file_blocks.specs.Table.{entry16}
+use Rattle.file_blocks.specs.Place.{offset, blocks, Stored, entry-in, block-below}
 use Rattle.plan.specs.declared.header.PlanHeader.{PlanHeader}
 use Rattle.plan.specs.declared.header.PlanLayout.{PlanLayout}
 use Rattle.plan.specs.Plan.{Plan, pointCount}

@@ -2,7 +2,7 @@
 use mathlib.Core.List.{List}
 use Prim.Native.Nat.{ℕ, _*_, _≤_}
 use native.Mathlib.Nat.{mul-le-mul}
-use Rattle.words.specs.Fields.{le16, le32}
+use Rattle.file_fields.specs.Fields.{le16, le32}
 use Rattle.plan.specs.declared.header.PlanHeader.{PlanHeader}
 
 abbrev pub planHeaderAt : List ℕ → PlanHeader

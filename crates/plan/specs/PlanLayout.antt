@@ -2,7 +2,7 @@
 -- points (kind 7) and the points (kind 8), each a run of blocks of its own.
 use Prim.Native.Nat.{ℕ, _+_, _*_, _≤_}
 use native.Mathlib.Omega.{arith}
-use Rattle.blocks.specs.Place.{blocks}
+use Rattle.file_blocks.specs.Place.{blocks}
 use Rattle.plan.specs.declared.header.PlanHeader.{PlanHeader}
 use Rattle.plan.specs.declared.header.PlanLayout.{PlanLayout}
 use Rattle.plan.specs.PlanHeader.{PlanWithin, profiles-few}

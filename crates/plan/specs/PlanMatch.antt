@@ -7,7 +7,7 @@ use Prim.Native.Nat.{ℕ, zero, suc, _≤_}
 use native.Mathlib.Omega.{arith}
 use lib.ListN.{length, length-append}
 use borrow.Author.Tests.{eqb-true, leb-true, eq-eqb, le-leb}
-use Rattle.loops.specs.Select.{select}
+use Rattle.theory_loops.specs.Select.{select}
 use Rattle.network.specs.declared.header.Header.{Header}
 use Rattle.network.specs.Limits.{Within}
 use Rattle.network.specs.Layout.{layoutOf}

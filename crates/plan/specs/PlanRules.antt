@@ -9,8 +9,8 @@ use native.Mathlib.Omega.{arith}
 use lib.Pow.{pow-pos}
 use lib.Dec.{leb, ltb, eqb}
 use borrow.Author.Tests.{lt-leb, le-leb, ne-eqb}
-use Rattle.loops.specs.First.{first, any}
-use Rattle.loops.specs.Pick.{firstRung}
+use Rattle.theory_loops.specs.First.{first, any}
+use Rattle.theory_loops.specs.Pick.{firstRung}
 use Rattle.network.specs.Network.{Network, nodes, arcs}
 use Rattle.network.specs.Rules.{faulty}
 use Rattle.network.specs.declared.answer.Judged.{Judged}

@@ -9,12 +9,12 @@ use native.Mathlib.Omega.{arith}
 use lib.ListN.{length}
 use lib.Dec.{ltb, eqb}
 use borrow.Author.Tests.{ltb-false, eqb-true, not-false, le-ltb, eq-eqb, ne-eqb}
-use Rattle.loops.specs.Pick.{firstRung, passed-by, reached-by, rung-passed, rung-clear}
-use Rattle.words.specs.Fields.{le16}
-use Rattle.blocks.specs.Place.{blocks}
-use Rattle.words.specs.Sum.{good}
-use Rattle.blocks.specs.Form.{formed, unformed}
-use Rattle.blocks.specs.Read.{bad}
+use Rattle.theory_loops.specs.Pick.{firstRung, passed-by, reached-by, rung-passed, rung-clear}
+use Rattle.file_fields.specs.Fields.{le16}
+use Rattle.file_blocks.specs.Place.{blocks}
+use Rattle.file_fields.specs.Sum.{good}
+use Rattle.file_blocks.specs.Form.{formed, unformed}
+use Rattle.file_blocks.specs.Read.{bad}
 use Rattle.network.specs.declared.answer.Judged.{Judged}
 use Rattle.network.specs.declared.answer.Judged.the-variants.{Sound, Faulty}
 use Rattle.network.specs.declared.header.Header.{Header}

@@ -10,12 +10,12 @@ use native.Mathlib.Decide.{decLt}
 use lib.ListN.{length}
 use lib.Dec.{leb, ltb, eqb}
 use borrow.Author.Tests.{lt-ltb, le-ltb, eq-eqb, ne-eqb, eqb-true, eqb-false, ltb-false, not-false}
-use Rattle.loops.specs.First.{first}
-use Rattle.loops.specs.Pick.{firstRung, at-first, past-first, or-passed}
-use Rattle.words.specs.Fields.{le16}
-use Rattle.blocks.specs.Place.{blocks}
-use Rattle.blocks.specs.Form.{formed, unformed}
-use Rattle.blocks.specs.Read.{bad}
+use Rattle.theory_loops.specs.First.{first}
+use Rattle.theory_loops.specs.Pick.{firstRung, at-first, past-first, or-passed}
+use Rattle.file_fields.specs.Fields.{le16}
+use Rattle.file_blocks.specs.Place.{blocks}
+use Rattle.file_blocks.specs.Form.{formed, unformed}
+use Rattle.file_blocks.specs.Read.{bad}
 use Rattle.network.specs.declared.answer.Refusal.{Refusal}
 use Rattle.network.specs.declared.answer.Judged.{Judged}
 use Rattle.network.specs.declared.answer.Judged.the-variants.{Sound, Faulty}

@@ -7,9 +7,9 @@ use Prim.Native.Nat.{ℕ, zero, suc, _^_, _≤_, _<_}
 use native.Mathlib.Omega.{arith}
 use lib.Dec.{leb, eqb}
 use borrow.Author.Tests.{ltb-false, leb-false, eqb-true, not-false, lt-leb, le-ltb, eq-eqb}
-use Rattle.loops.specs.First.{first, first-le, clear, all-clear}
-use Rattle.loops.specs.Pick.{or-passed, reached-by, rung-passed, rung-clear}
-use Rattle.travel.specs.Day.{Day}
+use Rattle.theory_loops.specs.First.{first, first-le, clear, all-clear}
+use Rattle.theory_loops.specs.Pick.{or-passed, reached-by, rung-passed, rung-clear}
+use Rattle.theory_travel.specs.Day.{Day}
 use Rattle.network.specs.Network.{Network, arcs}
 use Rattle.network.specs.Rules.{faulty}
 use Rattle.network.specs.declared.answer.Judged.the-variants.{Sound}

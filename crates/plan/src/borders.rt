@@ -5,7 +5,7 @@ use network::read;
 ghost use mathlib.Core.Path.{_≡_};
 ghost use Prim.Native.Nat.{_+_, _<_};
 ghost use lib.ListN.{length};
-ghost use Rattle.loops.specs.Select.{fronted};
+ghost use Rattle.theory_loops.specs.Select.{fronted};
 ghost use Rattle.network.specs.Network;
 ghost use Rattle.network.specs.Decode.{decode, Laid};
 ghost use Rattle.network.specs.Sound.{SoundNetwork};

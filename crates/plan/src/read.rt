@@ -1,10 +1,10 @@
 // The entries of a plan file, read in place: one function for each of its four tables.
 // Each contract equates the answer with the entry of the plan that the file decodes to; callers see no bytes.
 use crate::header::PlanLayout;
-use blocks::place::offset;
-use words::fields::le16;
-use words::fields::le32;
-use words::fields::le64;
+use file_blocks::place::offset;
+use file_fields::fields::le16;
+use file_fields::fields::le32;
+use file_fields::fields::le64;
 ghost use mathlib.Core.Path.{_≡_};
 ghost use Prim.Native.Nat.{_<_};
 ghost use Rattle.plan.specs.Plan.{pointCount};

@@ -5,9 +5,9 @@ use mathlib.Core.Logic.{_↔_}
 use mathlib.Core.Bool.{true, and-eq-true-iff}
 use Prim.Native.Nat.{ℕ, _<_}
 use borrow.Author.Tests.{eqb-true, eqb-false, not-true, eq-eqb, ne-eqb}
-use Rattle.loops.specs.First.{any-found, yes-any}
-use Rattle.loops.specs.Select.{selected, selected-at, select-rises, rank-rises}
-use Rattle.paths.specs.Flags.{Border}
+use Rattle.theory_loops.specs.First.{any-found, yes-any}
+use Rattle.theory_loops.specs.Select.{selected, selected-at, select-rises, rank-rises}
+use Rattle.theory_paths.specs.Flags.{Border}
 use Rattle.network.specs.Network.{Network, nodes, arcs, cell}
 use Rattle.network.specs.Sound.{SoundNetwork}
 use Rattle.network.specs.Town.{graphOf}

@@ -1,8 +1,8 @@
 -- The check of a well-formed plan against a network: the lowest of 20 to 24 that fails anywhere, then its first place. From 21 on the places are the
 -- border's number, the node and the tick.
 use Prim.Native.Nat.{ℕ}
-use Rattle.loops.specs.Pick.{firstRung}
-use Rattle.loops.specs.Triple.{firstTripleRung}
+use Rattle.theory_loops.specs.Pick.{firstRung}
+use Rattle.theory_loops.specs.Triple.{firstTripleRung}
 use Rattle.network.specs.Network.{Network, nodes, arcs}
 use Rattle.network.specs.Rules.{refusal}
 use Rattle.plan_check.specs.declared.answer.Checking.{Checking}

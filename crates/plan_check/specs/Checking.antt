@@ -4,7 +4,7 @@ use mathlib.Core.Path.{_≡_, sym, _∙_}
 use mathlib.Core.List.{List}
 use Prim.Native.Nat.{ℕ}
 use lib.ListN.{length, drop, List·getD-append}
-use Rattle.loops.specs.Select.{fronted}
+use Rattle.theory_loops.specs.Select.{fronted}
 use Rattle.network.specs.declared.answer.Refusal.{Refusal}
 use Rattle.network.specs.declared.answer.Opening.{Opening}
 use Rattle.network.specs.declared.answer.Opening.the-variants as opening
@@ -16,7 +16,7 @@ use Rattle.network.specs.Decode.{decode, Laid, laid-sizes}
 use Rattle.network.specs.Sound.{SoundNetwork}
 use Rattle.network.specs.Validate.{validated}
 use Rattle.network.specs.Valid.{ValidFile, valid-laid, valid-exactly}
-use Rattle.arcs.specs.Town.{town-of}
+use Rattle.search_arcs.specs.Town.{town-of}
 use Rattle.plan.specs.declared.answer.Planning.{Planning}
 use Rattle.plan.specs.declared.answer.Planning.the-variants as planning
 use Rattle.plan_check.specs.declared.answer.Checking.{Checking}
@@ -33,7 +33,7 @@ use Rattle.plan.specs.PlanValid.{ValidPlan, valid-within, valid-plan-laid, vali
 use Rattle.plan_check.specs.Check.{checked}
 use Rattle.plan_check.specs.CheckPlan.{checkedBy, checking}
 use Rattle.plan_tests.specs.Checkable.{Checkable}
-use Rattle.profiles.specs.Formed.{formed-of}
+use Rattle.plan_values.specs.Formed.{formed-of}
 use Rattle.plan_check.specs.Finding.{Listed}
 
 module _ {network : List ℕ} {h : Header} (v : ValidFile network h) where

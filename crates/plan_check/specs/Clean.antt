@@ -10,29 +10,29 @@ use lib.ListN.{getD}
 use lib.Dec.{eqb}
 use borrow.Author.Count.{below-more}
 use borrow.Author.Tests.{ne-eqb, not-true, le-ltb}
-use Rattle.loops.specs.First.{any-clear, any-found, yes-any}
-use Rattle.loops.specs.Pick.{and-clear}
-use Rattle.paths.specs.Graph.{all}
-use Rattle.paths.specs.Profiles.{Travel, unreachable, ticks}
-use Rattle.paths.specs.Flags.{flagged}
+use Rattle.theory_loops.specs.First.{any-clear, any-found, yes-any}
+use Rattle.theory_loops.specs.Pick.{and-clear}
+use Rattle.theory_paths.specs.Graph.{all}
+use Rattle.theory_paths.specs.Profiles.{Travel, unreachable, ticks}
+use Rattle.theory_paths.specs.Flags.{flagged}
 use Rattle.network.specs.declared.header.Layout.{Layout}
 use Rattle.network.specs.Network.{Network, nodes, arcs, cell, tail}
 use Rattle.network.specs.Decode.{decode}
 use Rattle.network.specs.Sound.{SoundNetwork}
 use Rattle.network.specs.Town.{town-lawful}
-use Rattle.arcs.specs.Chain.{Chained}
-use Rattle.arcs.specs.Town.{Town}
-use Rattle.profiles.specs.declared.value.Value.{Value}
+use Rattle.search_arcs.specs.Chain.{Chained}
+use Rattle.search_arcs.specs.Town.{Town}
+use Rattle.plan_values.specs.declared.value.Value.{Value}
 use Rattle.plan_tests.specs.declared.tests.Asked.the-variants.{Less, Same, Flagged}
 use Rattle.plan.specs.declared.header.PlanLayout.{PlanLayout}
 use Rattle.plan.specs.Border.{borderAt}
 use Rattle.plan.specs.Plan.{Plan, flag, bit, profile, profileValue}
 use Rattle.plan.specs.PlanDecode.{decodePlan, flagWord}
-use Rattle.profiles.specs.Compare.{same, less, isNumber}
+use Rattle.plan_values.specs.Compare.{same, less, isNumber}
 use Rattle.plan_tests.specs.Tests.{giving, given, fails21, fails22, fails23, fails24, fails}
 use Rattle.plan_tests.specs.Checkable.{Checkable}
 use Rattle.plan_check.specs.Meaning.{Nowhere, same-true, gives-some, attained-given}
-use Rattle.profiles.specs.Value.{valueOf, Reads}
+use Rattle.plan_values.specs.Value.{valueOf, Reads}
 use Rattle.plan_tests.specs.Giving.{offers, passes, profile-is}
 use Rattle.plan_tests.specs.Passing.{anyPasses, less-any, same-any, flagged-any, offer-passes, Passing, pass-first, pass-less, pass-next, pass-none}
 use Rattle.plan_tests.specs.Failing.{AtBorder, unattained-home}

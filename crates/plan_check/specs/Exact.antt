@@ -6,9 +6,9 @@ use mathlib.Core.Logic.{_↔_, Iff·trans}
 use mathlib.Core.Bool.{false}
 use Prim.Native.Nat.{ℕ, _≤_, _<_}
 use native.Mathlib.Omega.{arith}
-use Rattle.loops.specs.Pick.{passed-by, rung-passed, rung-clear}
-use Rattle.loops.specs.Triple.{firstTripleRung, triple-clear}
-use Rattle.paths.specs.Flags.{EnoughFlags, TrueProfiles, Checked, checked-exact}
+use Rattle.theory_loops.specs.Pick.{passed-by, rung-passed, rung-clear}
+use Rattle.theory_loops.specs.Triple.{firstTripleRung, triple-clear}
+use Rattle.theory_paths.specs.Flags.{EnoughFlags, TrueProfiles, Checked, checked-exact}
 use Rattle.network.specs.Network.{Network, nodes, arcs, cell}
 use Rattle.network.specs.Rules.{refusal}
 use Rattle.network.specs.Sound.{SoundNetwork}

@@ -5,19 +5,19 @@ use mathlib.Core.List.{List}
 use Prim.Native.Nat.{ℕ, zero, suc, _+_, _-_, _*_, _≤_, _<_}
 use native.Mathlib.Omega.{arith}
 use lib.ListN.{length, getD}
-use Rattle.loops.specs.First.{first}
-use Rattle.loops.specs.Fill.{Filled}
-use Rattle.loops.specs.Pick.{firstRung, at-first, past-first}
-use Rattle.loops.specs.Select.{selected}
-use Rattle.loops.specs.Total.{total-none}
-use Rattle.loops.specs.Triple.{anyTriple, firstOf, secondOf, thirdOf, firstTripleRung}
+use Rattle.theory_loops.specs.First.{first}
+use Rattle.theory_loops.specs.Fill.{Filled}
+use Rattle.theory_loops.specs.Pick.{firstRung, at-first, past-first}
+use Rattle.theory_loops.specs.Select.{selected}
+use Rattle.theory_loops.specs.Total.{total-none}
+use Rattle.theory_loops.specs.Triple.{anyTriple, firstOf, secondOf, thirdOf, firstTripleRung}
 use Rattle.network.specs.declared.header.Layout.{Layout}
 use Rattle.network.specs.Network.{Network, nodes, arcs, tail, start}
 use Rattle.network.specs.Decode.{decode}
 use Rattle.network.specs.Rules.{refusal}
 use Rattle.network.specs.declared.answer.Refusal.{Refusal}
-use Rattle.arcs.specs.Chain.{endOf, Chained}
-use Rattle.arcs.specs.declared.chain.End.the-variants.{Tail}
+use Rattle.search_arcs.specs.Chain.{endOf, Chained}
+use Rattle.search_arcs.specs.declared.chain.End.the-variants.{Tail}
 use Rattle.plan_check.specs.declared.answer.Checking.{Checking}
 use Rattle.plan_check.specs.declared.answer.Checking.the-variants.{Accepted, Refused}
 use Rattle.plan_check.specs.declared.check.Triple.{Triple}
@@ -32,7 +32,7 @@ use Rattle.plan_check.specs.Check.{refusedAt, tripleRung, checked}
 use Rattle.plan_check.specs.Exact.{nowhere-rung}
 use Rattle.plan_check.specs.Clean.{NothingFails}
 use Rattle.plan_tests.specs.Checkable.{Checkable}
-use Rattle.profiles.specs.Starts.{startOf, started-of}
+use Rattle.plan_values.specs.Starts.{startOf, started-of}
 use Rattle.plan_tests.specs.Failing.{AtBorder}
 
 abbrev pub foundAt : ℕ → ℕ → ℕ → Found

@@ -6,11 +6,11 @@ use mathlib.Core.Bool.{Bool, true, false, not, and-eq-true-iff}
 use Prim.Native.Nat.{ℕ, _+_, _%_, _≤_, _<_}
 use native.Mathlib.Omega.{arith}
 use borrow.Author.Tests.{ltb-false, eqb-true, eqb-false, not-true, not-false, le-ltb, eq-eqb, ne-eqb}
-use Rattle.loops.specs.First.{any-clear, any-found, yes-any}
-use Rattle.loops.specs.Pick.{and-clear}
-use Rattle.paths.specs.Graph.{Graph, Lawful, Permit, all, ArcFrom}
-use Rattle.paths.specs.Profiles.{Travel, unreachable, ticks, Profile, AtMost, plus, gives, Attained, LocalProfile}
-use Rattle.paths.specs.Flags.{Border, flagged, FlaggedInside}
+use Rattle.theory_loops.specs.First.{any-clear, any-found, yes-any}
+use Rattle.theory_loops.specs.Pick.{and-clear}
+use Rattle.theory_paths.specs.Graph.{Graph, Lawful, Permit, all, ArcFrom}
+use Rattle.theory_paths.specs.Profiles.{Travel, unreachable, ticks, Profile, AtMost, plus, gives, Attained, LocalProfile}
+use Rattle.theory_paths.specs.Flags.{Border, flagged, FlaggedInside}
 use Rattle.network.specs.Network.{Network, nodes, arcs, cell, head}
 use Rattle.network.specs.Sound.{SoundNetwork}
 use Rattle.network.specs.Town.{graphOf, town-lawful}
@@ -18,7 +18,7 @@ use Rattle.plan.specs.Border.{borderCount, borderAt}
 use Rattle.plan_check.specs.Borders.{at-node, every-border}
 use Rattle.plan.specs.Plan.{Plan, flag, profile, profileTo}
 use Rattle.plan_tests.specs.Tests.{fails20, giving, given, fails21, fails22, fails23, fails24, fails}
-use Rattle.profiles.specs.Compare.{same, less, isNumber}
+use Rattle.plan_values.specs.Compare.{same, less, isNumber}
 
 -- a test of 21 to 24 fails at no border number, node and tick
 abbrev pub Nowhere : Network → Plan → ℕ → Type 0

@@ -3,8 +3,8 @@ use mathlib.Core.Path.{_≡_, refl}
 use mathlib.Core.List.{List}
 use Prim.Native.Nat.{ℕ, _≤_}
 use native.Mathlib.Omega.{arith}
-use Rattle.loops.specs.Pick.{cond-holds, rung-holds}
-use Rattle.loops.specs.Triple.{firstTripleRung, anyTriple}
+use Rattle.theory_loops.specs.Pick.{cond-holds, rung-holds}
+use Rattle.theory_loops.specs.Triple.{firstTripleRung, anyTriple}
 use Rattle.network.specs.declared.answer.Refusal.{Refusal}
 use Rattle.network.specs.declared.answer.Opening.{Opening}
 use Rattle.network.specs.declared.answer.Opening.the-variants as opening

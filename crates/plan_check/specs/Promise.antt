@@ -4,9 +4,9 @@ use mathlib.Core.Path.{_≡_}
 use mathlib.Core.Logic.{_↔_}
 use mathlib.Core.List.{List}
 use Prim.Native.Nat.{ℕ, _≤_}
-use Rattle.paths.specs.Graph.{Permit, all, IsPath, waited, EarliestArrival, Reachable}
-use Rattle.paths.specs.Drive.{earliest-waiting}
-use Rattle.paths.specs.Flags.{flagged, EnoughFlags, arc-flags, arc-flags-reach}
+use Rattle.theory_paths.specs.Graph.{Permit, all, IsPath, waited, EarliestArrival, Reachable}
+use Rattle.theory_paths.specs.Drive.{earliest-waiting}
+use Rattle.theory_paths.specs.Flags.{flagged, EnoughFlags, arc-flags, arc-flags-reach}
 use Rattle.network.specs.Network.{Network, cell}
 use Rattle.network.specs.Sound.{SoundNetwork}
 use Rattle.network.specs.Town.{graphOf, town-lawful}

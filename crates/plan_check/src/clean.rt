@@ -1,11 +1,11 @@
 // Whether nothing fails anywhere, yes or no, in one pass: what a good plan is asked. At each border number, node and tick the node's value is read once, and one walk
 // over the arcs out of the node reads once what each of them gives. Where the answer is no, check.rt finds the test and the place.
-use arcs::wide;
+use search_arcs::wide;
 use network::header::Layout;
 use plan::header::PlanLayout;
 use plan_tests::tests;
-use profiles::value;
-use profiles::value::Value;
+use plan_values::value;
+use plan_values::value::Value;
 ghost use mathlib.Core.Path.{_≡_};
 ghost use mathlib.Core.Bool.{true, _||_};
 ghost use Prim.Native.Nat.{_<_};
@@ -13,9 +13,9 @@ ghost use Rattle.network.specs.Decode.{decode};
 ghost use Rattle.network.specs.Network.{tail, cell};
 ghost use Rattle.plan.specs.Plan;
 ghost use Rattle.plan.specs.PlanDecode.{decodePlan, PlanLaid};
-ghost use Rattle.arcs.specs.Chain.{Chained};
+ghost use Rattle.search_arcs.specs.Chain.{Chained};
 ghost use Rattle.plan_tests.specs.declared.tests.Asked.the-variants as asked;
-ghost use Rattle.profiles.specs.Value.{valueOf};
+ghost use Rattle.plan_values.specs.Value.{valueOf};
 ghost use Rattle.plan_tests.specs.Giving.{offers, Prepared};
 ghost use Rattle.plan_tests.specs.Failing.{AtBorder};
 ghost use Rattle.plan_check.specs.Finding.{Equipped};

@@ -5,10 +5,10 @@ use mathlib.Core.List.{List}
 use Prim.Native.Nat.{ℕ}
 use Rattle.network.specs.declared.header.Layout.{Layout}
 use Rattle.network.specs.Decode.{decode}
-use Rattle.arcs.specs.Town.{Town}
+use Rattle.search_arcs.specs.Town.{Town}
 use Rattle.plan.specs.declared.header.PlanLayout.{PlanLayout}
 use Rattle.plan.specs.Border.{borderCount}
-use Rattle.profiles.specs.Formed.{Formed}
+use Rattle.plan_values.specs.Formed.{Formed}
 
 -- The plan is one for the network.
 pub record Checkable (network : List ℕ) (l : Layout) (plan : List ℕ) (pl : PlanLayout) : Type 0 where

@@ -8,19 +8,19 @@ use Prim.Native.Nat.{ℕ, _<_}
 use native.Mathlib.Omega.{arith}
 use lib.Dec.{eqb}
 use borrow.Author.Tests.{eq-eqb, ne-eqb}
-use Rattle.paths.specs.Profiles.{Travel, ticks}
+use Rattle.theory_paths.specs.Profiles.{Travel, ticks}
 use Rattle.network.specs.declared.header.Layout.{Layout}
 use Rattle.network.specs.Network.{Network, cell, tail, head}
 use Rattle.network.specs.Decode.{decode}
-use Rattle.arcs.specs.Chain.{Chained}
-use Rattle.arcs.specs.Town.{Town}
+use Rattle.search_arcs.specs.Chain.{Chained}
+use Rattle.search_arcs.specs.Town.{Town}
 use Rattle.plan_tests.specs.declared.tests.Asked.the-variants.{Less, Same, Flagged}
 use Rattle.plan.specs.declared.header.PlanLayout.{PlanLayout}
 use Rattle.plan.specs.Border.{borderAt}
 use Rattle.plan.specs.Plan.{Plan, bit, profile}
 use Rattle.plan.specs.PlanDecode.{flagWord}
 use Rattle.plan_tests.specs.Tests.{fails20, fails23, fails24, fails}
-use Rattle.profiles.specs.Compare.{same, isNumber}
+use Rattle.plan_values.specs.Compare.{same, isNumber}
 use Rattle.plan_tests.specs.Giving.{Prepared}
 use Rattle.plan_tests.specs.Passing.{anyPasses, less-any, same-any, flagged-any}
 

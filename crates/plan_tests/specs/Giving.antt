@@ -8,24 +8,24 @@ use native.Mathlib.Nat.{mod-eq-of-lt, mod-lt}
 use native.Mathlib.Omega.{arith}
 use lib.ListN.{getD}
 use lib.Dec.{eqb}
-use Rattle.paths.specs.Graph.{ends}
-use Rattle.paths.specs.Profiles.{Travel, plus}
+use Rattle.theory_paths.specs.Graph.{ends}
+use Rattle.theory_paths.specs.Profiles.{Travel, plus}
 use Rattle.network.specs.declared.header.Layout.{Layout}
 use Rattle.network.specs.Network.{Network, tail, head, start}
 use Rattle.network.specs.Decode.{decode}
 use Rattle.network.specs.Town.{graphOf, travelAt}
-use Rattle.arcs.specs.Town.{head-node}
+use Rattle.search_arcs.specs.Town.{head-node}
 use Rattle.plan.specs.declared.header.PlanLayout.{PlanLayout}
-use Rattle.profiles.specs.declared.value.Value.{Value}
+use Rattle.plan_values.specs.declared.value.Value.{Value}
 use Rattle.plan_tests.specs.declared.tests.Asked.{Asked}
 use Rattle.plan_tests.specs.declared.tests.Asked.the-variants.{Less, Same, Flagged}
 use Rattle.plan.specs.Plan.{Plan, bit, flag, profile, profileValue}
 use Rattle.plan.specs.PlanDecode.{decodePlan, flagWord}
-use Rattle.profiles.specs.Compare.{same, less}
+use Rattle.plan_values.specs.Compare.{same, less}
 use Rattle.plan_tests.specs.Tests.{giving}
 use Rattle.plan_tests.specs.Checkable.{Checkable}
-use Rattle.profiles.specs.Value.{valueOf, Reads}
-use Rattle.profiles.specs.Starts.{Started}
+use Rattle.plan_values.specs.Value.{valueOf, Reads}
+use Rattle.plan_values.specs.Starts.{Started}
 
 -- arc a has the flag that is asked for, if one is
 abbrev pub permits : Plan → Asked → ℕ → Bool

@@ -9,20 +9,20 @@ use native.Mathlib.Decide.{ℕ-discrete, decLe}
 use native.Mathlib.Omega.{arith}
 use lib.ListN.{getD}
 use borrow.Author.Tests.{eq-eqb, ne-eqb}
-use Rattle.loops.specs.First.{any, any-clear, some}
-use Rattle.paths.specs.Graph.{all}
-use Rattle.paths.specs.Flags.{flagged}
+use Rattle.theory_loops.specs.First.{any, any-clear, some}
+use Rattle.theory_paths.specs.Graph.{all}
+use Rattle.theory_paths.specs.Flags.{flagged}
 use Rattle.network.specs.declared.header.Layout.{Layout}
 use Rattle.network.specs.Network.{Network, arcs, tail}
 use Rattle.network.specs.Decode.{decode}
-use Rattle.arcs.specs.Town.{Town}
-use Rattle.arcs.specs.Chain.{NextArc, Chained}
-use Rattle.profiles.specs.declared.value.Value.{Value}
+use Rattle.search_arcs.specs.Town.{Town}
+use Rattle.search_arcs.specs.Chain.{NextArc, Chained}
+use Rattle.plan_values.specs.declared.value.Value.{Value}
 use Rattle.plan_tests.specs.declared.tests.Asked.{Asked}
 use Rattle.plan_tests.specs.declared.tests.Asked.the-variants.{Less, Same, Flagged}
 use Rattle.plan.specs.Plan.{Plan, flag, profile}
 use Rattle.plan_tests.specs.Tests.{given, fails22}
-use Rattle.profiles.specs.Value.{valueOf}
+use Rattle.plan_values.specs.Value.{valueOf}
 use Rattle.plan_tests.specs.Giving.{permits, meets, offers, passes}
 
 -- some arc passes

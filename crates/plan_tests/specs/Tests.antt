@@ -3,15 +3,15 @@
 use mathlib.Core.Bool.{Bool, cond, not, _&&_}
 use Prim.Native.Nat.{ℕ}
 use lib.Dec.{eqb}
-use Rattle.loops.specs.First.{any}
-use Rattle.paths.specs.Graph.{Permit, all}
-use Rattle.paths.specs.Profiles.{Travel, ticks, gives}
-use Rattle.paths.specs.Flags.{flagged}
+use Rattle.theory_loops.specs.First.{any}
+use Rattle.theory_paths.specs.Graph.{Permit, all}
+use Rattle.theory_paths.specs.Profiles.{Travel, ticks, gives}
+use Rattle.theory_paths.specs.Flags.{flagged}
 use Rattle.network.specs.Network.{Network, arcs, cell, tail, head}
 use Rattle.network.specs.Town.{graphOf}
 use Rattle.plan.specs.Border.{borderAt}
 use Rattle.plan.specs.Plan.{Plan, flag, profile}
-use Rattle.profiles.specs.Compare.{same, less, isNumber}
+use Rattle.plan_values.specs.Compare.{same, less, isNumber}
 
 -- 20: both ends of arc a lie in a cell whose flag it lacks
 abbrev pub fails20 : Network → Plan → ℕ → Bool

@@ -1,11 +1,11 @@
 // The check's test 20 at an arc, and its tests 21 to 24 at a border number, a node and a tick. What an arc gives is read by `giving`, and the arcs out of a node are walked
 // by one loop, whatever is asked of them.
-use arcs::times;
-use arcs::wide;
+use search_arcs::times;
+use search_arcs::wide;
 use network::header::Layout;
 use plan::header::PlanLayout;
-use profiles::value;
-use profiles::value::Value;
+use plan_values::value;
+use plan_values::value::Value;
 ghost use mathlib.Core.Path.{_≡_};
 ghost use Prim.Native.Nat.{_+_, _*_, _<_};
 ghost use Rattle.network.specs.Decode.{decode};
@@ -13,11 +13,11 @@ ghost use Rattle.plan.specs.Border.{borderAt};
 ghost use Rattle.plan.specs.Plan;
 ghost use Rattle.plan.specs.PlanDecode.{decodePlan, PlanLaid};
 ghost use Rattle.plan_tests.specs.Tests;
-ghost use Rattle.profiles.specs.Formed.{Formed};
+ghost use Rattle.plan_values.specs.Formed.{Formed};
 ghost use Rattle.plan_tests.specs.Checkable.{Checkable};
-ghost use Rattle.profiles.specs.Value.{valueOf};
-ghost use Rattle.profiles.specs.Starts.{Started};
-ghost use Rattle.arcs.specs.Chain.{Chained};
+ghost use Rattle.plan_values.specs.Value.{valueOf};
+ghost use Rattle.plan_values.specs.Starts.{Started};
+ghost use Rattle.search_arcs.specs.Chain.{Chained};
 ghost use Rattle.network.specs.Network.{tail};
 ghost use Rattle.plan_tests.specs.Giving.{permits, meets, offers, Fit, Prepared};
 ghost use Rattle.plan_tests.specs.Passing.{anyPasses};

@@ -10,7 +10,7 @@ use native.Mathlib.Numerals.{add-one}
 use native.Mathlib.Omega.{arith}
 use lib.ListN.{length, getD, set, take, drop, length-append}
 use lib.Seq.{sets, take-suc, take-length, take-append-seam}
-use Rattle.loops.specs.Stores.{sets-append, stored-front}
+use Rattle.theory_loops.specs.Stores.{sets-append, stored-front}
 
 -- the bytes of a text in ASCII
 abbrev pub ascii : String → List ℕ

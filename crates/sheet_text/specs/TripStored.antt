@@ -6,9 +6,9 @@ use Prim.Native.Nat.{ℕ, _≤_}
 use native.Mathlib.Omega.{arith}
 use lib.ListN.{length, take, replicate}
 use lib.Seq.{take-at}
-use Rattle.paths.specs.Graph.{Permit}
-use Rattle.paths.specs.Labels.{label, labels}
-use Rattle.paths.specs.Chosen.{chosen}
+use Rattle.theory_paths.specs.Graph.{Permit}
+use Rattle.theory_paths.specs.Labels.{label, labels}
+use Rattle.theory_paths.specs.Chosen.{chosen}
 use Rattle.network.specs.declared.answer.Refusal.{Refusal}
 use Rattle.network.specs.declared.answer.Opening.{Opening}
 use Rattle.network.specs.declared.answer.Opening.the-variants as opening
@@ -17,14 +17,14 @@ use Rattle.network.specs.Decode.{decode}
 use Rattle.network.specs.Town.{graphOf}
 use Rattle.plan.specs.PlanDecode.{decodePlan}
 use Rattle.plan_check.specs.Promise.{towards}
-use Rattle.search.specs.declared.Outcome.{Outcome}
-use Rattle.search.specs.declared.Outcome.the-variants as outcome
+use Rattle.search_path.specs.declared.Outcome.{Outcome}
+use Rattle.search_path.specs.declared.Outcome.the-variants as outcome
 use Rattle.trip_call.specs.declared.answer.Arrival.{Arrival}
 use Rattle.trip_call.specs.declared.answer.Answer.{Answer}
 use Rattle.trip_call.specs.declared.answer.Answer.the-variants.{Arrived, Refused}
 use Rattle.trip_call.specs.Trip.{told, searched, tripAnswer, tripRoads}
 use Rattle.trip_call.specs.Drive.{count-is}
-use Rattle.trips.specs.Flagged.{flaggedBegin}
+use Rattle.trip.specs.Flagged.{flaggedBegin}
 use Rattle.sheet_line.specs.declared.line.Asking.{Asking}
 use Rattle.sheet_line.specs.declared.line.Line.{Line}
 use Rattle.sheet_line.specs.declared.line.Line.the-variants.{Asks, Other}

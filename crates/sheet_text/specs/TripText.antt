@@ -4,7 +4,7 @@ use mathlib.Core.List.{List, [], _∷_, _++_}
 use Prim.Native.Nat.{ℕ}
 use Rattle.trip_call.specs.declared.answer.Answer.{Answer}
 use Rattle.trip_call.specs.declared.answer.Answer.the-variants.{Arrived, Refused}
-use Rattle.trips.specs.Calls.{flaggedCall, flaggedPath}
+use Rattle.trip.specs.Calls.{flaggedCall, flaggedPath}
 use Rattle.sheet_line.specs.declared.line.Asking.{Asking}
 use Rattle.sheet_line.specs.declared.line.Line.{Line}
 use Rattle.sheet_line.specs.declared.line.Line.the-variants.{Asks, Other}

@@ -11,7 +11,7 @@ use sheet_line::line::Scan;
 use sheet_line::line::ended;
 use trip_call::answer::Answer;
 use trip_call::answer::Arrival;
-use trips::flagged::flagged_trip;
+use trip::flagged::flagged_trip;
 ghost use mathlib.Core.List.{[], _∷_, _++_};
 ghost use Prim.Native.Nat.{_+_, _≤_};
 ghost use lib.ListN.{length, take};

@@ -7,12 +7,12 @@ use native.Mathlib.Omega.{arith}
 use lib.ListN.{length}
 use lib.Dec.{eqb, ltb}
 use borrow.Author.Tests.{ltb-false}
-use Rattle.loops.specs.Fill.{tab, length-tab, tab-list, filled-none, filled-list}
-use Rattle.paths.specs.Graph.{Permit}
-use Rattle.paths.specs.Earliest.{never}
-use Rattle.paths.specs.Labels.{label, labels}
-use Rattle.paths.specs.Chosen.{chosen}
-use Rattle.paths.specs.Agree.{labels-permit, chosen-permit}
+use Rattle.theory_loops.specs.Fill.{tab, length-tab, tab-list, filled-none, filled-list}
+use Rattle.theory_paths.specs.Graph.{Permit}
+use Rattle.theory_paths.specs.Earliest.{never}
+use Rattle.theory_paths.specs.Labels.{label, labels}
+use Rattle.theory_paths.specs.Chosen.{chosen}
+use Rattle.theory_paths.specs.Agree.{labels-permit, chosen-permit}
 use Rattle.network.specs.declared.answer.Opening.{Opening}
 use Rattle.network.specs.declared.answer.Opening.the-variants.{Opened, Refused}
 use Rattle.network.specs.declared.header.Header.{Header}
@@ -24,11 +24,11 @@ use Rattle.network.specs.Sound.{SoundNetwork}
 use Rattle.network.specs.Valid.{ValidFile, valid-laid}
 use Rattle.network_open.specs.Open.{overwritten}
 use Rattle.network.specs.Town.{graphOf}
-use Rattle.search.specs.declared.Trip.{Trip}
-use Rattle.search.specs.declared.Outcome.{Outcome}
-use Rattle.search.specs.declared.Outcome.the-variants.{Arrived, NoWay, Short}
-use Rattle.search.specs.Answer.{Answered, outcomeOf, entryOf}
-use Rattle.search.specs.Trim.{shown}
+use Rattle.search_path.specs.declared.Trip.{Trip}
+use Rattle.search_path.specs.declared.Outcome.{Outcome}
+use Rattle.search_path.specs.declared.Outcome.the-variants.{Arrived, NoWay, Short}
+use Rattle.search_path.specs.Answer.{Answered, outcomeOf, entryOf}
+use Rattle.search_path.specs.Trim.{shown}
 use Rattle.trip_call.specs.declared.answer.Answer.{Answer}
 use Rattle.trip_call.specs.declared.answer.Answer.the-variants as answer
 use Rattle.trip_call.specs.Trip.{told, searched, tripArrivals, tripRoads}

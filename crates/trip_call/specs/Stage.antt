@@ -6,8 +6,8 @@ use Prim.Native.Nat.{ℕ, _≤_, _<_}
 use native.Mathlib.Omega.{arith}
 use lib.Dec.{leb, ltb}
 use borrow.Author.Tests.{leb-false, ltb-false}
-use Rattle.loops.specs.Pick.{passed-by}
-use Rattle.paths.specs.Graph.{Permit}
+use Rattle.theory_loops.specs.Pick.{passed-by}
+use Rattle.theory_paths.specs.Graph.{Permit}
 use Rattle.network.specs.declared.answer.Refusal.{Refusal}
 use Rattle.network.specs.declared.answer.Opening.{Opening}
 use Rattle.network.specs.declared.answer.Opening.the-variants.{Opened, Refused}
@@ -15,7 +15,7 @@ use Rattle.network.specs.declared.header.Header.{Header}
 use Rattle.network.specs.Network.{Network}
 use Rattle.network.specs.Validate.{refused, validated}
 use Rattle.network.specs.Valid.{ValidFile, valid-exactly}
-use Rattle.search.specs.declared.Outcome.{Outcome}
+use Rattle.search_path.specs.declared.Outcome.{Outcome}
 use Rattle.trip_call.specs.declared.answer.Answer.{Answer}
 use Rattle.trip_call.specs.declared.answer.Answer.the-variants as answer
 use Rattle.trip_call.specs.Trip.{asked, andThen, told, tripAnswer, tripArrivals}

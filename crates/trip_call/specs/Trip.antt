@@ -6,10 +6,10 @@ use mathlib.Core.List.{List}
 use Prim.Native.Nat.{ℕ}
 use lib.ListN.{length}
 use lib.Dec.{leb, ltb}
-use Rattle.loops.specs.Fill.{tab}
-use Rattle.paths.specs.Graph.{Permit}
-use Rattle.paths.specs.Labels.{label, labels}
-use Rattle.paths.specs.Chosen.{chosen}
+use Rattle.theory_loops.specs.Fill.{tab}
+use Rattle.theory_paths.specs.Graph.{Permit}
+use Rattle.theory_paths.specs.Labels.{label, labels}
+use Rattle.theory_paths.specs.Chosen.{chosen}
 use Rattle.network.specs.declared.answer.Refusal.{Refusal}
 use Rattle.network.specs.declared.answer.Opening.{Opening}
 use Rattle.network.specs.declared.answer.Opening.the-variants.{Opened, Refused}
@@ -19,11 +19,11 @@ use Rattle.network.specs.Rules.{refusal}
 use Rattle.network.specs.Validate.{refused}
 use Rattle.network_open.specs.Open.{overwritten}
 use Rattle.network.specs.Town.{graphOf}
-use Rattle.search.specs.declared.Trip.{Trip}
-use Rattle.search.specs.declared.Outcome.{Outcome}
-use Rattle.search.specs.declared.Outcome.the-variants.{Arrived, NoWay, Short}
-use Rattle.search.specs.Answer.{outcomeOf}
-use Rattle.search.specs.Trim.{shown}
+use Rattle.search_path.specs.declared.Trip.{Trip}
+use Rattle.search_path.specs.declared.Outcome.{Outcome}
+use Rattle.search_path.specs.declared.Outcome.the-variants.{Arrived, NoWay, Short}
+use Rattle.search_path.specs.Answer.{outcomeOf}
+use Rattle.search_path.specs.Trim.{shown}
 use Rattle.trip_call.specs.declared.answer.Answer.{Answer}
 use Rattle.trip_call.specs.declared.answer.Answer.the-variants as answer
 

@@ -1,7 +1,7 @@
 // What a trip answers: the tick of arrival with the count of roads, or a refusal with its number and three places.
 use network::answer::Refusal;
 use network::answer::refuse;
-use search::Outcome;
+use search_path::Outcome;
 ghost use mathlib.Core.Path.{_≡_};
 ghost use Rattle.trip_call.specs.Trip;
 

@@ -2,19 +2,19 @@
 use crate::answer::Answer;
 use crate::answer::told;
 use network::header::Header;
-use search::search;
+use search_path::search;
 ghost use mathlib.Core.Path.{_≡_};
 ghost use Prim.Native.Nat.{_≤_, _<_};
 ghost use lib.ListN.{length};
-ghost use Rattle.loops.specs.Fill.{tab};
-ghost use Rattle.paths.specs.Labels.{labels};
+ghost use Rattle.theory_loops.specs.Fill.{tab};
+ghost use Rattle.theory_paths.specs.Labels.{labels};
 ghost use Rattle.network.specs.Network.{nodes};
 ghost use Rattle.network.specs.Decode.{decode};
 ghost use Rattle.network.specs.Valid.{ValidFile};
 ghost use Rattle.network_open.specs.Open.{overwritten};
 ghost use Rattle.network.specs.Town.{graphOf};
-ghost use Rattle.labels.specs.Ready.{permitOf};
-ghost use Rattle.search.specs.Trim.{shown};
+ghost use Rattle.search_labels.specs.Ready.{permitOf};
+ghost use Rattle.search_path.specs.Trim.{shown};
 ghost use Rattle.trip_call.specs.Trip.{told as toldOf, searched, tripRoads};
 
 // The trip over the arcs whose entry in the mask is 1.

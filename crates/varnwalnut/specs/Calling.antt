@@ -6,9 +6,9 @@ use native.Mathlib.Omega.{arith}
 use lib.ListN.{length, take, drop, replicate, length-replicate}
 use lib.Seq.{sets, take-append-seam}
 use borrow.Author.Tests.{lt-ltb, le-ltb}
-use Rattle.loops.specs.Stores.{stored-front}
-use Rattle.paths.specs.Graph.{Permit, all}
-use Rattle.paths.specs.Labels.{label, labels}
+use Rattle.theory_loops.specs.Stores.{stored-front}
+use Rattle.theory_paths.specs.Graph.{Permit, all}
+use Rattle.theory_paths.specs.Labels.{label, labels}
 use Rattle.network.specs.declared.answer.Opening.{Opening}
 use Rattle.network.specs.declared.answer.Opening.the-variants.{Opened, Refused}
 use Rattle.network_pack.specs.declared.pack.Packing.{Packing}
@@ -24,14 +24,14 @@ use Rattle.trip_call.specs.declared.answer.Answer.{Answer}
 use Rattle.trip_call.specs.declared.answer.Answer.the-variants as answer
 use Rattle.trip_call.specs.Trip.{searched, tripAnswer, tripRoads}
 use Rattle.trip_call.specs.Drive.{count-is}
-use Rattle.trips.specs.Plain.{plainBegin, begun}
-use Rattle.trips.specs.Flagged.{flaggedBegin}
-use Rattle.trips.specs.Promise.{told-trip}
-use Rattle.trips.specs.Numbers.{plain-before, flagged-before, flagged-begun, count-few}
-use Rattle.replies.specs.Reply.{tripBytes, tripCode, tripCount}
+use Rattle.trip.specs.Plain.{plainBegin, begun}
+use Rattle.trip.specs.Flagged.{flaggedBegin}
+use Rattle.trip.specs.Promise.{told-trip}
+use Rattle.trip.specs.Numbers.{plain-before, flagged-before, flagged-begun, count-few}
+use Rattle.c_replies.specs.Reply.{tripBytes, tripCode, tripCount}
 use Rattle.varnwalnut.specs.Room.{roomed, kept}
-use Rattle.replies.specs.Writing.{arrived-long, refused-long}
-use Rattle.trips.specs.Calls.{pathOf, plainAnswer, flaggedAnswer}
+use Rattle.c_replies.specs.Writing.{arrived-long, refused-long}
+use Rattle.trip.specs.Calls.{pathOf, plainAnswer, flaggedAnswer}
 
 -- ROOM
 module _ (w room : ℕ) where

@@ -5,16 +5,16 @@ use mathlib.Core.Logic.{_⊎_}
 use mathlib.Core.List.{List}
 use Prim.Native.Nat.{ℕ, _≤_}
 use native.Mathlib.Omega.{arith}
-use Rattle.paths.specs.Graph.{all}
+use Rattle.theory_paths.specs.Graph.{all}
 use Rattle.network.specs.declared.answer.Refusal.{Refusal}
 use Rattle.network.specs.Decode.{decode}
 use Rattle.plan.specs.PlanDecode.{decodePlan}
 use Rattle.plan_check.specs.Promise.{towards}
 use Rattle.trip_call.specs.declared.answer.Answer.the-variants as answer
-use Rattle.trips.specs.Plain.{plainBegin, begun}
-use Rattle.trips.specs.Flagged.{flaggedBegin}
-use Rattle.trips.specs.Numbers.{plain-before, plain-roomy, flagged-before, flagged-roomy, flagged-begun, no-short}
-use Rattle.trips.specs.Calls.{plainCall, flaggedCall}
+use Rattle.trip.specs.Plain.{plainBegin, begun}
+use Rattle.trip.specs.Flagged.{flaggedBegin}
+use Rattle.trip.specs.Numbers.{plain-before, plain-roomy, flagged-before, flagged-roomy, flagged-begun, no-short}
+use Rattle.trip.specs.Calls.{plainCall, flaggedCall}
 
 pub plain-never-short : (network : List ℕ) (from to departure : ℕ) (r : Refusal) → plainCall network from to departure ≡ answer.Refused r
     → (r .number ≤ 26) ⊎ (r .number ≡ 28)

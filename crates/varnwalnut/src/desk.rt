@@ -4,15 +4,15 @@ use crate::SHORT;
 use network_open::open::open_network;
 use network_pack::pack::pack_network;
 use plan_check::check::check_plan;
-use replies::numbers::write_checking;
-use replies::numbers::write_lists;
-use replies::numbers::write_opening;
-use replies::numbers::write_packing;
-use trips::flagged::flagged_trip;
-use trips::plain::plain_trip;
+use c_replies::numbers::write_checking;
+use c_replies::numbers::write_lists;
+use c_replies::numbers::write_opening;
+use c_replies::numbers::write_packing;
+use trip::flagged::flagged_trip;
+use trip::plain::plain_trip;
 ghost use mathlib.Core.Path.{_≡_};
 ghost use lib.ListN.{length};
-ghost use Rattle.paths.specs.Graph.{all};
+ghost use Rattle.theory_paths.specs.Graph.{all};
 ghost use Rattle.network.specs.Decode.{decode};
 ghost use Rattle.network_encode.specs.Encode.{encode};
 ghost use Rattle.network_open.specs.Open.{overwritten, tableAfter};
@@ -24,11 +24,11 @@ ghost use Rattle.plan.specs.PlanDecode.{decodePlan};
 ghost use Rattle.plan_check.specs.Promise.{towards};
 ghost use Rattle.plan_check.specs.CheckPlan.{checking as checkingOf};
 ghost use Rattle.trip_call.specs.Trip.{tripArrivals, tripRoads};
-ghost use Rattle.trips.specs.Plain.{plainBegin};
-ghost use Rattle.trips.specs.Flagged.{flaggedBegin};
-ghost use Rattle.replies.specs.Reply.{checkNumbers, checkCode, openNumbers, openCode, packNumbers, packCode, tripNumbers, tripCode};
+ghost use Rattle.trip.specs.Plain.{plainBegin};
+ghost use Rattle.trip.specs.Flagged.{flaggedBegin};
+ghost use Rattle.c_replies.specs.Reply.{checkNumbers, checkCode, openNumbers, openCode, packNumbers, packCode, tripNumbers, tripCode};
 ghost use Rattle.varnwalnut.specs.Room.{roomed, kept};
-ghost use Rattle.trips.specs.Calls.{plainAnswer, flaggedAnswer};
+ghost use Rattle.trip.specs.Calls.{plainAnswer, flaggedAnswer};
 
 // Is the plan one that the flagged trips of the network may trust?
 #[no_mangle]

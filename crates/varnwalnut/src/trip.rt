@@ -1,14 +1,14 @@
 // The tablet's two trips: numbers and byte lists in, an answer in lent bytes. Below 1,032 bytes the answer is 31 and nothing is written.
 use crate::SHORT;
-use replies::trip::write_trip;
-use trips::flagged::flagged_trip;
-use trips::plain::plain_trip;
+use c_replies::trip::write_trip;
+use trip::flagged::flagged_trip;
+use trip::plain::plain_trip;
 ghost use mathlib.Core.Path.{_≡_};
 ghost use lib.ListN.{length};
 ghost use Rattle.network_open.specs.Open.{overwritten};
-ghost use Rattle.replies.specs.Reply.{tripBytes, tripCode};
+ghost use Rattle.c_replies.specs.Reply.{tripBytes, tripCode};
 ghost use Rattle.varnwalnut.specs.Room.{roomed, kept};
-ghost use Rattle.trips.specs.Calls.{plainCall, plainPath, flaggedCall, flaggedPath};
+ghost use Rattle.trip.specs.Calls.{plainCall, plainPath, flaggedCall, flaggedPath};
 
 // The bytes of the longest answer to a trip, which lists 511 roads.
 const TRIP_BYTES: usize = 1032;

@@ -1,8 +1,8 @@
 -- `network_encode::encode::encode_network` meets its contract.
 use Rattle.network_encode.specs.Written.{file-more, file-whole}
 use Prim.Native.Nat.{_-_, _*_, _≤_}
-use Rattle.loops.specs.Fill.{Filled, fill-none}
-use Rattle.blocks.specs.Bytes.{fileByte}
+use Rattle.theory_loops.specs.Fill.{Filled, fill-none}
+use Rattle.file_blocks.specs.Bytes.{fileByte}
 use Rattle.network_encode.specs.Encode.{bodyBy}
 use Rattle.network_encode.specs.Tables.{networkOf}
 use borrow.Author.Needs.{needs}

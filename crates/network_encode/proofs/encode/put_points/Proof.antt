@@ -1,6 +1,6 @@
 -- `network_encode::encode::put_points` meets its contract.
 use Prim.Native.Nat.{_+_, _-_, _*_, _≤_}
-use Rattle.loops.specs.Fill.{Filled}
+use Rattle.theory_loops.specs.Fill.{Filled}
 use Rattle.network_encode.specs.Encode.{pointByte}
 use Rattle.network_encode.specs.Block.{partByte, entry-none, entry-end}
 use Rattle.network_encode.specs.Written.{point-put}

@@ -1,5 +1,5 @@
 -- `network_open::open::is_short` meets its contract.
-use Rattle.loops.specs.Pick.{picks}
+use Rattle.theory_loops.specs.Pick.{picks}
 use Rattle.network_open.specs.Open.{tooShort}
 use borrow.Author.Needs.{needs}
 use Rattle.network_open.proofs.open.is_short.Statement.{statement}

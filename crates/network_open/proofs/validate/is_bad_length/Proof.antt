@@ -1,5 +1,5 @@
 -- `network_open::validate::is_bad_length` meets its contract.
-use Rattle.loops.specs.Pick.{picks}
+use Rattle.theory_loops.specs.Pick.{picks}
 use Rattle.network.specs.Validate.{badLength}
 use Rattle.network_open.proofs.validate.is_bad_length.Statement.{statement}
 use Rattle.network_open.proofs.validate.is_bad_length.Tie as tie

@@ -2,7 +2,7 @@
 use Rattle.network.specs.Validate.{length-fine}
 use native.Mathlib.Omega.{arith}
 use Rattle.network.specs.Validate.{validated}
-use Rattle.loops.specs.Pick.{picks}
+use Rattle.theory_loops.specs.Pick.{picks}
 use borrow.Author.Needs.{needs}
 use Rattle.network_open.proofs.validate.validate.Statement.{statement}
 use Rattle.network_open.proofs.validate.validate.Tie as tie

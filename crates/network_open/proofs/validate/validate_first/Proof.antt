@@ -1,6 +1,6 @@
 -- `network_open::validate::validate_first` meets its contract.
 use Rattle.network.specs.Validate.{validatedFirst}
-use Rattle.loops.specs.Pick.{picks}
+use Rattle.theory_loops.specs.Pick.{picks}
 use borrow.Author.Needs.{needs}
 use Rattle.network_open.proofs.validate.validate_first.Statement.{statement}
 use Rattle.network_open.proofs.validate.validate_first.Tie as tie

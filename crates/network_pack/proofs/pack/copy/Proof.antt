@@ -5,7 +5,7 @@ use native.Mathlib.Omega.{arith}
 use Rattle.network_pack.specs.Front.{copied}
 use Prim.Native.Nat.{_-_, _≤_, _<_, zero-le}
 use lib.ListN.{length, getD}
-use Rattle.loops.specs.Fill.{Filled, fill-none, fill-up}
+use Rattle.theory_loops.specs.Fill.{Filled, fill-none, fill-up}
 use borrow.Author.Needs.{needs}
 use Rattle.network_pack.proofs.pack.copy.Statement.{statement}
 use Rattle.network_pack.proofs.pack.copy.Tie as tie

@@ -1,5 +1,5 @@
 -- `network_rules::rules::bad_ends` meets its contract.
-use Rattle.loops.specs.Pick.{picks}
+use Rattle.theory_loops.specs.Pick.{picks}
 use Rattle.network.specs.Rules.{badEnds}
 use Rattle.network_rules.proofs.rules.bad_ends.Statement.{statement}
 use Rattle.network_rules.proofs.rules.bad_ends.Tie as tie

@@ -1,5 +1,5 @@
 -- `network_rules::rules::bad_point` meets its contract.
-use Rattle.loops.specs.Pick.{picks}
+use Rattle.theory_loops.specs.Pick.{picks}
 use Rattle.network.specs.Rules.{badPointBy}
 use borrow.Author.Needs.{needs}
 use Rattle.network_rules.proofs.rules.bad_point.Statement.{statement}

@@ -4,7 +4,7 @@ use native.Mathlib.Omega.{arith}
 use Rattle.network.specs.Decode.{laid-small}
 use Rattle.network_rules.specs.Scan.{scan-more}
 use Prim.Native.Nat.{_-_}
-use Rattle.travel.specs.Table.{entryAt}
+use Rattle.theory_travel.specs.Table.{entryAt}
 use Rattle.network.specs.Decode.{decode}
 use Rattle.network_rules.specs.Scan.{Scanning, scans}
 use borrow.Author.Needs.{needs}

@@ -1,7 +1,7 @@
 -- `network_rules::rules::first_bad_cell` meets its contract.
 use mathlib.Core.Path.{_≡_}
 use Prim.Native.Nat.{_≤_, _-_}
-use Rattle.loops.specs.First.{first, firsts}
+use Rattle.theory_loops.specs.First.{first, firsts}
 use Rattle.network.specs.Decode.{decode}
 use Rattle.network.specs.Rules.{badCell}
 use borrow.Author.Needs.{needs}

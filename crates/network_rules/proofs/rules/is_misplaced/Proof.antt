@@ -1,5 +1,5 @@
 -- `network_rules::rules::is_misplaced` meets its contract.
-use Rattle.loops.specs.Pick.{picks}
+use Rattle.theory_loops.specs.Pick.{picks}
 use Rattle.network.specs.Rules.{misplaced}
 use Rattle.network_rules.proofs.rules.is_misplaced.Statement.{statement}
 use Rattle.network_rules.proofs.rules.is_misplaced.Tie as tie

@@ -1,5 +1,5 @@
 -- `network_rules::rules::late_in` meets its contract.
-use Rattle.loops.specs.Pick.{picks}
+use Rattle.theory_loops.specs.Pick.{picks}
 use Rattle.network_rules.specs.ScanAll.{lateIn}
 use borrow.Author.Needs.{needs}
 use Rattle.network_rules.proofs.rules.late_in.Statement.{statement}

@@ -2,8 +2,8 @@
 use native.Mathlib.Omega.{arith}
 use mathlib.Core.Path.{_≡_}
 use Prim.Native.Nat.{_≤_, _-_, _*_}
-use Rattle.loops.specs.First.{first, firsts}
-use Rattle.loops.specs.Total.{total, totals}
+use Rattle.theory_loops.specs.First.{first, firsts}
+use Rattle.theory_loops.specs.Total.{total, totals}
 use Rattle.network.specs.Decode.{decode, laid-small}
 use Rattle.network.specs.Network.{start, count}
 use Rattle.network.specs.Rules.{badArc}

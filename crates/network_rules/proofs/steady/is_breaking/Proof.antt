@@ -1,5 +1,5 @@
 -- `network_rules::steady::is_breaking` meets its contract.
-use Rattle.loops.specs.Pick.{picks}
+use Rattle.theory_loops.specs.Pick.{picks}
 use Rattle.network_rules.specs.Steady.{breaks}
 use borrow.Author.Needs.{needs}
 use Rattle.network_rules.proofs.steady.is_breaking.Statement.{statement}

@@ -5,7 +5,7 @@ use Prim.Native.Nat.{_≤_, _-_}
 use native.Mathlib.Omega.{arith}
 use lib.ListN.{length}
 use borrow.Author.Needs.{needs}
-use Rattle.loops.specs.Select.{Chosen, chooses, choose-yes, choose-no, choose-end}
+use Rattle.theory_loops.specs.Select.{Chosen, chooses, choose-yes, choose-no, choose-end}
 use Rattle.network.specs.Network.{nodes, arcs}
 use Rattle.network.specs.Decode.{decode, laid-sizes, laid-small}
 use Rattle.plan.specs.Border.{isBorder}

@@ -1,5 +1,5 @@
 -- `plan_check::check::check_tests` meets its contract: 20 is tried first, and the tables that are filled then are those that the other tests ask for.
-use Rattle.arcs.specs.Town.{fresh-tables}
+use Rattle.search_arcs.specs.Town.{fresh-tables}
 use Rattle.plan_check.specs.Finding.{checks, equipped-of}
 use borrow.Author.Needs.{needs}
 use Rattle.plan_check.proofs.check.check_tests.Statement.{statement}

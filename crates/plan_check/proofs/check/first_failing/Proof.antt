@@ -4,8 +4,8 @@ use mathlib.Core.Path.{_≡_, refl, sym, _∙_}
 use Prim.Native.Nat.{_≤_, _-_, _*_}
 use lib.Dec.{lit≤}
 use lib.ListN.{length}
-use Rattle.loops.specs.First.{first, any, none-yet, pass, no-any}
-use Rattle.loops.specs.Triple.{triple-at, triple-past}
+use Rattle.theory_loops.specs.First.{first, any, none-yet, pass, no-any}
+use Rattle.theory_loops.specs.Triple.{triple-at, triple-past}
 use Rattle.network.specs.Decode.{decode}
 use Rattle.plan_check.specs.declared.check.Found.the-variants.{Nothing}
 use Rattle.plan.specs.Plan.{pointStart}

@@ -4,7 +4,7 @@ use Rattle.plan.specs.PlanDecode.{decodePlan}
 use Rattle.network.specs.Decode.{decode}
 use Prim.Native.Nat.{_≤_, _-_}
 use mathlib.Core.Path.{_≡_}
-use Rattle.loops.specs.First.{first, firsts}
+use Rattle.theory_loops.specs.First.{first, firsts}
 use borrow.Author.Needs.{needs}
 use Rattle.plan_check.proofs.check.first_unflagged.Statement.{statement}
 use Rattle.plan_check.proofs.check.first_unflagged.Tie as tie

@@ -1,6 +1,6 @@
 -- `sheet_line::line::ended` meets its contract.
 use borrow.Author.Tests.{not-true, not-false}
-use Rattle.loops.specs.Pick.{picks}
+use Rattle.theory_loops.specs.Pick.{picks}
 use Rattle.sheet_line.specs.Scanning.{ended}
 use Rattle.sheet_line.proofs.line.ended.Statement.{statement}
 use Rattle.sheet_line.proofs.line.ended.Tie as tie

@@ -1,6 +1,6 @@
 -- `sheet_line::line::scan_digit` meets its contract.
 use borrow.Author.Tests.{not-true, not-false}
-use Rattle.loops.specs.Pick.{picks}
+use Rattle.theory_loops.specs.Pick.{picks}
 use Rattle.sheet_line.specs.Scanning.{digitScanned}
 use borrow.Author.Needs.{needs}
 use Rattle.sheet_line.proofs.line.scan_digit.Statement.{statement}

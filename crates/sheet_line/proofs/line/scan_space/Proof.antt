@@ -1,6 +1,6 @@
 -- `sheet_line::line::scan_space` meets its contract.
 use borrow.Author.Tests.{not-true, not-false}
-use Rattle.loops.specs.Pick.{picks}
+use Rattle.theory_loops.specs.Pick.{picks}
 use Rattle.sheet_line.specs.Scanning.{spaceScanned}
 use borrow.Author.Needs.{needs}
 use Rattle.sheet_line.proofs.line.scan_space.Statement.{statement}

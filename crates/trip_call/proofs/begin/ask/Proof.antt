@@ -1,5 +1,5 @@
 -- `trip_call::begin::ask` meets its contract.
-use Rattle.loops.specs.Pick.{picks}
+use Rattle.theory_loops.specs.Pick.{picks}
 use Rattle.trip_call.specs.Trip.{asked}
 use borrow.Author.Needs.{needs}
 use Rattle.trip_call.proofs.begin.ask.Statement.{statement}

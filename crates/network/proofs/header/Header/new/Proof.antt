@@ -1,5 +1,5 @@
 -- `network::header::Header::new` meets its contract.
-use Rattle.loops.specs.Pick.{picks}
+use Rattle.theory_loops.specs.Pick.{picks}
 use Rattle.network.specs.Limits.{made}
 use borrow.Author.Needs.{needs}
 use Rattle.network.proofs.header.Header.new.Statement.{statement}

@@ -1,0 +1,56 @@
+-- `c_replies::numbers::write_lists` meets its contract.
+use Rattle.c_replies.specs.Writing.{replies, numberings}
+use native.Mathlib.Omega.{arith}
+use Prim.Native.Nat.{_≤_}
+use borrow.Author.Needs.{needs}
+use Rattle.c_replies.proofs.numbers.write_lists.Statement.{statement}
+use Rattle.c_replies.proofs.numbers.write_lists.Tie as tie
+
+enum-known-trip : tie.Need-enum-known-trip
+enum-known-trip c = search needs
+
+cast-t8 : tie.Need-cast-t8
+cast-t8 c = let l : c .before .before .trip .given .0 .0 .count ≤ 511 = search replies in omega arith
+
+slice-aggregate-write : tie.Need-slice-aggregate-write
+slice-aggregate-write c = search needs
+
+write-requires : tie.Need-write-requires
+write-requires c κs = search needs
+
+enum-known-trip-2 : tie.Need-enum-known-trip-2
+enum-known-trip-2 c = search needs
+
+slice-aggregate-write-2 : tie.Need-slice-aggregate-write-2
+slice-aggregate-write-2 c = search needs
+
+write-requires-2 : tie.Need-write-requires-2
+write-requires-2 c κs = search needs
+
+same-length : tie.Need-same-length
+same-length c = search needs
+
+returns : tie.Need-returns
+returns c = (cc, search numberings)
+
+same-length-2 : tie.Need-same-length-2
+same-length-2 c = search needs
+
+returns-2 : tie.Need-returns-2
+returns-2 c = (cc, search numberings)
+
+pub write-lists-spec : {M : Type 1} → statement M
+write-lists-spec =
+    tie.close
+    (tie.spec
+    enum-known-trip
+    cast-t8
+    slice-aggregate-write
+    write-requires
+    enum-known-trip-2
+    slice-aggregate-write-2
+    write-requires-2
+    same-length
+    returns
+    same-length-2
+    returns-2)

@@ -1,0 +1,110 @@
+// The desk's answers in lent numbers: the three places of a refusal, then the answer's own numbers. Each returns the refusal, or 0.
+use network::answer::Opening;
+use network_pack::pack::Packing;
+use plan_check::answer::Checking;
+use trip_call::answer::Answer;
+ghost use mathlib.Core.Path.{_≡_};
+ghost use Prim.Native.Nat.{_≤_};
+ghost use lib.ListN.{length};
+ghost use Rattle.network_open.specs.Open.{overwritten};
+ghost use Rattle.c_replies.specs.Reply.{checkNumbers, checkCode, openNumbers, openCode, packNumbers, packCode, tripNumbers, tripCode, tripCount};
+
+// The numbers become the first of the lent ones.
+fn write(numbers: &[u32], answer: &mut [u32])
+    requires { ⌜ length (now numbers) ≤ length (now answer) ⌝ }
+    ensures { λ _. ⌜ now (answer .exit) ≡ overwritten (now (numbers .entry)) (now (answer .entry)) ⌝ }
+{
+    for i in 0..numbers.len() {
+        answer[i] = numbers[i];
+    }
+}
+
+// What the check answers.
+pub fn write_checking(checking: Checking, answer: &mut [u32]) -> u32
+    requires { ⌜ 3 ≤ length (now answer) ⌝ }
+    ensures code { λ r. ⌜ r ≡ checkCode checking ⌝ }
+    ensures numbers { λ _. ⌜ now (answer .exit) ≡ overwritten (checkNumbers checking) (now (answer .entry)) ⌝ }
+{
+    match checking {
+        Checking::Accepted => {
+            let numbers = [0u32, 0, 0];
+            write(&numbers, answer);
+            0
+        }
+        Checking::Refused(r) => {
+            let numbers = [r.first, r.second, r.third];
+            write(&numbers, answer);
+            r.number
+        }
+    }
+}
+
+// What Open answers.
+pub fn write_opening(opening: Opening, answer: &mut [u32]) -> u32
+    requires { ⌜ 9 ≤ length (now answer) ⌝ }
+    ensures code { λ r. ⌜ r ≡ openCode opening ⌝ }
+    ensures numbers { λ _. ⌜ now (answer .exit) ≡ overwritten (openNumbers opening) (now (answer .entry)) ⌝ }
+{
+    match opening {
+        Opening::Opened(h) => {
+            let numbers = [
+                0,
+                0,
+                0,
+                h.number,
+                h.period as u32,
+                h.nodes as u32,
+                h.arcs as u32,
+                h.cells as u32,
+                h.points,
+            ];
+            write(&numbers, answer);
+            0
+        }
+        Opening::Refused(r) => {
+            let numbers = [r.first, r.second, r.third, 0, 0, 0, 0, 0, 0];
+            write(&numbers, answer);
+            r.number
+        }
+    }
+}
+
+// What Pack answers.
+pub fn write_packing(packing: Packing, answer: &mut [u32]) -> u32
+    requires { ⌜ 4 ≤ length (now answer) ⌝ }
+    ensures code { λ r. ⌜ r ≡ packCode packing ⌝ }
+    ensures numbers { λ _. ⌜ now (answer .exit) ≡ overwritten (packNumbers packing) (now (answer .entry)) ⌝ }
+{
+    match packing {
+        Packing::Packed(l) => {
+            let numbers = [0, 0, 0, l.bytes];
+            write(&numbers, answer);
+            0
+        }
+        Packing::Refused(r) => {
+            let numbers = [r.first, r.second, r.third, 0];
+            write(&numbers, answer);
+            r.number
+        }
+    }
+}
+
+// What a trip answers.
+pub fn write_lists(trip: Answer, answer: &mut [u32]) -> u32
+    requires { ⌜ (tripCount trip ≤ 511) × (5 ≤ length (now answer)) ⌝ }
+    ensures code { λ r. ⌜ r ≡ tripCode trip ⌝ }
+    ensures numbers { λ _. ⌜ now (answer .exit) ≡ overwritten (tripNumbers trip) (now (answer .entry)) ⌝ }
+{
+    match trip {
+        Answer::Arrived(a) => {
+            let numbers = [0, 0, 0, a.tick, a.count as u32];
+            write(&numbers, answer);
+            0
+        }
+        Answer::Refused(r) => {
+            let numbers = [r.first, r.second, r.third, 0, 0];
+            write(&numbers, answer);
+            r.number
+        }
+    }
+}

@@ -1,0 +1,148 @@
+// example_program: the worked example, run and printed, a line for each row.
+//   town   the town's files: the network packed from its tables, plans read from files
+//   print  answers as lines
+// The same rows are proved from the files' bytes in one theorem (`example_theorem`). The program calls every operation, and `io` and `os` for its input and output.
+mod print;
+mod town;
+
+use print::end_line;
+use print::print_checking;
+use print::print_number;
+use print::print_opening;
+use print::print_packing;
+use print::print_trip;
+use print::say;
+use town::LONG;
+ghost use mathlib.Core.Path.{_≡_};
+ghost use Prim.Native.Nat.{_%_};
+ghost use Rattle.example_program.specs.Road.{roadTravel};
+
+const PERIOD: u16 = 10;
+
+const TICKS: [u16; 2] = [0, 5];
+
+const TRAVELS: [u32; 2] = [3, 7];
+
+// The travel of road 1 at a tick.
+fn travel_at(tick: u32) -> u32
+    ensures { λ r. ⌜ r ≡ roadTravel (tick % 10) ⌝ }
+{
+    theory_travel::value_at(&TICKS, &TRAVELS, 0, 2, PERIOD, tick)
+}
+
+// Road 1 over its period, on one line.
+fn print_road() {
+    say(b"road 1:");
+    for tick in 0..PERIOD {
+        say(b" ");
+        print_number(travel_at(tick as u32));
+    }
+    end_line();
+}
+
+// A file's opening, with tables that are long enough.
+fn print_open(file: &[u8; 2048]) {
+    let mut cells = [0u16; 4];
+    let mut tails = [0u16; 4];
+    let mut heads = [0u16; 4];
+    let mut counts = [0u16; 4];
+    let mut ticks = [0u16; 5];
+    let mut travels = [0u16; 5];
+    print_opening(network_open::open::open_network(
+        file,
+        &mut cells,
+        &mut tails,
+        &mut heads,
+        &mut counts,
+        &mut ticks,
+        &mut travels,
+    ));
+}
+
+// The network with another travel at road 1's second point.
+fn print_second_point(travel: u16) {
+    say(b"road 1 with (5,");
+    print_number(travel as u32);
+    say(b"): ");
+    let mut file = [0u8; LONG];
+    print_packing(town::pack(travel, &mut file));
+}
+
+// The opening of the network in a file.
+fn print_file(name: &[u8]) {
+    let mut file = [0u8; LONG];
+    town::read(name, &mut file);
+    say(name);
+    say(b": ");
+    print_open(&file);
+}
+
+// A plain trip.
+fn print_plain(file: &[u8; 2048], from: u32, to: u32, departure: u32) {
+    let mut arrivals = [4294967295u32; 512];
+    let mut roads = [0u16; 511];
+    let answer = trip::plain::plain_trip(file, from, to, departure, &mut arrivals, &mut roads);
+    say(b"plain ");
+    print_trip(from, to, departure, answer, &roads);
+}
+
+// A flagged trip.
+fn print_flagged(file: &[u8; 2048], plan: &[u8; 2048], from: u32, to: u32, departure: u32) {
+    let mut arrivals = [4294967295u32; 512];
+    let mut roads = [0u16; 511];
+    let answer = trip::flagged::flagged_trip(
+        file,
+        plan,
+        from,
+        to,
+        departure,
+        &mut arrivals,
+        &mut roads,
+    );
+    say(b"flagged ");
+    print_trip(from, to, departure, answer, &roads);
+}
+
+// The check's verdict on a plan.
+fn print_verdict(file: &[u8; 2048], plan: &[u8; 2048]) {
+    print_checking(plan_check::check::check_plan(file, plan));
+}
+
+// The check of the plan in a file.
+fn print_check(file: &[u8; 2048], name: &[u8]) {
+    let mut plan = [0u8; LONG];
+    town::read(name, &mut plan);
+    say(name);
+    say(b": ");
+    print_verdict(file, &plan);
+}
+
+fn print_trips(file: &[u8; 2048]) {
+    print_plain(file, 0, 3, 0);
+    print_plain(file, 0, 3, 1);
+    print_plain(file, 0, 3, 8);
+    print_plain(file, 3, 0, 0);
+    print_plain(file, 3, 3, 4);
+    let mut plan = [0u8; LONG];
+    town::read(b"plan.blk", &mut plan);
+    print_flagged(file, &plan, 0, 3, 7);
+    print_flagged(file, &plan, 3, 0, 7);
+}
+
+fn main() {
+    print_road();
+    let mut file = [0u8; LONG];
+    say(b"network: ");
+    print_packing(town::pack(7, &mut file));
+    say(b"the packed network: ");
+    print_open(&file);
+    print_second_point(8);
+    print_second_point(9);
+    print_file(b"travel_9.blk");
+    print_trips(&file);
+    print_check(&file, b"plan.blk");
+    print_check(&file, b"flags_1222.blk");
+    print_check(&file, b"flags_3202.blk");
+    print_check(&file, b"travel_5.blk");
+    print_check(&file, b"travel_7.blk");
+}

@@ -1,0 +1,57 @@
+// A block's check over a slice of exactly 508 bytes, and the check of a block of a file, whose part is lent to the sum.
+// The definition in specs/Sum.antt reduces at each word; the code adds plain numbers and reduces once.
+use crate::fields::le16;
+ghost use mathlib.Core.Path.{_≡_};
+ghost use Prim.Native.Nat.{_+_, _*_, _≤_};
+ghost use lib.ListN.{length};
+ghost use Rattle.file_fields.specs.Sum.{sums, good};
+
+pub struct Sums {
+    pub a: u16,
+    pub b: u16,
+}
+
+// A and B over the 254 words of 508 bytes. Four columns of words are added up side by side, which a processor does at once, and joined at the
+// end with the last two words. All sums stay below 2^32.
+pub fn sums_of(s: &[u8]) -> Sums
+    requires { ⌜ length (now s) ≡ 508 ⌝ }
+    ensures { λ r. ⌜ r ≡ sums (now (s .entry)) 254 ⌝ }
+{
+    let mut a0: u32 = 0;
+    let mut a1: u32 = 0;
+    let mut a2: u32 = 0;
+    let mut a3: u32 = 0;
+    let mut b0: u32 = 0;
+    let mut b1: u32 = 0;
+    let mut b2: u32 = 0;
+    let mut b3: u32 = 0;
+    for i in 0..63 {
+        a0 += le16(s, 8 * i) as u32;
+        a1 += le16(s, 8 * i + 2) as u32;
+        a2 += le16(s, 8 * i + 4) as u32;
+        a3 += le16(s, 8 * i + 6) as u32;
+        b0 += a0;
+        b1 += a1;
+        b2 += a2;
+        b3 += a3;
+    }
+    let x = le16(s, 504) as u32;
+    let y = le16(s, 506) as u32;
+    let a = 1 + a0 + a1 + a2 + a3;
+    let b = 252 + 4 * (b0 + b1 + b2 + b3) - (a1 + 2 * a2 + 3 * a3);
+    Sums {
+        a: ((a + x + y) % 65535) as u16,
+        b: ((b + 2 * a + 2 * x + y) % 65535) as u16,
+    }
+}
+
+// Is block b's check right?
+pub fn is_good(file: &[u8], b: usize) -> bool
+    requires { ⌜ 512 * b + 512 ≤ length (now file) ⌝ }
+    ensures { λ r. ⌜ r ≡ good (now (file .entry)) b ⌝ }
+{
+    let start = 512 * b;
+    let end = start + 508;
+    let r = sums_of(&file[start..end]);
+    r.a == le16(file, end) && r.b == le16(file, end + 2)
+}

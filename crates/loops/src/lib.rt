@@ -1,9 +1,0 @@
-// loops: the shapes that loops have, with their laws. Theory alone, no code, and it calls nothing.
-//   specs/First.antt   the first index that fails a test
-//   specs/Pick.antt    a ladder of tests, each answered by an early return
-//   specs/Triple.antt  the first of three indices that fail a test, by labelled loops
-//   specs/Fill.antt    a part of a lent list is written, the rest stays
-//   specs/Stores.antt  values stored one after the other
-//   specs/Total.antt   a running sum
-//   specs/Select.antt  the indices that pass a test, listed
-// Each file has a ruleset: `search` with it closes most needs of a loop of that shape.

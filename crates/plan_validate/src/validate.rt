@@ -1,0 +1,196 @@
+// Validation of a plan file against a network file that has been validated: refusals 11 to 19, in place, each fault found as the first in its
+// order. Nothing is copied, and every call ends at the first refusal.
+use crate::rules::judge_plan;
+use file_blocks::form::first_unformed;
+use file_blocks::form::is_formed;
+use file_blocks::reader::first_bad_sum;
+use network::answer::Judged;
+use network::header::Header;
+use network::header::Layout;
+use plan::answer::Planning;
+use plan::answer::refused;
+use plan::borders::list_borders;
+use plan::header::PlanHeader;
+use plan::header::PlanLayout;
+use file_fields::fields::le16;
+use file_fields::fields::le32;
+ghost use mathlib.Core.Path.{_≡_};
+ghost use Prim.Native.Nat.{_+_, _*_, _≤_};
+ghost use lib.ListN.{length};
+ghost use Rattle.network.specs.Layout.{layoutOf};
+ghost use Rattle.network.specs.Decode.{decode};
+ghost use Rattle.network.specs.Valid.{ValidFile};
+ghost use Rattle.plan.specs.Border.{borderCount};
+ghost use Rattle.plan.specs.PlanHeader.{planHeaderAt, PlanWithin};
+ghost use Rattle.plan.specs.PlanDecode.{decodePlan, PlanLaid};
+ghost use Rattle.plan.specs.PlanRules.{judgedFlags, judgedBy};
+ghost use Rattle.plan.specs.PlanValidate.{badPlanLength, firstFormed, matching, firstUnformed, plannedRules, plannedForm, plannedLength, plannedHeader, plannedFirst, planned};
+
+// Refusal 11.
+fn is_bad_length(long: usize) -> bool
+    ensures { λ r. ⌜ r ≡ badPlanLength long ⌝ }
+{
+    if long == 0 {
+        return true;
+    }
+    if long % 512 != 0 {
+        return true;
+    }
+    7023616 < long
+}
+
+// The numbers of the first block.
+fn header_at(plan: &[u8]) -> PlanHeader
+    requires { ⌜ 512 ≤ length (now plan) ⌝ }
+    ensures { λ r. ⌜ r ≡ planHeaderAt (now (plan .entry)) ⌝ }
+{
+    PlanHeader {
+        number: le32(plan, 8),
+        period: le16(plan, 12),
+        nodes: le16(plan, 14),
+        arcs: le16(plan, 16),
+        cells: le16(plan, 18),
+        borders: le16(plan, 20),
+        points: le32(plan, 24),
+    }
+}
+
+// Refusal 13 does not apply: the first block's form, the 16 zero bits among its fill.
+fn is_first_formed(plan: &[u8]) -> bool
+    requires { ⌜ 512 ≤ length (now plan) ⌝ }
+    ensures { λ r. ⌜ r ≡ firstFormed (now (plan .entry)) ⌝ }
+{
+    is_formed(plan, 0, 5, 1, 28) && le16(plan, 22) == 0
+}
+
+// Refusal 14 does not apply: the numbers are the network's.
+fn is_matching(h: Header, borders: usize, k: PlanHeader) -> bool
+    ensures { λ r. ⌜ r ≡ matching h borders k ⌝ }
+{
+    if k.number != h.number {
+        return false;
+    }
+    if k.period != h.period {
+        return false;
+    }
+    if k.nodes != h.nodes {
+        return false;
+    }
+    if k.arcs != h.arcs {
+        return false;
+    }
+    if k.cells != h.cells {
+        return false;
+    }
+    let count = k.borders as usize;
+    if count != borders {
+        return false;
+    }
+    k.points <= 1048576
+}
+
+// The first block after the header that is out of its form, or the count of blocks.
+fn first_bad_form(plan: &[u8], l: PlanLayout) -> usize
+    requires { ⌜ PlanLaid (now plan) l ⌝ }
+    ensures { λ r. ⌜ r ≡ firstUnformed (now (plan .entry)) l ⌝ }
+{
+    let i = first_unformed(plan, 1, 6, 62, 8, l.arcs);
+    if 1 + i < l.countblock {
+        return 1 + i;
+    }
+    let j = first_unformed(plan, l.countblock, 7, 250, 2, l.profiles);
+    if l.countblock + j < l.pointblock {
+        return l.countblock + j;
+    }
+    l.pointblock + first_unformed(plan, l.pointblock, 8, 83, 6, l.points)
+}
+
+// Refusals 17 to 19.
+fn validate_rules(plan: &[u8], k: PlanHeader, l: PlanLayout) -> Planning
+    requires { ⌜ PlanLaid (now plan) l ⌝ }
+    ensures { λ r. ⌜ r ≡ plannedRules k (judgedFlags (l .arcs) (l .cells) (l .period) (l .profiles) (decodePlan (now (plan .entry)))) ⌝ }
+{
+    match judge_plan(plan, l) {
+        Judged::Sound => Planning::WellFormed(k),
+        Judged::Faulty(r) => Planning::Refused(r),
+    }
+}
+
+// Refusals 16 to 19.
+fn validate_form(plan: &[u8], k: PlanHeader, l: PlanLayout) -> Planning
+    requires { ⌜ PlanLaid (now plan) l ⌝ }
+    requires { ⌜ k ≡ planHeaderAt (now plan) ⌝ }
+    ensures { λ r. ⌜ r ≡ plannedForm (now (plan .entry)) k (judgedBy k (decodePlan (now (plan .entry)))) ⌝ }
+{
+    let b = first_bad_form(plan, l);
+    if b < l.blocks {
+        return refused(16, b as u32);
+    }
+    validate_rules(plan, k, l)
+}
+
+// Refusals 15 to 19.
+fn validate_length(plan: &[u8], k: PlanHeader) -> Planning
+    requires { ⌜ PlanWithin k ⌝ }
+    requires { ⌜ k ≡ planHeaderAt (now plan) ⌝ }
+    ensures { λ r. ⌜ r ≡ plannedLength (now (plan .entry)) k (judgedBy k (decodePlan (now (plan .entry)))) ⌝ }
+{
+    let l = k.layout();
+    if plan.len() != 512 * l.blocks {
+        return refused(15, 0);
+    }
+    validate_form(plan, k, l)
+}
+
+// How many borders the network has.
+fn count_borders(network: &[u8], h: Header, l: Layout) -> usize
+    requires { ⌜ ValidFile (now network) h ⌝ }
+    requires { ⌜ l ≡ layoutOf h ⌝ }
+    ensures { λ r. ⌜ r ≡ borderCount (decode (now (network .entry))) ⌝ }
+{
+    let mut borders = [0u16; 512];
+    list_borders(network, l, &mut borders)
+}
+
+// Refusals 14 to 19.
+fn validate_header(network: &[u8], h: Header, l: Layout, plan: &[u8]) -> Planning
+    requires { ⌜ ValidFile (now network) h ⌝ }
+    requires { ⌜ l ≡ layoutOf h ⌝ }
+    requires { ⌜ 512 ≤ length (now plan) ⌝ }
+    ensures { λ r. ⌜ r ≡ plannedHeader h (decode (now (network .entry))) (now (plan .entry)) ⌝ }
+{
+    let k = header_at(plan);
+    if is_matching(h, count_borders(network, h, l), k) {
+        return validate_length(plan, k);
+    }
+    refused(14, 0)
+}
+
+// Refusals 13 to 19.
+fn validate_first(network: &[u8], h: Header, l: Layout, plan: &[u8]) -> Planning
+    requires { ⌜ ValidFile (now network) h ⌝ }
+    requires { ⌜ l ≡ layoutOf h ⌝ }
+    requires { ⌜ 512 ≤ length (now plan) ⌝ }
+    ensures { λ r. ⌜ r ≡ plannedFirst h (decode (now (network .entry))) (now (plan .entry)) ⌝ }
+{
+    if is_first_formed(plan) {
+        return validate_header(network, h, l, plan);
+    }
+    refused(13, 0)
+}
+
+// The header of a well-formed plan for the network, or the lowest of the refusals 11 to 19 and its lowest place.
+pub fn validate_plan(network: &[u8], h: Header, l: Layout, plan: &[u8]) -> Planning
+    requires { ⌜ ValidFile (now network) h ⌝ }
+    requires { ⌜ l ≡ layoutOf h ⌝ }
+    ensures { λ r. ⌜ r ≡ planned h (decode (now (network .entry))) (now (plan .entry)) ⌝ }
+{
+    if is_bad_length(plan.len()) {
+        return refused(11, 0);
+    }
+    let b = first_bad_sum(plan);
+    if b < plan.len() / 512 {
+        return refused(12, b as u32);
+    }
+    validate_first(network, h, l, plan)
+}

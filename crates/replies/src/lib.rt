@@ -1,6 +1,0 @@
-// replies: how an answer stands in the memory that C lends, and nothing else.
-//   trip      the tablet's answer to a trip, in bytes
-//   numbers   the desk's answers, in numbers
-// It may call `words` for fields, and names what `network`, `network_pack`, `plan_check` and `trip_call` answer.
-pub mod numbers;
-pub mod trip;

@@ -1,0 +1,83 @@
+-- The laws by which code reads when an arc ends: where the arc's points start, that they are a day's points, and the travel on their line.
+-- Also what fits: first points 16 bits, travels and arrivals 32, with never to spare.
+use mathlib.Core.Path.{_≡_, sym, _∙_}
+use mathlib.Core.List.{List}
+use Prim.Native.Nat.{ℕ, _+_, _%_, _≤_, _<_}
+use native.Mathlib.Nat.{mod-lt, mod-eq-of-lt}
+use native.Mathlib.Omega.{arith}
+use lib.ListN.{length, getD}
+use mir.Val.{Fits}
+use mir.Syntax.{w32, w64}
+use Rattle.theory_loops.specs.Total.{total, total-part}
+use Rattle.theory_paths.specs.Graph.{ends}
+use Rattle.theory_paths.specs.Earliest.{never}
+use Rattle.theory_travel.specs.Day.{Day}
+use Rattle.theory_travel.specs.Table.{entryAt, valueAt}
+use Rattle.network.specs.declared.header.Layout.{Layout}
+use Rattle.network.specs.Network.{count, start}
+use Rattle.network.specs.Decode.{decode}
+use Rattle.network.specs.Town.{graphOf, travelAt, town-bounded}
+use Rattle.search_arcs.specs.Town.{Town, lastTick}
+
+-- a tick of the first day is reduced
+pub first-day : (y period : ℕ) → y < period → y ≡ y % period
+first-day y period h = sym (mod-eq-of-lt h)
+
+module _ {file : List ℕ} {l : Layout} (t : Town file l) where
+  -- any tick, reduced, is one of the period
+  pub reduced : (y x : ℕ) → x ≡ y % l .period → x < l .period
+  reduced y x e = omega (arith, e, mod-lt y (t .small .period-some))
+
+  module _ {a : ℕ} (h : a < l .arcs) where
+    arc-in : a < length (decode file .tails)
+    arc-in = omega (arith, t .sizes .arcs)
+
+    -- an arc's points stand among the points, behind those of the arcs before it
+    points-in : total a (count (decode file)) + count (decode file) a ≤ l .points
+    unfolding start
+    points-in = omega (arith, total-part (count (decode file)) a (length (decode file .tails)) arc-in, t .sound .sum, t .sizes .points)
+
+    pub start-small : (s : ℕ) → s ≡ total a (count (decode file)) → s < 65536
+    start-small s e = omega (arith, points-in, t .small .points-most)
+
+    pub sum-fits : (s m : ℕ) → s ≡ total a (count (decode file)) → m < 65536 → Fits w64 (s + m)
+    sum-fits s m e q = omega (arith, start-small s e)
+
+    -- `from` was read in the table of first points, and m is the count of the arc's points
+    module _ (starts : List ℕ) (from m : ℕ) (d : from ≡ getD starts a 0) (e : getD starts a 0 ≡ start (decode file) a) (q : m ≡ count (decode file) a) where
+      first : from ≡ start (decode file) a
+      first = d ∙ e
+
+      pub arc-points : from + m ≤ l .points
+      unfolding start
+      arc-points = omega (arith, points-in, first)
+
+      pub arc-day : Day (entryAt (decode file .ticks) from) m (l .period)
+      arc-day = rw (first, q, t .sizes .period) (t .sound .points-of a arc-in .day)
+
+      -- r is the travel that was read at tick y, reduced to x
+      module _ (r y x : ℕ) (o : x ≡ y % l .period) (v : r ≡ valueAt (decode file .ticks) (decode file .travels) from m (l .period) x) where
+        at : r ≡ travelAt (decode file) a (y % decode file .period)
+        unfolding travelAt
+        at = rw (o, first, q, t .sizes .period) at v
+
+        small : r ≤ 2880
+        small =
+            let p : 0 < decode file .period = omega (arith, t .sizes .period, t .small .period-some) in
+            omega (arith, at, town-bounded (t .sound) a (y % decode file .period) arc-in (mod-lt y p), t .sizes .period, t .small .period-most)
+
+        pub travel-fits : Fits w32 r
+        travel-fits = omega (arith, small)
+
+        pub end-fits : y ≤ lastTick → Fits w32 (y + r)
+        end-fits h = omega (arith, small)
+
+        pub end-early : y ≤ lastTick → y + r < never
+        end-early h = omega (arith, small)
+
+        pub travel-ends : y + r ≡ ends (graphOf (decode file)) a y
+        unfolding ends
+        travel-ends = rw at
+
+-- for `search (times, needs)` at the needs of such code
+pub ruleset times = (first-day, reduced, start-small, sum-fits, arc-points, arc-day, travel-fits, end-fits, end-early, travel-ends)

@@ -1,0 +1,16 @@
+// search_arcs: the arcs of a sound network file, read in place: those at a node, in rising order, and when one that is taken at a tick ends.
+//   chain   the chains by which the arcs out of a node, or into it, are walked
+//   times   when an arc that is taken at a tick ends
+// It may call `network` for the entries of the file and `theory_travel` for the straight line, and cites `theory_loops` and `theory_paths`.
+pub mod chain;
+pub mod times;
+
+ghost use mathlib.Core.Path.{_≡_};
+ghost use Prim.Native.Nat.{_<_};
+
+// An entry of a table as a size: what its readers need of the cast.
+pub fn wide(x: u16) -> usize
+    ensures { λ r. ⌜ (r ≡ x) × (r < 65536) ⌝ }
+{
+    x as usize
+}

@@ -1,0 +1,104 @@
+// When an arc that is taken at a tick ends: the travel by the arc's points, read in place from the file.
+// A travel is read by `ends_at` alone; what it needs of an arc's first point stands in a table that `first_points` fills once.
+use crate::wide;
+use network::header::Layout;
+use network::read;
+ghost use mathlib.Core.Path.{_≡_};
+ghost use Prim.Native.Nat.{_+_, _%_, _≤_, _<_};
+ghost use lib.ListN.{length, getD};
+ghost use Rattle.theory_loops.specs.Fill.{Filled};
+ghost use Rattle.theory_paths.specs.Graph.{ends};
+ghost use Rattle.theory_paths.specs.Earliest.{never};
+ghost use Rattle.theory_travel.specs.Line;
+ghost use Rattle.theory_travel.specs.Search.{Sorted, Last};
+ghost use Rattle.theory_travel.specs.Day.{Day};
+ghost use Rattle.theory_travel.specs.Table.{entryAt, valueAt};
+ghost use Rattle.network.specs.Network.{start};
+ghost use Rattle.network.specs.Decode.{decode, Laid};
+ghost use Rattle.network.specs.Town.{graphOf};
+ghost use Rattle.search_arcs.specs.Town.{Town, lastTick};
+
+// The first point of each arc.
+pub fn first_points(file: &[u8], l: Layout, starts: &mut [u16; 2048])
+    requires { ⌜ Town (now file) l ⌝ }
+    requires { ⌜ l .arcs ≤ length (now starts) ⌝ }
+    ensures { λ _. ⌜ Filled 0 (l .arcs) (start (decode (now (file .entry)))) (now (starts .entry)) (now (starts .exit)) ⌝ }
+{
+    let mut sum = 0;
+    for a in 0..l.arcs {
+        starts[a] = sum as u16;
+        sum += read::count(file, l, a);
+    }
+}
+
+// The last of `count` points from `from` on that is at or before x, counted from `from`.
+fn segment(file: &[u8], l: Layout, from: usize, count: usize, x: usize) -> usize
+    requires { ⌜ Laid (now file) l ⌝ }
+    requires { ⌜ from + count ≤ l .points ⌝ }
+    requires { ⌜ Sorted (entryAt (decode (now file) .ticks) from) count x ⌝ }
+    ensures { λ r. ⌜ Last (entryAt (decode (now (file .entry)) .ticks) from) count x r ⌝ }
+{
+    let mut a = 0;
+    let mut b = count;
+    while a + 1 < b {
+        let m = a + (b - a) / 2;
+        if read::tick(file, l, from + m) <= x {
+            a = m;
+        } else {
+            b = m;
+        }
+    }
+    a
+}
+
+// The line from (a, v) to (b, w) at x, by numbers as they are read.
+fn line(x: usize, a: usize, v: usize, b: usize, w: usize) -> usize
+    requires { ⌜ (a ≤ x) × (x < b) × (b < 65536) × (v < 65536) × (w < 65536) ⌝ }
+    ensures { λ r. ⌜ r ≡ Line.line x a v b w ⌝ }
+{
+    theory_travel::line(x as u16, a as u16, v as u32, b as u16, w as u32) as usize
+}
+
+// The travel at tick x of the period, by `count` points from `from` on: after the last point the line runs on to the next day's first.
+fn travel_at(file: &[u8], l: Layout, from: usize, count: usize, x: usize) -> usize
+    requires { ⌜ Town (now file) l ⌝ }
+    requires { ⌜ (from + count ≤ l .points) × (x < l .period) ⌝ }
+    requires { ⌜ Day (entryAt (decode (now file) .ticks) from) count (l .period) ⌝ }
+    ensures { λ r. ⌜ r ≡ valueAt (decode (now (file .entry)) .ticks) (decode (now (file .entry)) .travels) from count (l .period) x ⌝ }
+{
+    let k = segment(file, l, from, count, x);
+    let a = read::tick(file, l, from + k);
+    let v = read::travel(file, l, from + k);
+    if k + 1 < count {
+        let b = read::tick(file, l, from + (k + 1));
+        let w = read::travel(file, l, from + (k + 1));
+        line(x, a, v, b, w)
+    } else {
+        line(x, a, v, l.period, read::travel(file, l, from))
+    }
+}
+
+// A tick of any day as a tick of the period. Most are of the first day, and then nothing is divided.
+pub fn in_period(tick: u32, period: usize) -> usize
+    requires { ⌜ 0 < period ⌝ }
+    ensures { λ r. ⌜ r ≡ tick % period ⌝ }
+{
+    let x = tick as usize;
+    if x < period {
+        return x;
+    }
+    x % period
+}
+
+// The tick at which an arc, taken at a tick, ends.
+pub fn ends_at(file: &[u8], l: Layout, starts: &[u16; 2048], arc: usize, tick: u32) -> u32
+    requires { ⌜ Town (now file) l ⌝ }
+    requires { ⌜ (arc < l .arcs) × (tick ≤ lastTick) ⌝ }
+    requires { ⌜ getD (now starts) arc 0 ≡ start (decode (now file)) arc ⌝ }
+    ensures { λ r. ⌜ (r ≡ ends (graphOf (decode (now (file .entry)))) arc tick) × (r < never) ⌝ }
+{
+    let from = wide(starts[arc]);
+    let count = read::count(file, l, arc);
+    let x = in_period(tick, l.period);
+    tick + travel_at(file, l, from, count, x) as u32
+}

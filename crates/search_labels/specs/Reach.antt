@@ -1,0 +1,153 @@
+-- What the search leaves in the labels (`Reached`), and the laws by which its loop comes to it: how it starts, a turn, and its two ends.
+use mathlib.Core.Path.{_≡_, refl, sym, _∙_}
+use mathlib.Core.Logic.{_≢_}
+use mathlib.Core.List.{List, [], _∷_}
+use Prim.Native.Nat.{ℕ, zero, suc, _+_, _≤_, _<_}
+use native.Mathlib.Nat.{le-trans}
+use native.Mathlib.Decide.{decLt}
+use native.Mathlib.Omega.{arith}
+use lib.ListN.{length, getD, set, replicate, length-set, length-replicate, List·getD-eq-default}
+use lib.Seq.{getD-set-same, getD-set-other}
+use Rattle.theory_loops.specs.Fill.{Filled}
+use Rattle.theory_paths.specs.Graph.{Graph, Permit}
+use Rattle.theory_paths.specs.Drive.{path-takes}
+use Rattle.theory_paths.specs.Earliest.{never, Exact}
+use Rattle.theory_paths.specs.Labels.{label, label-at}
+use Rattle.network.specs.declared.header.Layout.{Layout}
+use Rattle.network.specs.Decode.{decode}
+use Rattle.network.specs.Town.{graphOf}
+use Rattle.search_labels.specs.Walk.{Spread}
+use Rattle.search_labels.specs.Settle.{Search, Nearest, start, settle, nearest-exact}
+use Rattle.search_labels.specs.Frontier.{Held, Frontier, unknown}
+use Rattle.search_labels.specs.Nearest.{Picked}
+use Rattle.search_arcs.specs.Town.{Town, lastTick}
+use Rattle.search_labels.specs.Ready.{Leaving, Early, leaving}
+
+-- The labels are exact up to the target's.
+pub record Reached (g : Graph) (p : Permit) (s t : ℕ) (L : List ℕ) : Type 0 where
+  pub size : length L ≡ g .nodes
+  pub capped : (v : ℕ) → label L v ≤ never
+  pub early : Early L
+  pub exact : Exact g p s (label L s) (label L) (label L t)
+
+-- Before the search: the source alone has a label.
+pub record Started (nodes s x : ℕ) (L : List ℕ) : Type 0 where
+  pub size : length L ≡ nodes
+  pub source : label L s ≡ x
+  pub others : (v : ℕ) → v ≢ s → label L v ≡ never
+
+-- In the loop.
+pub record Searching (g : Graph) (p : Permit) (s x : ℕ) (L F : List ℕ) (n : ℕ) : Type 0 where
+  pub left : Leaving g s x
+  pub kept : Search g p s x L (Held F n)
+  pub front : Frontier L F n
+
+pub started : (nodes s x : ℕ) (old new : List ℕ) → length old ≡ nodes → s < nodes → Filled 0 nodes (λ _. never) old new → Started nodes s x (set new s x)
+started nodes s x old new l h f =
+    let k = f .long in
+    record {
+      size = length-set new s x ∙ k ∙ l;
+      source = getD-set-same new s x never (omega arith);
+      others = λ v ne. getD-set-other new s v x never ne ∙ elim (decLt v (length new)) [
+        | yes b ↦ sym (label-at new v b) ∙ f .written v (omega arith) (omega arith)
+        | no b ↦ List·getD-eq-default new never {n = v} (omega arith)
+      ];
+    }
+
+-- a node with a label leaves room for itself
+unknown-most : (L : List ℕ) → unknown L ≤ length L
+unfolding unknown
+unknown-most [] = omega arith
+unknown-most (e ∷ L) = omega (arith, unknown-most L)
+
+unknown-less : (L : List ℕ) (v : ℕ) → label L v < never → 1 + unknown L ≤ length L
+unfolding unknown
+unknown-less [] v h = absurd (omega arith)
+unknown-less (e ∷ L) zero h = omega (arith, unknown-most L)
+unknown-less (e ∷ L) (suc v) h = omega (arith, unknown-less L v h)
+
+module _ {g : Graph} {s x : ℕ} (d : Leaving g s x) where
+  pub small : x < never
+  small = omega (arith, d .early)
+
+  one-entry : {L : List ℕ} → Started (g .nodes) s x L → Frontier L (set (replicate 512 0) 0 s) 1
+  one-entry {L} a = record {
+    long = length-set (replicate 512 0) 0 s ∙ length-replicate {A = ℕ} 512 0;
+    distinct = λ j k l m q. omega arith;
+    known = λ k l. let z : k ≡ 0 = omega arith in rw z known;
+    room = omega (arith, unknown-less L s known, a .size, d .few);
+  }
+    where
+      known : label L s < never
+      known = omega (arith, a .source, small)
+
+pub search-start : {file L : List ℕ} {l : Layout} {p : Permit} {s x : ℕ} → Town file l → s < l .nodes → x < l .period
+    → Started (l .nodes) s x L → Searching (graphOf (decode file)) p s x L (set (replicate 512 0) 0 s) 1
+search-start t h k a =
+    let d = leaving t h k in
+    let b = rw (t .sizes .nodes) at a in
+    record {
+      left = d;
+      kept = start (d .ok) (d .bounded) (d .node) (small d) (b .size) (b .source) (b .others) (record { place = 0; inside = omega arith; is = refl });
+      front = one-entry d b;
+    }
+
+module _ {g : Graph} {p : Permit} {s x : ℕ} where
+  module _ {L F : List ℕ} {n : ℕ} (c : Searching g p s x L F n) where
+    reached : (t : ℕ) → Nearest L (Held F n) t → Reached g p s t L
+    reached t m =
+        let d = c .left in
+        let e = nearest-exact (d .ok) (d .bounded) (d .node) (small d) (c .kept) t m in
+        record {
+          size = c .kept .size;
+          capped = c .kept .capped;
+          early = record { upto = λ v l. le-trans (c .kept .early v l) (d .early) };
+          exact = rw (e .source) e;
+        }
+
+    -- the source keeps its label
+    pub search-source : label L s ≡ x
+    search-source =
+        let d = c .left in
+        let r = c .kept .sound s (omega (arith, c .kept .source, small d)) in
+        omega (arith, c .kept .source, path-takes (d .ok) x (r .leads), r .at)
+
+    -- the frontier has run dry
+    pub search-dry : (t : ℕ) → n ≤ 0 → Reached g p s t L
+    search-dry t h = reached t (λ v w. absurd (omega (arith, w .inside)))
+
+    module _ {i : ℕ} (k : Picked L F n i) where
+      -- the target is the nearest
+      pub search-stop : {t u : ℕ} → u ≡ getD F i 0 → u ≡ t → Reached g p s t L
+      search-stop {t} e q = reached t (λ v w. rw (← q, e) (k .nearest v w))
+
+      known : label L (getD F i 0) < never
+      known = c .front .known i (k .within)
+
+      pub turn-early : label L (getD F i 0) ≤ lastTick
+      turn-early = le-trans (c .kept .early (getD F i 0) known) (c .left .early)
+
+      pub turn : {M G : List ℕ} {m : ℕ} → Spread g p (getD F i 0) L M F G n m → Searching g p s x M G m
+      turn w =
+          let d = c .left in
+          let o : Held F n (getD F i 0) = record { place = i; inside = k .within; is = refl } in
+          record { left = d; kept = settle (d .ok) (d .bounded) (d .node) (small d) (c .kept) o known (k .nearest) (w .relaxed) (w .moved); front = w .front }
+
+-- the labels are as many as the nodes
+pub search-size : {file : List ℕ} {l : Layout} {p : Permit} {s x : ℕ} {L F : List ℕ} {n : ℕ} → Town file l
+    → Searching (graphOf (decode file)) p s x L F n → length L ≡ l .nodes
+search-size t c = c .kept .size ∙ sym (t .sizes .nodes)
+
+-- for `search turns` at the needs of the loop
+pub ruleset turns = (search-start, search-source, search-dry, search-stop, search-size, turn-early, turn)
+
+-- FOR `reach`: the same said of the source's own label
+module _ {m s x : ℕ} {L : List ℕ} (a : Started m s x L) where
+  pub started-own : {n : ℕ} → m ≡ n → Started n s (label L s) L
+  started-own e = rw (← e, a .source) a
+
+  pub started-below : {y : ℕ} → x < y → label L s < y
+  started-below h = rw (a .source) h
+
+  pub started-kept : {y : ℕ} → y ≡ label L s → y ≡ x
+  started-kept e = e ∙ a .source

@@ -1,0 +1,167 @@
+// The labels of every node that may lie on an earliest path to the target: the nearest node of the frontier is settled, and the permitted arcs
+// out of it are relaxed, again and again, until it is the target or the frontier is empty.
+use crate::NEVER;
+use crate::frontier;
+use search_arcs::chain;
+use search_arcs::chain::End;
+use search_arcs::times;
+use search_arcs::wide;
+use network::header::Layout;
+use network::read;
+ghost use mathlib.Core.Path.{_≡_};
+ghost use Prim.Native.Nat.{_≤_, _<_};
+ghost use lib.ListN.{length, getD};
+ghost use Rattle.theory_paths.specs.Labels.{label};
+ghost use Rattle.network.specs.Network.{tail};
+ghost use Rattle.network.specs.Decode.{decode};
+ghost use Rattle.network.specs.Town.{graphOf};
+ghost use Rattle.search_labels.specs.Ready.{Ready, permitOf};
+ghost use Rattle.search_arcs.specs.Town.{lastTick};
+ghost use Rattle.search_arcs.specs.Chain.{Chained};
+ghost use Rattle.search_labels.specs.Frontier.{Frontier};
+ghost use Rattle.search_labels.specs.Walk.{Stepped, Spread};
+ghost use Rattle.search_labels.specs.Reach.{Started, Reached};
+
+// Relaxes one arc, taken at a tick: a head that gets its first label goes into the frontier. Answers the frontier's size.
+fn relax(
+    file: &[u8],
+    l: Layout,
+    mask: &[u8],
+    starts: &[u16; 2048],
+    arc: usize,
+    tick: u32,
+    labels: &mut [u32],
+    frontier: &mut [u16; 512],
+    size: usize,
+) -> usize
+    requires { ⌜ Ready (now file) l (now mask) (now starts) ⌝ }
+    requires { ⌜ (arc < l .arcs) × (tick ≤ lastTick) × (length (now labels) ≡ l .nodes) ⌝ }
+    requires { ⌜ Frontier (now labels) (now frontier) size ⌝ }
+    ensures { λ r. ⌜ Stepped (graphOf (decode (now (file .entry)))) (permitOf (now (mask .entry))) tick arc (now (labels .entry)) (now (labels .exit)) (now (frontier .entry)) (now (frontier .exit)) size r ⌝ }
+{
+    if mask[arc] != 1 {
+        return size;
+    }
+    let v = read::head(file, l, arc);
+    let old = labels[v];
+    // An arc never ends before it is taken.
+    if old <= tick {
+        return size;
+    }
+    let end = times::ends_at(file, l, starts, arc, tick);
+    if old <= end {
+        return size;
+    }
+    labels[v] = end;
+    if old < NEVER {
+        return size;
+    }
+    frontier[size] = v as u16;
+    size + 1
+}
+
+// Takes entry i, a nearest node, out of the frontier, and relaxes the permitted arcs out of it, taken at its label. Answers the frontier's size.
+fn settle(
+    file: &[u8],
+    l: Layout,
+    mask: &[u8],
+    starts: &[u16; 2048],
+    first: &[u16; 512],
+    next: &[u16; 2048],
+    i: usize,
+    labels: &mut [u32],
+    frontier: &mut [u16; 512],
+    size: usize,
+) -> usize
+    requires { ⌜ Ready (now file) l (now mask) (now starts) ⌝ }
+    requires { ⌜ Chained (tail (decode (now file))) (l .nodes) (l .arcs) 0 (now first) (now next) ⌝ }
+    requires { ⌜ (i < size) × (length (now labels) ≡ l .nodes) × (label (now labels) (getD (now frontier) i 0) ≤ lastTick) ⌝ }
+    requires { ⌜ Frontier (now labels) (now frontier) size ⌝ }
+    ensures { λ r. ⌜ Spread (graphOf (decode (now (file .entry)))) (permitOf (now (mask .entry))) (getD (now (frontier .entry)) i 0) (now (labels .entry)) (now (labels .exit)) (now (frontier .entry)) (now (frontier .exit)) size r ⌝ }
+{
+    let u = wide(frontier[i]);
+    let last = size - 1;
+    frontier[i] = frontier[last];
+    let tick = labels[u];
+    let mut held = last;
+    let mut a = wide(first[u]);
+    while a < l.arcs {
+        held = relax(file, l, mask, starts, a, tick, labels, frontier, held);
+        a = wide(next[a]);
+    }
+    held
+}
+
+// The source's label is the departure, and no other node has one.
+fn start(labels: &mut [u32], source: usize, departure: u32)
+    requires { ⌜ source < length (now labels) ⌝ }
+    ensures { λ _. ⌜ Started (length (now (labels .entry))) source departure (now (labels .exit)) ⌝ }
+{
+    for v in 0..labels.len() {
+        labels[v] = NEVER;
+    }
+    labels[source] = departure;
+}
+
+// Settles the nearest node, again and again, until it is the target or the frontier is empty.
+fn settle_all(
+    file: &[u8],
+    l: Layout,
+    mask: &[u8],
+    starts: &[u16; 2048],
+    first: &[u16; 512],
+    next: &[u16; 2048],
+    source: usize,
+    target: usize,
+    labels: &mut [u32],
+)
+    requires { ⌜ Ready (now file) l (now mask) (now starts) ⌝ }
+    requires { ⌜ Chained (tail (decode (now file))) (l .nodes) (l .arcs) 0 (now first) (now next) ⌝ }
+    requires { ⌜ (source < l .nodes) × (label (now labels) source < l .period) ⌝ }
+    requires { ⌜ Started (l .nodes) source (label (now labels) source) (now labels) ⌝ }
+    ensures { λ _. ⌜ Reached (graphOf (decode (now (file .entry)))) (permitOf (now (mask .entry))) source target (now (labels .exit)) × (label (now (labels .exit)) source ≡ label (now (labels .entry)) source) ⌝ }
+{
+    let mut frontier = [0u16; 512];
+    frontier[0] = source as u16;
+    let mut size = 1;
+    while 0 < size {
+        let i = frontier::nearest(labels, &frontier, size);
+        if wide(frontier[i]) == target {
+            return;
+        }
+        size = settle(
+            file,
+            l,
+            mask,
+            starts,
+            first,
+            next,
+            i,
+            labels,
+            &mut frontier,
+            size,
+        );
+    }
+}
+
+// The search: exact labels up to the target's.
+pub fn reach(
+    file: &[u8],
+    l: Layout,
+    mask: &[u8],
+    starts: &[u16; 2048],
+    source: usize,
+    target: usize,
+    departure: u32,
+    labels: &mut [u32],
+)
+    requires { ⌜ Ready (now file) l (now mask) (now starts) ⌝ }
+    requires { ⌜ (source < l .nodes) × (departure < l .period) × (length (now labels) ≡ l .nodes) ⌝ }
+    ensures { λ _. ⌜ Reached (graphOf (decode (now (file .entry)))) (permitOf (now (mask .entry))) source target (now (labels .exit)) × (label (now (labels .exit)) source ≡ departure) ⌝ }
+{
+    let mut first = [chain::NONE; 512];
+    let mut next = [chain::NONE; 2048];
+    chain::chain(file, l, End::Tail, &mut first, &mut next);
+    start(labels, source, departure);
+    settle_all(file, l, mask, starts, &first, &next, source, target, labels);
+}

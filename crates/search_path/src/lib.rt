@@ -1,0 +1,142 @@
+// search_path: the earliest arrival over permitted arcs and the chosen path, of a sound network file that is read in place. It owns the answer of a search and
+// its meaning (specs/Answer.antt, specs/Promise.antt).
+//   path   the chosen path, from the labels
+// It may call `search_labels` for the labels, `search_arcs` for the arcs at a node and their ends, and `network` for the entries of the file; it cites `theory_loops` and `theory_paths`.
+use search_arcs::times;
+use search_labels::NEVER;
+use search_labels::reach::reach;
+use network::header::Layout;
+
+mod path;
+
+ghost use mathlib.Core.Path.{_≡_};
+ghost use Prim.Native.Nat.{_≤_, _<_};
+ghost use lib.ListN.{length};
+ghost use Rattle.theory_loops.specs.Fill.{Filled};
+ghost use Rattle.network.specs.Decode.{decode, Laid};
+ghost use Rattle.network.specs.Sound.{SoundNetwork};
+ghost use Rattle.network.specs.Town.{graphOf};
+ghost use Rattle.search_arcs.specs.Town.{Town};
+ghost use Rattle.search_labels.specs.Ready.{Ready, permitOf};
+ghost use Rattle.search_labels.specs.Reach.{Reached};
+ghost use Rattle.search_path.specs.Trim.{shown, shownOf};
+ghost use Rattle.search_path.specs.Answer.{Answered, Told};
+
+// The arrival tick at the target and the number of arcs of the chosen path.
+pub struct Trip {
+    pub tick: u32,
+    pub count: usize,
+}
+
+// What a search answers. `Short`: the list of roads is shorter than the chosen path.
+pub enum Outcome {
+    Arrived(Trip),
+    NoWay,
+    Short,
+}
+
+// What is shown of a node's label, where the target's is `limit`.
+fn shown_label(label: u32, limit: u32, v: usize, target: usize) -> u32
+    ensures { λ r. ⌜ r ≡ shownOf label limit v target ⌝ }
+{
+    if label < limit {
+        return label;
+    }
+    if v == target {
+        return label;
+    }
+    NEVER
+}
+
+// Every label that is not before the target's becomes never, except the target's own.
+fn trim(labels: &mut [u32], target: usize)
+    requires { ⌜ target < length (now labels) ⌝ }
+    ensures { λ _. ⌜ Filled 0 (length (now (labels .entry))) (shown (now (labels .entry)) target) (now (labels .entry)) (now (labels .exit)) ⌝ }
+{
+    let limit = labels[target];
+    for v in 0..labels.len() {
+        labels[v] = shown_label(labels[v], limit, v, target);
+    }
+}
+
+// The answer by the labels, with the chosen path where the list of roads has room for it.
+fn tell(
+    file: &[u8],
+    l: Layout,
+    mask: &[u8],
+    starts: &[u16; 2048],
+    labels: &[u32],
+    source: usize,
+    target: usize,
+    roads: &mut [u16],
+) -> Outcome
+    requires { ⌜ Ready (now file) l (now mask) (now starts) ⌝ }
+    requires { ⌜ Reached (graphOf (decode (now file))) (permitOf (now mask)) source target (now labels) ⌝ }
+    requires { ⌜ target < l .nodes ⌝ }
+    ensures { λ r. ⌜ Told (graphOf (decode (now (file .entry)))) (permitOf (now (mask .entry))) source target (now (labels .entry)) (now (roads .entry)) (now (roads .exit)) r ⌝ }
+{
+    let tick = labels[target];
+    if tick == NEVER {
+        return Outcome::NoWay;
+    }
+    let count = path::path(file, l, mask, starts, labels, source, target, roads);
+    if roads.len() < count {
+        return Outcome::Short;
+    }
+    Outcome::Arrived(Trip { tick, count })
+}
+
+// The search over labels for exactly the nodes.
+fn answer(
+    file: &[u8],
+    l: Layout,
+    mask: &[u8],
+    source: usize,
+    target: usize,
+    departure: u32,
+    labels: &mut [u32],
+    roads: &mut [u16],
+) -> Outcome
+    requires { ⌜ Town (now file) l ⌝ }
+    requires { ⌜ (l .arcs ≤ length (now mask)) × (length (now labels) ≡ l .nodes) ⌝ }
+    requires { ⌜ (source < l .nodes) × (target < l .nodes) × (departure < l .period) ⌝ }
+    ensures { λ r. ⌜ Answered (graphOf (decode (now (file .entry)))) (permitOf (now (mask .entry))) source departure target (now (labels .entry)) (now (labels .exit)) (now (roads .entry)) (now (roads .exit)) r ⌝ }
+{
+    let mut starts = [0u16; 2048];
+    times::first_points(file, l, &mut starts);
+    reach(file, l, mask, &starts, source, target, departure, labels);
+    let outcome = tell(file, l, mask, &starts, labels, source, target, roads);
+    trim(labels, target);
+    outcome
+}
+
+// The earliest arrival at the target over the permitted arcs, when the source is left at the departure, and the chosen path: `Answered` says
+// what is answered and what is left in the two lists.
+pub fn search(
+    file: &[u8],
+    l: Layout,
+    mask: &[u8],
+    source: usize,
+    target: usize,
+    departure: u32,
+    arrivals: &mut [u32],
+    roads: &mut [u16],
+) -> Outcome
+    requires { ⌜ Laid (now file) l ⌝ }
+    requires { ⌜ SoundNetwork (decode (now file)) ⌝ }
+    requires { ⌜ (l .arcs ≤ length (now mask)) × (l .nodes ≤ length (now arrivals)) ⌝ }
+    requires { ⌜ (source < l .nodes) × (target < l .nodes) × (departure < l .period) ⌝ }
+    ensures { λ r. ⌜ Answered (graphOf (decode (now (file .entry)))) (permitOf (now (mask .entry))) source departure target (now (arrivals .entry)) (now (arrivals .exit)) (now (roads .entry)) (now (roads .exit)) r ⌝ }
+{
+    let nodes = l.nodes;
+    answer(
+        file,
+        l,
+        mask,
+        source,
+        target,
+        departure,
+        &mut arrivals[..nodes],
+        roads,
+    )
+}

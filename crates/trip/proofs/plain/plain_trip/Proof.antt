@@ -1,0 +1,48 @@
+-- `trip::plain::plain_trip` meets its contract.
+use mathlib.Core.Path.{refl}
+use Rattle.trip.specs.Plain.{plains}
+use Rattle.trip_call.specs.Stage.{stages}
+use borrow.Author.Needs.{needs}
+use Rattle.trip.proofs.plain.plain_trip.Statement.{statement}
+use Rattle.trip.proofs.plain.plain_trip.Tie as tie
+
+begin-plain-requires : tie.Need-begin-plain-requires
+begin-plain-requires c κs = search needs
+
+enum-known-r : tie.Need-enum-known-r
+enum-known-r c = search needs
+
+enum-known-h : tie.Need-enum-known-h
+enum-known-h c = search needs
+
+slice-aggregate-drive : tie.Need-slice-aggregate-drive
+slice-aggregate-drive c = search needs
+
+drive-requires : tie.Need-drive-requires
+drive-requires c κs = (search plains, (search plains, search plains, search plains, search plains, search plains))
+
+returns : tie.Need-returns
+returns c = (search stages, (search stages, refl))
+
+same-length : tie.Need-same-length
+same-length c = search needs
+
+same-length-2 : tie.Need-same-length-2
+same-length-2 c = search needs
+
+returns-2 : tie.Need-returns-2
+returns-2 c = (search plains, (search plains, search plains))
+
+pub plain-trip-spec : {M : Type 1} → statement M
+plain-trip-spec =
+    tie.close
+    (tie.spec
+    begin-plain-requires
+    enum-known-r
+    enum-known-h
+    slice-aggregate-drive
+    drive-requires
+    returns
+    same-length
+    same-length-2
+    returns-2)

@@ -1,0 +1,179 @@
+// The flagged trip, over the arcs with the flag of the target's cell. An unchecked plan gets the earliest arrival over its flagged arcs.
+use network::answer::Opening;
+use network::header::Header;
+use network::read::cell;
+use network_open::validate::validate;
+use plan::answer::Planning;
+use plan::header::PlanHeader;
+use plan::header::PlanLayout;
+use plan::read::flag_word;
+use plan_validate::validate::validate_plan;
+use trip_call::answer::Answer;
+use trip_call::begin::ask;
+use trip_call::drive::drive;
+ghost use mathlib.Core.Path.{_≡_};
+ghost use mathlib.Core.Bool.{cond};
+ghost use Prim.Native.Nat.{_≤_, _<_};
+ghost use lib.ListN.{length};
+ghost use Rattle.theory_loops.specs.Fill.{Filled, tab};
+ghost use Rattle.theory_paths.specs.Labels.{labels};
+ghost use Rattle.network.specs.Network.{nodes};
+ghost use Rattle.network.specs.Decode.{decode};
+ghost use Rattle.network.specs.Valid.{ValidFile};
+ghost use Rattle.network_open.specs.Open.{overwritten};
+ghost use Rattle.network.specs.Town.{graphOf};
+ghost use Rattle.plan.specs.Plan.{bit};
+ghost use Rattle.plan.specs.PlanDecode.{decodePlan, PlanLaid};
+ghost use Rattle.plan.specs.PlanValid.{ValidPlan};
+ghost use Rattle.plan_check.specs.Promise.{towards};
+ghost use Rattle.search_path.specs.Trim.{shown};
+ghost use Rattle.trip_call.specs.Trip.{asked, told, searched, tripAnswer, tripArrivals, tripRoads};
+ghost use Rattle.trip_call.specs.Stage.{Asked};
+ghost use Rattle.trip.specs.Flagged.{maskOf, flaggedWith, flaggedBegin};
+
+// Is bit c of the word set?
+fn is_set(word: u64, c: usize) -> bool
+    requires { ⌜ c < 64 ⌝ }
+    ensures { λ r. ⌜ r ≡ bit word c ⌝ }
+{
+    (word >> c) % 2 == 1
+}
+
+// The bit as a number.
+fn flag(word: u64, c: usize) -> u8
+    requires { ⌜ c < 64 ⌝ }
+    ensures { λ r. ⌜ r ≡ cond (bit word c) 1 0 ⌝ }
+{
+    if is_set(word, c) { 1 } else { 0 }
+}
+
+// The mask of the arcs with the flag of cell c.
+fn fill_mask(plan: &[u8], l: PlanLayout, c: usize, mask: &mut [u8; 2048])
+    requires { ⌜ PlanLaid (now plan) l ⌝ }
+    requires { ⌜ (c < 64) × (l .arcs ≤ 2048) × (l .arcs ≤ length (now mask)) ⌝ }
+    ensures { λ _. ⌜ Filled 0 (l .arcs) (maskOf (decodePlan (now (plan .entry))) c) (now (mask .entry)) (now (mask .exit)) ⌝ }
+{
+    for a in 0..l.arcs {
+        mask[a] = flag(flag_word(plan, l, a), c);
+    }
+}
+
+// The trip of a valid network and a well-formed plan, once nothing before it is refused.
+fn drive_flagged(
+    network: &[u8],
+    h: Header,
+    plan: &[u8],
+    k: PlanHeader,
+    from: u32,
+    to: u32,
+    departure: u32,
+    arrivals: &mut [u32],
+    roads: &mut [u16],
+) -> Answer
+    requires { ⌜ ValidFile (now network) h ⌝ }
+    requires { ⌜ ValidPlan h (decode (now network)) (now plan) k ⌝ }
+    requires { ⌜ Asked h from to departure (length (now arrivals)) ⌝ }
+    ensures answer { λ r. ⌜ r ≡ told (searched (decode (now (network .entry))) (towards (decode (now (network .entry))) (decodePlan (now (plan .entry))) to) from to departure (length (now (roads .entry)))) ⌝ }
+    ensures arrivals { λ _. ⌜ now (arrivals .exit) ≡ overwritten (tab (nodes (decode (now (network .entry)))) (shown (labels (graphOf (decode (now (network .entry)))) (towards (decode (now (network .entry))) (decodePlan (now (plan .entry))) to) from departure) to)) (now (arrivals .entry)) ⌝ }
+    ensures roads { λ r. ⌜ now (roads .exit) ≡ tripRoads r (decode (now (network .entry))) (towards (decode (now (network .entry))) (decodePlan (now (plan .entry))) to) from to departure (now (roads .entry)) ⌝ }
+{
+    let c = cell(network, h.layout(), to as usize);
+    let mut mask = [0u8; 2048];
+    fill_mask(plan, k.layout(), c, &mut mask);
+    drive(network, h, &mask, from, to, departure, arrivals, roads)
+}
+
+// Refusals 25 to 29, or the trip.
+fn flagged_asked(
+    network: &[u8],
+    h: Header,
+    plan: &[u8],
+    k: PlanHeader,
+    from: u32,
+    to: u32,
+    departure: u32,
+    arrivals: &mut [u32],
+    roads: &mut [u16],
+) -> Answer
+    requires { ⌜ ValidFile (now network) h ⌝ }
+    requires { ⌜ ValidPlan h (decode (now network)) (now plan) k ⌝ }
+    ensures answer { λ r. ⌜ r ≡ tripAnswer (asked h from to departure (length (now (arrivals .entry)))) (searched (decode (now (network .entry))) (towards (decode (now (network .entry))) (decodePlan (now (plan .entry))) to) from to departure (length (now (roads .entry)))) ⌝ }
+    ensures arrivals { λ _. ⌜ now (arrivals .exit) ≡ tripArrivals (asked h from to departure (length (now (arrivals .entry)))) (decode (now (network .entry))) (towards (decode (now (network .entry))) (decodePlan (now (plan .entry))) to) from to departure (now (arrivals .entry)) ⌝ }
+    ensures roads { λ r. ⌜ now (roads .exit) ≡ tripRoads r (decode (now (network .entry))) (towards (decode (now (network .entry))) (decodePlan (now (plan .entry))) to) from to departure (now (roads .entry)) ⌝ }
+{
+    match ask(h, from, to, departure, arrivals.len()) {
+        Opening::Refused(r) => Answer::Refused(r),
+        Opening::Opened(_) => drive_flagged(
+            network,
+            h,
+            plan,
+            k,
+            from,
+            to,
+            departure,
+            arrivals,
+            roads,
+        ),
+    }
+}
+
+// Refusals 11 to 19, then 25 to 29, or the trip.
+fn flagged_planned(
+    network: &[u8],
+    h: Header,
+    plan: &[u8],
+    from: u32,
+    to: u32,
+    departure: u32,
+    arrivals: &mut [u32],
+    roads: &mut [u16],
+) -> Answer
+    requires { ⌜ ValidFile (now network) h ⌝ }
+    ensures answer { λ r. ⌜ r ≡ tripAnswer (flaggedWith h (now (network .entry)) (now (plan .entry)) from to departure (length (now (arrivals .entry)))) (searched (decode (now (network .entry))) (towards (decode (now (network .entry))) (decodePlan (now (plan .entry))) to) from to departure (length (now (roads .entry)))) ⌝ }
+    ensures arrivals { λ _. ⌜ now (arrivals .exit) ≡ tripArrivals (flaggedWith h (now (network .entry)) (now (plan .entry)) from to departure (length (now (arrivals .entry)))) (decode (now (network .entry))) (towards (decode (now (network .entry))) (decodePlan (now (plan .entry))) to) from to departure (now (arrivals .entry)) ⌝ }
+    ensures roads { λ r. ⌜ now (roads .exit) ≡ tripRoads r (decode (now (network .entry))) (towards (decode (now (network .entry))) (decodePlan (now (plan .entry))) to) from to departure (now (roads .entry)) ⌝ }
+{
+    match validate_plan(network, h, h.layout(), plan) {
+        Planning::Refused(r) => Answer::Refused(r),
+        Planning::WellFormed(k) => flagged_asked(
+            network,
+            h,
+            plan,
+            k,
+            from,
+            to,
+            departure,
+            arrivals,
+            roads,
+        ),
+    }
+}
+
+// From one node to another, leaving at a tick of the day, over the arcs with the flag of the target's cell: the earliest tick of arrival, and the chosen way.
+pub fn flagged_trip(
+    network: &[u8],
+    plan: &[u8],
+    from: u32,
+    to: u32,
+    departure: u32,
+    arrivals: &mut [u32],
+    roads: &mut [u16],
+) -> Answer
+    ensures answer { λ r. ⌜ r ≡ tripAnswer (flaggedBegin (now (network .entry)) (now (plan .entry)) from to departure (length (now (arrivals .entry)))) (searched (decode (now (network .entry))) (towards (decode (now (network .entry))) (decodePlan (now (plan .entry))) to) from to departure (length (now (roads .entry)))) ⌝ }
+    ensures arrivals { λ _. ⌜ now (arrivals .exit) ≡ tripArrivals (flaggedBegin (now (network .entry)) (now (plan .entry)) from to departure (length (now (arrivals .entry)))) (decode (now (network .entry))) (towards (decode (now (network .entry))) (decodePlan (now (plan .entry))) to) from to departure (now (arrivals .entry)) ⌝ }
+    ensures roads { λ r. ⌜ now (roads .exit) ≡ tripRoads r (decode (now (network .entry))) (towards (decode (now (network .entry))) (decodePlan (now (plan .entry))) to) from to departure (now (roads .entry)) ⌝ }
+{
+    match validate(network) {
+        Opening::Refused(r) => Answer::Refused(r),
+        Opening::Opened(h) => flagged_planned(
+            network,
+            h,
+            plan,
+            from,
+            to,
+            departure,
+            arrivals,
+            roads,
+        ),
+    }
+}
