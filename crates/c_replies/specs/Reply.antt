@@ -9,8 +9,8 @@ use Rattle.network_pack.specs.declared.pack.Packing.{Packing}
 use Rattle.network_pack.specs.declared.pack.Packing.the-variants as packing
 use Rattle.plan_check.specs.declared.answer.Checking.{Checking}
 use Rattle.plan_check.specs.declared.answer.Checking.the-variants as checking
-use Rattle.trip_call.specs.declared.answer.Answer.{Answer}
-use Rattle.trip_call.specs.declared.answer.Answer.the-variants as answer
+use Rattle.search_path.specs.declared.answer.Answer.{Answer}
+use Rattle.search_path.specs.declared.answer.Answer.the-variants as answer
 
 -- THE TABLET'S ANSWER
 -- a number in so many bytes, low byte first

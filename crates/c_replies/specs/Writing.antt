@@ -5,23 +5,22 @@ use Prim.Native.Nat.{ℕ, suc, _+_, _*_, _≤_, _<_}
 use native.Mathlib.Omega.{arith}
 use lib.ListN.{length, getD, take, length-append}
 use lib.Seq.{sets, length-sets, take-suc, length-take-le}
-use Rattle.theory_loops.specs.Fill.{Filled, length-tab, tab-list, filled-list}
+use Rattle.theory_loops.specs.Fill.{Filled, length-tab, tab-list, filled-list, overwritten}
 use Rattle.theory_loops.specs.Stores.{stored-next}
 use Rattle.file_fields.specs.Fields.{byteOf}
 use Rattle.file_fields.specs.Put.{put, put-stores}
-use Rattle.network.specs.declared.answer.Refusal.{Refusal}
+use Rattle.file_refusals.specs.declared.Refusal.{Refusal}
 use Rattle.network.specs.declared.answer.Opening.{Opening}
 use Rattle.network.specs.declared.answer.Opening.the-variants as opening
 use Rattle.network.specs.declared.header.Header.{Header}
 use Rattle.network_pack.specs.declared.pack.Length.{Length}
 use Rattle.network_pack.specs.declared.pack.Packing.{Packing}
 use Rattle.network_pack.specs.declared.pack.Packing.the-variants as packing
-use Rattle.network_open.specs.Open.{overwritten}
 use Rattle.plan_check.specs.declared.answer.Checking.{Checking}
 use Rattle.plan_check.specs.declared.answer.Checking.the-variants as checking
-use Rattle.trip_call.specs.declared.answer.Arrival.{Arrival}
-use Rattle.trip_call.specs.declared.answer.Answer.{Answer}
-use Rattle.trip_call.specs.declared.answer.Answer.the-variants as answer
+use Rattle.search_path.specs.declared.answer.Arrival.{Arrival}
+use Rattle.search_path.specs.declared.answer.Answer.{Answer}
+use Rattle.search_path.specs.declared.answer.Answer.the-variants as answer
 use Rattle.c_replies.specs.Reply.{bytes, roadBytes, tripBytes, tripCode, tripCount, checkNumbers, checkCode, openNumbers, openCode, packNumbers, packCode, tripNumbers}
 
 -- THE ROADS

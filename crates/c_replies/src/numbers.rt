@@ -2,11 +2,11 @@
 use network::answer::Opening;
 use network_pack::pack::Packing;
 use plan_check::answer::Checking;
-use trip_call::answer::Answer;
+use search_path::answer::Answer;
 ghost use mathlib.Core.Path.{_≡_};
 ghost use Prim.Native.Nat.{_≤_};
 ghost use lib.ListN.{length};
-ghost use Rattle.network_open.specs.Open.{overwritten};
+ghost use Rattle.theory_loops.specs.Fill.{overwritten};
 ghost use Rattle.c_replies.specs.Reply.{checkNumbers, checkCode, openNumbers, openCode, packNumbers, packCode, tripNumbers, tripCode, tripCount};
 
 // The numbers become the first of the lent ones.

@@ -1,14 +1,14 @@
 // The tablet's answer to a trip in lent bytes. It returns the refusal, or 0.
-use trip_call::answer::Answer;
-use trip_call::answer::Arrival;
 use file_fields::fields::put16;
 use file_fields::fields::put32;
+use search_path::answer::Answer;
+use search_path::answer::Arrival;
 ghost use mathlib.Core.Path.{_≡_};
 ghost use Prim.Native.Nat.{_≤_};
 ghost use mathlib.Core.List.{_++_};
 ghost use lib.ListN.{length, take};
 ghost use lib.Seq.{sets};
-ghost use Rattle.trip_call.specs.declared.answer.Answer.the-variants as answered;
+ghost use Rattle.search_path.specs.declared.answer.Answer.the-variants as answered;
 ghost use Rattle.c_replies.specs.Reply.{bytes, roadBytes, tripBytes, tripCode, tripCount};
 
 // The first road numbers of a list.

@@ -1,10 +1,10 @@
 // Answers as lines of standard output.
+use file_refusals::Refusal;
 use libc::STDOUT_FILENO;
 use network::answer::Opening;
-use network::answer::Refusal;
 use network_pack::pack::Packing;
 use plan_check::answer::Checking;
-use trip_call::answer::Answer;
+use search_path::answer::Answer;
 
 pub fn say(text: &[u8]) {
     io::write_all(STDOUT_FILENO, text);

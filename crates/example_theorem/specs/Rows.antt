@@ -2,7 +2,7 @@
 -- numbers. What is told of a question is stated by the definitions that the contracts of the operations cite.
 use mathlib.Core.List.{List, [], _∷_}
 use Prim.Native.Nat.{ℕ}
-use Rattle.network.specs.declared.answer.Refusal.{Refusal}
+use Rattle.file_refusals.specs.declared.Refusal.{Refusal}
 use Rattle.network.specs.declared.answer.Opening.{Opening}
 use Rattle.network.specs.declared.answer.Opening.the-variants as opening
 use Rattle.network.specs.Decode.{decode}
@@ -11,8 +11,8 @@ use Rattle.network.specs.Town.{travelAt}
 use Rattle.plan_check.specs.declared.answer.Checking.{Checking}
 use Rattle.plan_check.specs.declared.answer.Checking.the-variants as checking
 use Rattle.plan_check.specs.CheckPlan.{checking}
-use Rattle.trip_call.specs.declared.answer.Answer.{Answer}
-use Rattle.trip_call.specs.declared.answer.Answer.the-variants as answer
+use Rattle.search_path.specs.declared.answer.Answer.{Answer}
+use Rattle.search_path.specs.declared.answer.Answer.the-variants as answer
 use Rattle.trip.specs.Calls.{plainCall, plainPath, flaggedCall, flaggedPath}
 use Rattle.example_theorem.specs.Files.{networkFile, planFile}
 

@@ -27,6 +27,7 @@ use Rattle.network.specs.declared.header.Header.{Header}
 use Rattle.network.specs.Limits.{made}
 use Rattle.network.specs.Network.{Network, start}
 use Rattle.network.specs.Decode.{decode}
+use Rattle.network.specs.Town.{partitionOf}
 use Rattle.network.specs.Rules.{judged, judgedArcs, judgedSum, judgedPoints, badEnds, firstPoint, badPoint, badPointBy, misplaced, overtaken}
 use Rattle.network.specs.Validate.{badLength, validated}
 use Rattle.network_open.specs.Open.{openedIn, tooShort}
@@ -35,14 +36,13 @@ use Rattle.plan.specs.declared.answer.Planning.{Planning}
 use Rattle.plan_check.specs.declared.answer.Checking.{Checking}
 use Rattle.plan_check.specs.declared.answer.Checking.the-variants as checking
 use Rattle.plan.specs.Border.{borders, isBorder}
-use Rattle.plan.specs.Plan.{pointStart, profileValue}
+use Rattle.plan.specs.Plan.{pointStart, profileValue, towards}
 use Rattle.plan.specs.PlanDecode.{decodePlan}
 use Rattle.plan.specs.PlanRules as rules
 use Rattle.plan.specs.PlanValidate.{badPlanLength, matching, planned}
 use Rattle.plan_tests.specs.Tests.{fails, fails22, given}
 use Rattle.plan_check.specs.Check.{checked, tripleRung}
 use Rattle.plan_check.specs.CheckPlan.{checkedBy}
-use Rattle.plan_check.specs.Promise.{towards}
 use Rattle.trip_call.specs.Trip.{asked, andThen, searched, tripAnswer}
 use Rattle.trip.specs.Flagged.{plannedThen}
 use Rattle.trip.specs.Calls.{plainPath, flaggedPath}
@@ -68,7 +68,7 @@ module _ (opened : List ℕ → Opening) (planning : Header → Network → List
   toldBy (flagged network file from to departure) =
       tripTold
       (tripAnswer (andThen (opened network) (λ h. plannedThen (planning h (decode network) file) (asked h from to departure 512)))
-      (searched (decode network) (towards (decode network) (decodePlan file) to) from to departure 511))
+      (searched (decode network) (towards (partitionOf (decode network)) (decodePlan file) to) from to departure 511))
       (flaggedPath network file from to departure)
 
 told-by : (q : Question) → told q ≡ toldBy validated planned q

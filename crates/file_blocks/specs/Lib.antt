@@ -1,4 +1,5 @@
 -- What the contracts of this crate say, one subject a module, in the order in which they build on each other.
+pub mod Kind
 pub mod Place
 pub mod Cursor
 pub mod Table

@@ -1,4 +1,5 @@
 // file_blocks: files of 512-byte blocks, whatever their entries mean.
+//   kind    the table of kinds
 //   place   where the entries of a kind stand, and a table filled from them
 //   cursor  a walk over entries in their order
 //   form    a block's head and fill
@@ -7,6 +8,7 @@
 // It may call `file_fields` for fields and for a block's check, and cites `theory_loops`.
 pub mod cursor;
 pub mod form;
+pub mod kind;
 pub mod place;
 pub mod reader;
 pub mod write;

@@ -3,3 +3,8 @@
 //   sum     the check of a block, over its 16-bit words
 pub mod fields;
 pub mod sum;
+
+// The bytes of a block, and those that its check is over: specs/Block.antt.
+pub const BLOCK: usize = 512;
+
+pub const SUMMED: usize = 508;

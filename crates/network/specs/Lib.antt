@@ -1,4 +1,5 @@
 -- Network files.
+pub mod Answer
 pub mod Limits
 pub mod Layout
 pub mod Network

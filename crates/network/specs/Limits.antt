@@ -9,29 +9,44 @@ use Rattle.network.specs.declared.header.Header.{Header}
 use Rattle.network.specs.declared.header.Made.{Made}
 use Rattle.network.specs.declared.header.Made.the-variants.{Inside, Outside}
 
--- period 1 to 2,880, nodes 1 to 512, arcs 0 to 2,048, cells 1 to 64, points 0 to 65,535
+abbrev pub mostPeriod : ℕ
+mostPeriod = 2880
+
+abbrev pub mostNodes : ℕ
+mostNodes = 512
+
+abbrev pub mostArcs : ℕ
+mostArcs = 2048
+
+abbrev pub mostCells : ℕ
+mostCells = 64
+
+abbrev pub mostPoints : ℕ
+mostPoints = 65535
+
+-- a period, nodes and cells are 1 or more
 unfoldable pub made : ℕ → ℕ → ℕ → ℕ → ℕ → ℕ → Made
 made number period nodes arcs cells points =
     cond (ltb period 1) Outside
-    (cond (ltb 2880 period) Outside
+    (cond (ltb mostPeriod period) Outside
     (cond (ltb nodes 1) Outside
-    (cond (ltb 512 nodes) Outside
-    (cond (ltb 2048 arcs) Outside
+    (cond (ltb mostNodes nodes) Outside
+    (cond (ltb mostArcs arcs) Outside
     (cond (ltb cells 1) Outside
-    (cond (ltb 64 cells) Outside
-    (cond (ltb 65535 points) Outside
+    (cond (ltb mostCells cells) Outside
+    (cond (ltb mostPoints points) Outside
     (Inside (record { number = number; period = period; nodes = nodes; arcs = arcs; cells = cells; points = points })))))))))
 
 -- a header within the limits
 pub record Within (h : Header) : Type 0 where
   pub period-some : 1 ≤ h .period
-  pub period-most : h .period ≤ 2880
+  pub period-most : h .period ≤ mostPeriod
   pub nodes-some : 1 ≤ h .nodes
-  pub nodes-most : h .nodes ≤ 512
-  pub arcs-most : h .arcs ≤ 2048
+  pub nodes-most : h .nodes ≤ mostNodes
+  pub arcs-most : h .arcs ≤ mostArcs
   pub cells-some : 1 ≤ h .cells
-  pub cells-most : h .cells ≤ 64
-  pub points-most : h .points ≤ 65535
+  pub cells-most : h .cells ≤ mostCells
+  pub points-most : h .points ≤ mostPoints
 
 -- a limit that is kept where a header is made
 kept : (t : Bool) (m : Made) (h : Header) → cond t Outside m ≡ Inside h → (t ≡ false) × (m ≡ Inside h)

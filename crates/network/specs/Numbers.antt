@@ -7,9 +7,9 @@ use lib.ListN.{length}
 use lib.Dec.{eqb, ltb}
 use Rattle.theory_loops.specs.Pick.{cond-holds, rung-holds}
 use Rattle.file_blocks.specs.Form.{formed}
-use Rattle.network.specs.declared.answer.Refusal.{Refusal}
-use Rattle.network.specs.declared.answer.Judged.{Judged}
-use Rattle.network.specs.declared.answer.Judged.the-variants.{Sound, Faulty}
+use Rattle.file_refusals.specs.declared.Refusal.{Refusal}
+use Rattle.file_refusals.specs.declared.Judged.{Judged}
+use Rattle.file_refusals.specs.declared.Judged.the-variants.{Sound, Faulty}
 use Rattle.network.specs.declared.answer.Opening.{Opening}
 use Rattle.network.specs.declared.answer.Opening.the-variants.{Refused}
 use Rattle.network.specs.declared.header.Header.{Header}
@@ -18,24 +18,13 @@ use Rattle.network.specs.declared.header.Made.the-variants.{Inside, Outs
 use Rattle.network.specs.Layout.{allBlocks}
 use Rattle.network.specs.Network.{Network, arcs, points, start}
 use Rattle.network.specs.Decode.{decode}
-use Rattle.network.specs.Rules.{refusal, firstPoint, badPointOf, overtakenOf, judgedPoints, judgedSum, judgedArcs, judged}
+use Rattle.file_refusals.specs.Refusal.{refusal}
+use Rattle.file_refusals.specs.Numbered.{Numbered, numbered, same-faulty}
+use Rattle.network.specs.Rules.{firstPoint, badPointOf, overtakenOf, judgedPoints, judgedSum, judgedArcs, judged}
 use Rattle.network.specs.Validate.{badLength, firstUnformed, madeAt, validatedRules, validatedForm, validatedLength, validatedHeader, validatedFirst, validated}
-
--- Answers of a kind whose refusals are R: one that is refused has a number from low to high. It is said once for every kind of answer.
-module _ {A : Type 0} (R : Refusal → A) (low high : ℕ) where
-  abbrev pub Numbered : A → Type 0
-  Numbered a = (r : Refusal) → a ≡ R r → (low ≤ r .number) × (r .number ≤ high)
-
-  pub numbered : ((q r : Refusal) → R q ≡ R r → q ≡ r) → (q : Refusal) → low ≤ q .number → q .number ≤ high → Numbered (R q)
-  numbered same q l h r e =
-      let z : q .number ≡ r .number = ap (λ (k : Refusal). k .number) (same q r e) in
-      (omega arith, omega arith)
 
 same-refused : (q r : Refusal) → Refused q ≡ Refused r → q ≡ r
 same-refused q r e = cc
-
-pub same-faulty : (q r : Refusal) → Faulty q ≡ Faulty r → q ≡ r
-same-faulty q r e = cc
 
 abbrev Judges : Judged → Type 0
 Judges = Numbered Faulty 7 10

@@ -9,18 +9,12 @@ use Rattle.theory_loops.specs.First.{first, any}
 use Rattle.theory_loops.specs.Pick.{firstRung}
 use Rattle.theory_travel.specs.Day.{closed}
 use Rattle.theory_travel.specs.Table.{entryAt}
-use Rattle.network.specs.declared.answer.Refusal.{Refusal}
-use Rattle.network.specs.declared.answer.Judged.{Judged}
-use Rattle.network.specs.declared.answer.Judged.the-variants.{Sound, Faulty}
+use Rattle.file_refusals.specs.declared.Judged.{Judged}
+use Rattle.file_refusals.specs.declared.Judged.the-variants.{Sound}
+use Rattle.file_refusals.specs.Refusal.{faulty}
 use Rattle.network.specs.declared.header.Layout.{Layout}
 use Rattle.network.specs.Decode.{decode, Laid, laid-sizes}
 use Rattle.network.specs.Network.{Network, nodes, arcs, points, cell, tail, head, count, start}
-
-abbrev pub refusal : ℕ → ℕ → Refusal
-refusal number place = record { number = number; first = place; second = 0; third = 0 }
-
-abbrev pub faulty : ℕ → ℕ → Judged
-faulty number place = Faulty (refusal number place)
 
 -- 7: a cell that is not below the count of cells
 abbrev pub badCell : Network → ℕ → Bool

@@ -11,9 +11,10 @@ use Rattle.theory_loops.specs.First.{first, first-le, clear, all-clear, found}
 use Rattle.theory_loops.specs.Pick.{or-passed, passed-by, reached-by, rung-passed, rung-clear}
 use Rattle.theory_travel.specs.Points.{Fifo}
 use Rattle.theory_travel.specs.Day.{Day, closed, closed-in}
-use Rattle.network.specs.declared.answer.Judged.the-variants.{Sound}
+use Rattle.file_refusals.specs.declared.Judged.the-variants.{Sound}
 use Rattle.network.specs.Network.{Network, nodes, arcs, points, cell, tail, head, count, start}
-use Rattle.network.specs.Rules.{faulty, badCell, badEnds, badArc, misplaced, badPointBy, badPoint, overtaken, ticksOf, travelsOf, badPointOf, overtakenOf, firstPoint, judgedPoints, judgedSum, judgedArcs, judged}
+use Rattle.file_refusals.specs.Refusal.{faulty}
+use Rattle.network.specs.Rules.{badCell, badEnds, badArc, misplaced, badPointBy, badPoint, overtaken, ticksOf, travelsOf, badPointOf, overtakenOf, firstPoint, judgedPoints, judgedSum, judgedArcs, judged}
 use Rattle.network.specs.FirstPoint.{Counted, anyOf, points-in, none-first, at-first}
 
 -- 8, of arc a

@@ -2,8 +2,9 @@
 -- theory of paths proves holds of it.
 use Prim.Native.Nat.{ℕ, _≤_}
 use Rattle.theory_paths.specs.Graph.{Graph, Lawful, Bounded, ends}
+use Rattle.theory_paths.specs.Partition.{Partition}
 use Rattle.theory_travel.specs.Day.{dayValue, day-least, day-most, day-fifo}
-use Rattle.network.specs.Network.{Network, nodes, arcs, tail, head, count}
+use Rattle.network.specs.Network.{Network, nodes, arcs, cell, tail, head, count}
 use Rattle.network.specs.Rules.{ticksOf, travelsOf}
 use Rattle.network.specs.Sound.{SoundNetwork}
 
@@ -13,6 +14,10 @@ travelAt n a x = dayValue (ticksOf n a) (travelsOf n a) (count n a) (n .period) 
 
 abbrev pub graphOf : Network → Graph
 graphOf n = record { period = n .period; nodes = nodes n; arcs = arcs n; tail = tail n; head = head n; travel = travelAt n }
+
+-- the same with the cells of its nodes
+abbrev pub partitionOf : Network → Partition
+partitionOf n = record { graph = graphOf n; cell = cell n }
 
 module _ {n : Network} (s : SoundNetwork n) where
   pub town-lawful : 1 ≤ n .period → Lawful (graphOf n)

@@ -15,9 +15,9 @@ use Rattle.file_fields.specs.Fields.{le16, le32}
 use Rattle.file_blocks.specs.Place.{blocks, Stored}
 use Rattle.file_blocks.specs.Form.{formed, unformed}
 use Rattle.file_blocks.specs.Read.{bad}
-use Rattle.network.specs.declared.answer.Refusal.{Refusal}
-use Rattle.network.specs.declared.answer.Judged.{Judged}
-use Rattle.network.specs.declared.answer.Judged.the-variants.{Sound, Faulty}
+use Rattle.file_refusals.specs.declared.Refusal.{Refusal}
+use Rattle.file_refusals.specs.declared.Judged.{Judged}
+use Rattle.file_refusals.specs.declared.Judged.the-variants.{Sound, Faulty}
 use Rattle.network.specs.declared.answer.Opening.{Opening}
 use Rattle.network.specs.declared.answer.Opening.the-variants.{Opened, Refused}
 use Rattle.network.specs.declared.header.Header.{Header}
@@ -27,7 +27,8 @@ use Rattle.network.specs.Limits.{made, Within, made-within}
 use Rattle.network.specs.Layout.{arcBlock, pointBlock, allBlocks, layoutOf}
 use Rattle.network.specs.declared.header.Layout.{Layout}
 use Rattle.network.specs.Decode.{headerAt, decode, Laid, laid-blocks}
-use Rattle.network.specs.Rules.{refusal, judged}
+use Rattle.file_refusals.specs.Refusal.{refusal}
+use Rattle.network.specs.Rules.{judged}
 
 abbrev pub refused : ℕ → ℕ → Opening
 refused number place = Refused (refusal number place)

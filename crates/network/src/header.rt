@@ -1,4 +1,5 @@
 // The header of a network with its limits, and where the tables of such a network stand in its file.
+use crate::limits;
 ghost use mathlib.Core.Path.{_≡_};
 ghost use Rattle.network.specs.Limits.{made, Within};
 ghost use Rattle.network.specs.Layout.{layoutOf};
@@ -31,16 +32,15 @@ pub struct Layout {
 }
 
 impl Header {
-    // A tick is half a minute, so a period is a day at most.
-    pub const MOST_TICKS: u32 = 2880;
+    pub const MOST_TICKS: u32 = limits::MOST_PERIOD as u32;
 
-    pub const MOST_NODES: u32 = 512;
+    pub const MOST_NODES: u32 = limits::MOST_NODES as u32;
 
-    pub const MOST_ARCS: u32 = 2048;
+    pub const MOST_ARCS: u32 = limits::MOST_ARCS as u32;
 
-    pub const MOST_CELLS: u32 = 64;
+    pub const MOST_CELLS: u32 = limits::MOST_CELLS as u32;
 
-    pub const MOST_POINTS: u32 = 65535;
+    pub const MOST_POINTS: u32 = limits::MOST_POINTS as u32;
 
     // A header of numbers within the limits.
     pub fn new(number: u32, period: u32, nodes: u32, arcs: u32, cells: u32, points: u32) -> Made

@@ -7,7 +7,7 @@ use native.Mathlib.Omega.{arith}
 use lib.ListN.{length, getD, take}
 use lib.Seq.{getD-take, length-take-le}
 use lib.Dec.{lit<, lit≤}
-use Rattle.theory_loops.specs.Fill.{Filled, filled-list, length-tab}
+use Rattle.theory_loops.specs.Fill.{Filled, filled-list, length-tab, overwritten}
 use Rattle.file_blocks.specs.Bytes.{fileByte}
 use Rattle.file_blocks.specs.Run.{runBody, headerBody}
 use Rattle.file_fields.specs.Put.{put, fill-join}
@@ -19,7 +19,6 @@ use Rattle.network.specs.Network.{Network}
 use Rattle.network.specs.Decode.{LaidBlocks}
 use Rattle.network_encode.specs.Encode.{headerOf, encodeBy, encode, headerByte, cellByte, arcByte, pointByte, bodyBy, header-body, cells-body, arcs-body, points-body, number-byte, period-byte, nodes-byte, arcs-byte, cells-byte, points-byte}
 use Rattle.network_encode.specs.Block.{partByte, InRun, entry-none, entry-first, entry-field, entry-put, same-body, same-block}
-use Rattle.network_open.specs.Open.{overwritten}
 use Rattle.network_encode.specs.Tables.{networkOf, Packable}
 
 -- AN ENTRY is put as one number

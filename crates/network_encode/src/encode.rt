@@ -4,21 +4,20 @@ use file_blocks::place::entries_in;
 use file_blocks::write::write_check;
 use file_blocks::write::write_head;
 use file_blocks::write::write_zeros;
-use network::header::Header;
-use network::header::Layout;
 use file_fields::fields::put16;
 use file_fields::fields::put32;
+use network::header::Header;
+use network::header::Layout;
 ghost use mathlib.Core.Path.{_≡_};
 ghost use Prim.Native.Nat.{_+_, _*_, _^_, _≤_, _<_};
 ghost use lib.ListN.{length};
-ghost use Rattle.theory_loops.specs.Fill.{Filled};
+ghost use Rattle.theory_loops.specs.Fill.{Filled, overwritten};
 ghost use Rattle.file_blocks.specs.Bytes.{fileByte};
 ghost use Rattle.file_fields.specs.Put.{put};
 ghost use Rattle.file_blocks.specs.Run.{runBody, headerBody};
 ghost use Rattle.network.specs.Limits.{Within};
 ghost use Rattle.network_encode.specs.Encode.{headerByte, cellByte, arcByte, pointByte, bodyBy, encode};
 ghost use Rattle.network_encode.specs.Block.{partByte, InRun};
-ghost use Rattle.network_open.specs.Open.{overwritten};
 ghost use Rattle.network_encode.specs.Tables.{networkOf, Packable};
 
 // Two fields of two bytes, one behind the other.

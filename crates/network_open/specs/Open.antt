@@ -2,14 +2,14 @@
 -- entries alone, which become the network's.
 use mathlib.Core.Path.{_≡_, sym, _∙_}
 use mathlib.Core.Bool.{Bool, true, false, cond, _||_}
-use mathlib.Core.List.{List, _++_}
+use mathlib.Core.List.{List}
 use Prim.Native.Nat.{ℕ, _≤_}
-use lib.ListN.{length, drop}
+use lib.ListN.{length}
 use lib.Dec.{ltb}
 use borrow.Author.Tests.{ltb-false}
 use Rattle.theory_loops.specs.Pick.{or-passed}
-use Rattle.theory_loops.specs.Fill.{Filled, filled-list, tab, length-tab}
-use Rattle.network.specs.declared.answer.Refusal.{Refusal}
+use Rattle.theory_loops.specs.Fill.{Filled, filled-list, overwritten, tab, length-tab}
+use Rattle.file_refusals.specs.declared.Refusal.{Refusal}
 use Rattle.network.specs.declared.answer.Opening.{Opening}
 use Rattle.network.specs.declared.answer.Opening.the-variants.{Opened, Refused}
 use Rattle.network.specs.declared.header.Header.{Header}
@@ -35,10 +35,6 @@ openedIn (Opened h) short = cond (short h) (refused 30 0) (Opened h)
 abbrev pub opening : List ℕ → ℕ → ℕ → ℕ → ℕ → ℕ → ℕ → Opening
 opening file cells tails heads counts ticks travels =
     openedIn (validated file) (λ h. tooShort h cells tails heads counts ticks travels)
-
--- a table whose first entries have become these values: the others stay
-abbrev pub overwritten : List ℕ → List ℕ → List ℕ
-overwritten values old = values ++ drop (length values) old
 
 -- a table at exit, by the answer
 abbrev pub tableAfter : Opening → List ℕ → List ℕ → List ℕ

@@ -9,7 +9,8 @@ ghost use mathlib.Core.Path.{_≡_};
 ghost use Prim.Native.Nat.{_≤_};
 ghost use lib.ListN.{length};
 ghost use Rattle.network.specs.Decode.{decode, Laid};
-ghost use Rattle.network_open.specs.Open.{tooShort, opening, Room, overwritten, tableAfter};
+ghost use Rattle.theory_loops.specs.Fill.{overwritten};
+ghost use Rattle.network_open.specs.Open.{tooShort, opening, Room, tableAfter};
 
 // Refusal 30: has a table of these lengths no room for the header's counts?
 pub fn is_short(

@@ -3,15 +3,15 @@
 use file_blocks::form::first_unformed;
 use file_blocks::form::is_formed;
 use file_blocks::reader::first_bad_sum;
-use network::answer::Judged;
+use file_fields::fields::le16;
+use file_fields::fields::le32;
+use file_refusals::Judged;
 use network::answer::Opening;
 use network::answer::refused;
 use network::header::Header;
 use network::header::Layout;
 use network::header::Made;
 use network_rules::rules::judge;
-use file_fields::fields::le16;
-use file_fields::fields::le32;
 ghost use mathlib.Core.Path.{_≡_};
 ghost use Prim.Native.Nat.{_+_, _*_, _≤_};
 ghost use lib.ListN.{length};

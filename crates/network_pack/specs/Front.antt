@@ -7,7 +7,7 @@ use native.Mathlib.Omega.{arith}
 use native.Mathlib.Decide.{decLt}
 use lib.ListN.{length, getD, take, length-take, List·getD-eq-default}
 use lib.Seq.{getD-take, length-take-le, take-at}
-use Rattle.theory_loops.specs.Fill.{Filled, filled-list}
+use Rattle.theory_loops.specs.Fill.{Filled, filled-list, overwritten}
 use Rattle.network.specs.declared.header.Header.{Header}
 use Rattle.network.specs.declared.header.Layout.{Layout}
 use Rattle.network_pack.specs.declared.pack.Packing.{Packing}
@@ -16,7 +16,6 @@ use Rattle.network.specs.Layout.{layoutOf, allBlocks}
 use Rattle.network.specs.Network.{Network}
 use Rattle.network.specs.Decode.{headerAt, decode, Laid, LaidBlocks}
 use Rattle.network.specs.Rules.{judged}
-use Rattle.network_open.specs.Open.{overwritten}
 use Rattle.network_encode.specs.Encode.{encode, Words, Proper}
 use Rattle.network_pack.specs.Holds.{tab-is}
 use Rattle.network_pack.specs.RoundTrip.{encode-long, header-encode, decode-encode}

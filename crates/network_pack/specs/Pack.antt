@@ -8,9 +8,9 @@ use native.Mathlib.Omega.{arith}
 use lib.ListN.{length, take}
 use lib.Dec.{ltb}
 use borrow.Author.Tests.{lt-ltb, le-ltb}
-use Rattle.network.specs.declared.answer.Refusal.{Refusal}
-use Rattle.network.specs.declared.answer.Judged.{Judged}
-use Rattle.network.specs.declared.answer.Judged.the-variants.{Sound, Faulty}
+use Rattle.file_refusals.specs.declared.Refusal.{Refusal}
+use Rattle.file_refusals.specs.declared.Judged.{Judged}
+use Rattle.file_refusals.specs.declared.Judged.the-variants.{Sound, Faulty}
 use Rattle.network.specs.declared.header.Header.{Header}
 use Rattle.network.specs.declared.header.Made.{Made}
 use Rattle.network.specs.declared.header.Made.the-variants.{Inside, Outside}
@@ -20,8 +20,10 @@ use Rattle.network_pack.specs.declared.pack.Packing.the-variants.{Packed
 use Rattle.network.specs.Limits.{made, Within, made-within}
 use Rattle.network.specs.Layout.{layoutOf}
 use Rattle.network.specs.Network.{Network}
-use Rattle.network.specs.Rules.{refusal, judged}
-use Rattle.network_open.specs.Open.{tooShort, overwritten, Room, open-room}
+use Rattle.file_refusals.specs.Refusal.{refusal}
+use Rattle.network.specs.Rules.{judged}
+use Rattle.theory_loops.specs.Fill.{overwritten}
+use Rattle.network_open.specs.Open.{tooShort, Room, open-room}
 use Rattle.network_encode.specs.Encode.{encode}
 use Rattle.network_encode.specs.Tables.{networkOf, Packable}
 

@@ -9,13 +9,13 @@ use lib.Dec.{ltb}
 use lib.ListN.{length, take, drop, length-append}
 use borrow.Author.Tests.{le-ltb}
 use lib.Seq.{take-at}
-use Rattle.theory_loops.specs.Fill.{length-tab}
+use Rattle.theory_loops.specs.Fill.{length-tab, overwritten}
 use Rattle.theory_loops.specs.Pick.{passed-by}
 use Rattle.file_fields.specs.Fields.{Bytes}
-use Rattle.network.specs.declared.answer.Judged.{Judged}
-use Rattle.network.specs.declared.answer.Judged.the-variants.{Sound, Faulty}
+use Rattle.file_refusals.specs.declared.Judged.{Judged}
+use Rattle.file_refusals.specs.declared.Judged.the-variants.{Sound, Faulty}
 use Rattle.network.specs.declared.answer.Opening.{Opening}
-use Rattle.network.specs.declared.answer.Refusal.{Refusal}
+use Rattle.file_refusals.specs.declared.Refusal.{Refusal}
 use Rattle.network.specs.declared.answer.Opening.the-variants.{Opened}
 use Rattle.network.specs.declared.header.Header.{Header}
 use Rattle.network_pack.specs.declared.pack.Length.{Length}
@@ -26,11 +26,12 @@ use Rattle.network.specs.Limits.{made, Within, made-within, within-made}
 use Rattle.network.specs.Layout.{layoutOf}
 use Rattle.network.specs.Network.{Network}
 use Rattle.network.specs.Decode.{headerAt, decode}
-use Rattle.network.specs.Rules.{refusal, judged}
+use Rattle.file_refusals.specs.Refusal.{refusal}
+use Rattle.network.specs.Rules.{judged}
 use Rattle.network.specs.Sound.{sound-exactly}
 use Rattle.network.specs.Validate.{validated}
 use Rattle.network.specs.Valid.{ValidFile, valid-exactly}
-use Rattle.network_open.specs.Open.{tooShort, openedIn, opening, overwritten}
+use Rattle.network_open.specs.Open.{tooShort, openedIn, opening}
 use Rattle.network_encode.specs.Encode.{headerOf, encode, Proper}
 use Rattle.network_pack.specs.RoundTrip.{decode-encode, encode-valid, encode-decode}
 use Rattle.network_encode.specs.Tables.{networkOf, Packable}

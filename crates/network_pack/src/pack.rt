@@ -1,8 +1,8 @@
 // Pack: the file of a network whose tables are lent, written into lent bytes once nothing is refused. The file is made in bytes of its own first, so that
 // the rules 7 to 10 are judged by the code that judges them for Open, on the bytes that are then copied.
-use network::answer::Judged;
-use network::answer::Refusal;
-use network::answer::refuse;
+use file_refusals::Judged;
+use file_refusals::Refusal;
+use file_refusals::refuse;
 use network::header::Header;
 use network::header::Layout;
 use network::header::Made;
@@ -15,7 +15,7 @@ ghost use lib.ListN.{length};
 ghost use Rattle.network.specs.Limits.{Within};
 ghost use Rattle.network.specs.Decode.{decode, Laid};
 ghost use Rattle.network.specs.Rules.{judged};
-ghost use Rattle.network_open.specs.Open.{overwritten};
+ghost use Rattle.theory_loops.specs.Fill.{overwritten};
 ghost use Rattle.network_encode.specs.Encode.{encode};
 ghost use Rattle.network_pack.specs.Pack;
 ghost use Rattle.network_encode.specs.Tables.{networkOf, Packable};

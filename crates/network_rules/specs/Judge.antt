@@ -6,13 +6,14 @@ use native.Mathlib.Omega.{arith}
 use borrow.Author.Tests.{lt-ltb, le-ltb, eq-eqb, ne-eqb}
 use Rattle.theory_loops.specs.First.{first, first-le, clear}
 use Rattle.theory_loops.specs.Pick.{at-first, past-first}
-use Rattle.network.specs.declared.answer.Judged.{Judged}
-use Rattle.network.specs.declared.answer.Judged.the-variants.{Sound}
+use Rattle.file_refusals.specs.declared.Judged.{Judged}
+use Rattle.file_refusals.specs.declared.Judged.the-variants.{Sound}
 use Rattle.network.specs.declared.header.Layout.{Layout}
 use Rattle.network_rules.specs.declared.rules.Scan.{Scan}
 use Rattle.network.specs.Network.{Network, nodes, arcs, points, start}
 use Rattle.network.specs.Decode.{decode, Laid, laid-sizes}
-use Rattle.network.specs.Rules.{faulty, badCell, badArc, judgedPoints, judgedSum, judgedArcs, judged}
+use Rattle.file_refusals.specs.Refusal.{faulty}
+use Rattle.network.specs.Rules.{badCell, badArc, judgedPoints, judgedSum, judgedArcs, judged}
 use Rattle.network.specs.FirstPoint.{Counted}
 use Rattle.network_rules.specs.ScanAll.{ScannedAll}
 use Rattle.network.specs.Sound.{arc-sound}

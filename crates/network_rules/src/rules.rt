@@ -2,8 +2,8 @@
 // and 10 (steady.rt). Where they do not, one scan finds the places: rule 10 is judged at each point while rule 9 is, and told where 9 holds
 // everywhere.
 use crate::steady::is_steady;
-use network::answer::Judged;
-use network::answer::faulty;
+use file_refusals::Judged;
+use file_refusals::faulty;
 use network::header::Layout;
 use network::read;
 ghost use mathlib.Core.Path.{_≡_};

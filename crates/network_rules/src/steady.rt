@@ -1,9 +1,9 @@
 // Whether the points of an arc keep the rules 9 and 10, yes or no: what a good file is asked. The points are taken in parts that stand side by
 // side in one block, so that one division finds the first point and none the others. Where the answer is no, rules.rt finds the rule and the point.
 use file_blocks::cursor::Cursor;
+use file_fields::fields::le16;
 use network::header::Layout;
 use network::read;
-use file_fields::fields::le16;
 ghost use mathlib.Core.Path.{_≡_};
 ghost use mathlib.Core.Bool.{true};
 ghost use Prim.Native.Nat.{_+_, _-_, _*_, _≤_, _<_, min};

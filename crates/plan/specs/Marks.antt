@@ -12,7 +12,8 @@ use lib.Seq.{getD-set-same, getD-set-other}
 use lib.Dec.{eqb, ltb}
 use borrow.Author.Tests.{eq-eqb, ne-eqb, le-ltb, lt-ltb}
 use Rattle.theory_loops.specs.First.{first, any, first-le, yes-any, none-yet, first-more}
-use Rattle.theory_loops.specs.Select.{Chosen, fronted}
+use Rattle.theory_loops.specs.Fill.{overwritten}
+use Rattle.theory_loops.specs.Select.{Chosen}
 use Rattle.network.specs.Network.{Network, nodes, arcs, cell, tail, head}
 use Rattle.network.specs.Decode.{decode, Laid, laid-sizes}
 use Rattle.network.specs.Sound.{SoundNetwork}
@@ -102,6 +103,6 @@ module _ (n : Network) (marks : List ℕ) (m : Marked n (arcs n) marks) where
       go true e = absurd (omega (arith, sym h ∙ m .marked v l ∙ ap (λ (b : Bool). cond b 1 0) e))
       go false e = e
 
-pub borders-listed : (n : Network) (c : ℕ) (old new : List ℕ) → Chosen (nodes n) (isBorder n) c old new → (c ≡ borderCount n) × (new ≡ fronted (borders n) old)
+pub borders-listed : (n : Network) (c : ℕ) (old new : List ℕ) → Chosen (nodes n) (isBorder n) c old new → (c ≡ borderCount n) × (new ≡ overwritten (borders n) old)
 unfolding borders
 borders-listed n c old new h = (h .count, h .list)

@@ -6,13 +6,13 @@ use native.Mathlib.Omega.{arith}
 use lib.ListN.{length}
 use lib.Dec.{eqb, ltb}
 use Rattle.theory_loops.specs.Pick.{cond-holds, rung-holds}
-use Rattle.network.specs.declared.answer.Refusal.{Refusal}
-use Rattle.network.specs.declared.answer.Judged.{Judged}
-use Rattle.network.specs.declared.answer.Judged.the-variants.{Sound, Faulty}
+use Rattle.file_refusals.specs.declared.Refusal.{Refusal}
+use Rattle.file_refusals.specs.declared.Judged.{Judged}
+use Rattle.file_refusals.specs.declared.Judged.the-variants.{Sound, Faulty}
 use Rattle.network.specs.declared.header.Header.{Header}
 use Rattle.network.specs.Network.{Network}
-use Rattle.network.specs.Rules.{refusal}
-use Rattle.network.specs.Numbers.{Numbered, numbered, same-faulty}
+use Rattle.file_refusals.specs.Refusal.{refusal}
+use Rattle.file_refusals.specs.Numbered.{Numbered, numbered, same-faulty}
 use Rattle.plan.specs.declared.answer.Planning.{Planning}
 use Rattle.plan.specs.declared.answer.Planning.the-variants as planning
 use Rattle.plan.specs.declared.header.PlanHeader.{PlanHeader}

@@ -6,6 +6,9 @@ use Prim.Native.Nat.{ℕ, _+_, _*_, _/_, _%_, _^_}
 use lib.ListN.{getD}
 use lib.Dec.{eqb}
 use Rattle.theory_loops.specs.Total.{total}
+use Rattle.theory_paths.specs.Graph.{Permit}
+use Rattle.theory_paths.specs.Partition.{Partition}
+use Rattle.theory_paths.specs.Flags.{flagged}
 use Rattle.theory_paths.specs.Profiles.{Travel, unreachable, ticks, Profile}
 use Rattle.theory_travel.specs.Day.{dayValue}
 use Rattle.theory_travel.specs.Table.{entryAt}
@@ -24,6 +27,10 @@ bit word c = eqb (word / 2 ^ c % 2) 1
 
 abbrev pub flag : Plan → ℕ → ℕ → Bool
 flag p a c = bit (getD (p .flagWords) a 0) c
+
+-- the arcs that a flagged trip to node t may take: those with the flag of its cell
+abbrev pub towards : Partition → Plan → ℕ → Permit
+towards c p t = flagged (flag p) (c .cell t)
 
 -- profile number k: how many points it has, where they start, their ticks and travels
 abbrev pub pointCount : Plan → ℕ → ℕ

@@ -12,9 +12,9 @@ use borrow.Author.Tests.{lt-leb, le-leb, ne-eqb}
 use Rattle.theory_loops.specs.First.{first, any}
 use Rattle.theory_loops.specs.Pick.{firstRung}
 use Rattle.network.specs.Network.{Network, nodes, arcs}
-use Rattle.network.specs.Rules.{faulty}
-use Rattle.network.specs.declared.answer.Judged.{Judged}
-use Rattle.network.specs.declared.answer.Judged.the-variants.{Sound}
+use Rattle.file_refusals.specs.Refusal.{faulty}
+use Rattle.file_refusals.specs.declared.Judged.{Judged}
+use Rattle.file_refusals.specs.declared.Judged.the-variants.{Sound}
 use Rattle.plan.specs.declared.header.PlanHeader.{PlanHeader}
 use Rattle.plan.specs.Border.{borderCount}
 use Rattle.plan.specs.Plan.{Plan, pointCount, pointStart, pointTicks}

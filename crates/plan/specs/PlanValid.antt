@@ -15,8 +15,8 @@ use Rattle.file_blocks.specs.Place.{blocks}
 use Rattle.file_fields.specs.Sum.{good}
 use Rattle.file_blocks.specs.Form.{formed, unformed}
 use Rattle.file_blocks.specs.Read.{bad}
-use Rattle.network.specs.declared.answer.Judged.{Judged}
-use Rattle.network.specs.declared.answer.Judged.the-variants.{Sound, Faulty}
+use Rattle.file_refusals.specs.declared.Judged.{Judged}
+use Rattle.file_refusals.specs.declared.Judged.the-variants.{Sound, Faulty}
 use Rattle.network.specs.declared.header.Header.{Header}
 use Rattle.network.specs.Network.{Network, nodes, arcs}
 use Rattle.network.specs.Decode.{decode}

@@ -16,12 +16,12 @@ use Rattle.file_fields.specs.Fields.{le16}
 use Rattle.file_blocks.specs.Place.{blocks}
 use Rattle.file_blocks.specs.Form.{formed, unformed}
 use Rattle.file_blocks.specs.Read.{bad}
-use Rattle.network.specs.declared.answer.Refusal.{Refusal}
-use Rattle.network.specs.declared.answer.Judged.{Judged}
-use Rattle.network.specs.declared.answer.Judged.the-variants.{Sound, Faulty}
+use Rattle.file_refusals.specs.declared.Refusal.{Refusal}
+use Rattle.file_refusals.specs.declared.Judged.{Judged}
+use Rattle.file_refusals.specs.declared.Judged.the-variants.{Sound, Faulty}
 use Rattle.network.specs.declared.header.Header.{Header}
 use Rattle.network.specs.Network.{Network, nodes, arcs}
-use Rattle.network.specs.Rules.{refusal}
+use Rattle.file_refusals.specs.Refusal.{refusal}
 use Rattle.network.specs.Validate.{found-few}
 use Rattle.plan.specs.declared.answer.Planning.{Planning}
 use Rattle.plan.specs.declared.answer.Planning.the-variants.{WellFormed, Refused}

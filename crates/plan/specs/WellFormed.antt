@@ -11,8 +11,8 @@ use Rattle.theory_loops.specs.First.{first, first-le, clear, all-clear}
 use Rattle.theory_loops.specs.Pick.{or-passed, reached-by, rung-passed, rung-clear}
 use Rattle.theory_travel.specs.Day.{Day}
 use Rattle.network.specs.Network.{Network, arcs}
-use Rattle.network.specs.Rules.{faulty}
-use Rattle.network.specs.declared.answer.Judged.the-variants.{Sound}
+use Rattle.file_refusals.specs.Refusal.{faulty}
+use Rattle.file_refusals.specs.declared.Judged.the-variants.{Sound}
 use Rattle.plan.specs.Plan.{Plan, pointCount, pointStart, pointTicks}
 use Rattle.plan.specs.PlanDecode.{flagWord, pointTotal}
 use Rattle.plan.specs.PlanRules.{badFlags, badCount, badTick, badProfile, badPoint, judgedTicks, judgedSum, judgedCounts, judgedFlags, profiles, planJudged}

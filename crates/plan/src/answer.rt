@@ -1,7 +1,7 @@
 // What validation of a plan answers.
 use crate::header::PlanHeader;
-use network::answer::Refusal;
-use network::answer::refuse;
+use file_refusals::Refusal;
+use file_refusals::refuse;
 ghost use mathlib.Core.Path.{_≡_};
 ghost use Rattle.plan.specs.PlanValidate;
 

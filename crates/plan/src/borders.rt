@@ -5,7 +5,7 @@ use network::read;
 ghost use mathlib.Core.Path.{_≡_};
 ghost use Prim.Native.Nat.{_+_, _<_};
 ghost use lib.ListN.{length};
-ghost use Rattle.theory_loops.specs.Select.{fronted};
+ghost use Rattle.theory_loops.specs.Fill.{overwritten};
 ghost use Rattle.network.specs.Network;
 ghost use Rattle.network.specs.Decode.{decode, Laid};
 ghost use Rattle.network.specs.Sound.{SoundNetwork};
@@ -44,7 +44,7 @@ pub fn list_borders(network: &[u8], l: Layout, out: &mut [u16; 512]) -> usize
     requires { ⌜ Laid (now network) l ⌝ }
     requires { ⌜ SoundNetwork (decode (now network)) ⌝ }
     requires { ⌜ length (now out) ≡ 512 ⌝ }
-    ensures { λ r. ⌜ (r ≡ borderCount (decode (now (network .entry)))) × (now (out .exit) ≡ fronted (borders (decode (now (network .entry)))) (now (out .entry))) ⌝ }
+    ensures { λ r. ⌜ (r ≡ borderCount (decode (now (network .entry)))) × (now (out .exit) ≡ overwritten (borders (decode (now (network .entry)))) (now (out .entry))) ⌝ }
 {
     let mut marks = [0u8; 512];
     mark_heads(network, l, &mut marks);

@@ -4,7 +4,7 @@ use Prim.Native.Nat.{ℕ}
 use Rattle.theory_loops.specs.Pick.{firstRung}
 use Rattle.theory_loops.specs.Triple.{firstTripleRung}
 use Rattle.network.specs.Network.{Network, nodes, arcs}
-use Rattle.network.specs.Rules.{refusal}
+use Rattle.file_refusals.specs.Refusal.{refusal}
 use Rattle.plan_check.specs.declared.answer.Checking.{Checking}
 use Rattle.plan_check.specs.declared.answer.Checking.the-variants.{Accepted, Refused}
 use Rattle.plan.specs.Border.{borderCount}

@@ -4,8 +4,8 @@ use mathlib.Core.Path.{_≡_, sym, _∙_}
 use mathlib.Core.List.{List}
 use Prim.Native.Nat.{ℕ}
 use lib.ListN.{length, drop, List·getD-append}
-use Rattle.theory_loops.specs.Select.{fronted}
-use Rattle.network.specs.declared.answer.Refusal.{Refusal}
+use Rattle.theory_loops.specs.Fill.{overwritten}
+use Rattle.file_refusals.specs.declared.Refusal.{Refusal}
 use Rattle.network.specs.declared.answer.Opening.{Opening}
 use Rattle.network.specs.declared.answer.Opening.the-variants as opening
 use Rattle.network.specs.declared.header.Header.{Header}
@@ -67,7 +67,7 @@ module _ {network : List ℕ} {h : Header} (v : ValidFile network h) where
         }
 
 -- the borders at the front of a table are listed
-pub listed-front : (n : Network) (old new : List ℕ) → new ≡ fronted (borders n) old → Listed n new
+pub listed-front : (n : Network) (old new : List ℕ) → new ≡ overwritten (borders n) old → Listed n new
 listed-front n old new e = record { at = λ i l. rw e (List·getD-append (borders n) (drop (length (borders n)) old) 0 i l) }
 
 -- FOR THE CODE

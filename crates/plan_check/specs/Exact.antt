@@ -10,10 +10,10 @@ use Rattle.theory_loops.specs.Pick.{passed-by, rung-passed, rung-clear}
 use Rattle.theory_loops.specs.Triple.{firstTripleRung, triple-clear}
 use Rattle.theory_paths.specs.Flags.{EnoughFlags, TrueProfiles, Checked, checked-exact}
 use Rattle.network.specs.Network.{Network, nodes, arcs, cell}
-use Rattle.network.specs.Rules.{refusal}
+use Rattle.file_refusals.specs.Refusal.{refusal}
 use Rattle.network.specs.Sound.{SoundNetwork}
 use Rattle.network.specs.Town.{graphOf, town-lawful}
-use Rattle.network.specs.declared.answer.Refusal.{Refusal}
+use Rattle.file_refusals.specs.declared.Refusal.{Refusal}
 use Rattle.plan_check.specs.declared.answer.Checking.{Checking}
 use Rattle.plan_check.specs.declared.answer.Checking.the-variants.{Accepted, Refused}
 use Rattle.plan.specs.Border.{borderCount}

@@ -14,8 +14,8 @@ use Rattle.theory_loops.specs.Triple.{anyTriple, firstOf, secondOf, thirdOf, fi
 use Rattle.network.specs.declared.header.Layout.{Layout}
 use Rattle.network.specs.Network.{Network, nodes, arcs, tail, start}
 use Rattle.network.specs.Decode.{decode}
-use Rattle.network.specs.Rules.{refusal}
-use Rattle.network.specs.declared.answer.Refusal.{Refusal}
+use Rattle.file_refusals.specs.Refusal.{refusal}
+use Rattle.file_refusals.specs.declared.Refusal.{Refusal}
 use Rattle.search_arcs.specs.Chain.{endOf, Chained}
 use Rattle.search_arcs.specs.declared.chain.End.the-variants.{Tail}
 use Rattle.plan_check.specs.declared.answer.Checking.{Checking}

@@ -5,13 +5,14 @@ use Prim.Native.Nat.{ℕ, _≤_}
 use native.Mathlib.Omega.{arith}
 use Rattle.theory_loops.specs.Pick.{cond-holds, rung-holds}
 use Rattle.theory_loops.specs.Triple.{firstTripleRung, anyTriple}
-use Rattle.network.specs.declared.answer.Refusal.{Refusal}
+use Rattle.file_refusals.specs.declared.Refusal.{Refusal}
 use Rattle.network.specs.declared.answer.Opening.{Opening}
 use Rattle.network.specs.declared.answer.Opening.the-variants as opening
 use Rattle.network.specs.Network.{Network, nodes}
 use Rattle.network.specs.Decode.{decode}
 use Rattle.network.specs.Validate.{validated}
-use Rattle.network.specs.Numbers.{Numbered, numbered, validated-numbers}
+use Rattle.file_refusals.specs.Numbered.{Numbered, numbered}
+use Rattle.network.specs.Numbers.{validated-numbers}
 use Rattle.plan.specs.declared.answer.Planning.{Planning}
 use Rattle.plan.specs.declared.answer.Planning.the-variants as planning
 use Rattle.plan.specs.Numbers.{planned-numbers}

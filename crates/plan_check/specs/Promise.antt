@@ -4,26 +4,22 @@ use mathlib.Core.Path.{_≡_}
 use mathlib.Core.Logic.{_↔_}
 use mathlib.Core.List.{List}
 use Prim.Native.Nat.{ℕ, _≤_}
-use Rattle.theory_paths.specs.Graph.{Permit, all, IsPath, waited, EarliestArrival, Reachable}
+use Rattle.theory_paths.specs.Graph.{all, IsPath, waited, EarliestArrival, Reachable}
 use Rattle.theory_paths.specs.Drive.{earliest-waiting}
-use Rattle.theory_paths.specs.Flags.{flagged, EnoughFlags, arc-flags, arc-flags-reach}
+use Rattle.theory_paths.specs.Flags.{EnoughFlags, arc-flags, arc-flags-reach}
 use Rattle.network.specs.Network.{Network, cell}
 use Rattle.network.specs.Sound.{SoundNetwork}
-use Rattle.network.specs.Town.{graphOf, town-lawful}
+use Rattle.network.specs.Town.{graphOf, partitionOf, town-lawful}
 use Rattle.plan_check.specs.declared.answer.Checking.the-variants.{Accepted}
-use Rattle.plan.specs.Plan.{Plan, flag}
+use Rattle.plan.specs.Plan.{Plan, flag, towards}
 use Rattle.plan_check.specs.Check.{checked}
 use Rattle.plan_check.specs.Exact.{check-exact}
 
--- the arcs that a flagged trip to t may take
-abbrev pub towards : Network → Plan → ℕ → Permit
-towards n p t = flagged (flag p) (cell n t)
-
 -- from s at tick x to t
 pub record FlaggedTrips (n : Network) (p : Plan) : Type 0 where
-  pub earliest : (s x t b : ℕ) → EarliestArrival (graphOf n) (towards n p t) s x t b ↔ EarliestArrival (graphOf n) all s x t b
-  pub reachable : (s t : ℕ) → Reachable (graphOf n) (towards n p t) s t ↔ Reachable (graphOf n) all s t
-  pub no-earlier : (s x t b : ℕ) → EarliestArrival (graphOf n) (towards n p t) s x t b
+  pub earliest : (s x t b : ℕ) → EarliestArrival (graphOf n) (towards (partitionOf n) p t) s x t b ↔ EarliestArrival (graphOf n) all s x t b
+  pub reachable : (s t : ℕ) → Reachable (graphOf n) (towards (partitionOf n) p t) s t ↔ Reachable (graphOf n) all s t
+  pub no-earlier : (s x t b : ℕ) → EarliestArrival (graphOf n) (towards (partitionOf n) p t) s x t b
       → (w waits : List ℕ) → IsPath (graphOf n) all s t w → b ≤ waited (graphOf n) w waits x
 
 pub accepted-trips : {n : Network} (p : Plan) → SoundNetwork n → 1 ≤ n .period → checked n p ≡ Accepted → FlaggedTrips n p

@@ -1,5 +1,5 @@
 // What the check of a plan answers.
-use network::answer::Refusal;
+use file_refusals::Refusal;
 
 pub enum Checking {
     Accepted,

@@ -2,12 +2,8 @@
 // Both files are read in place; the few tables that spare reading stand on the stack.
 use crate::answer::Checking;
 use crate::clean;
-use search_arcs::chain;
-use search_arcs::chain::End;
-use search_arcs::times;
-use search_arcs::wide;
+use file_refusals::Refusal;
 use network::answer::Opening;
-use network::answer::Refusal;
 use network::header::Header;
 use network::header::Layout;
 use network_open::validate::validate;
@@ -15,9 +11,13 @@ use plan::answer::Planning;
 use plan::borders::list_borders;
 use plan::header::PlanHeader;
 use plan::header::PlanLayout;
-use plan_validate::validate::validate_plan;
 use plan_tests::tests;
+use plan_validate::validate::validate_plan;
 use plan_values::value;
+use search_arcs::chain;
+use search_arcs::chain::End;
+use search_arcs::times;
+use search_arcs::wide;
 ghost use mathlib.Core.Path.{_≡_};
 ghost use Prim.Native.Nat.{_<_};
 ghost use Rattle.theory_loops.specs.First;
@@ -172,7 +172,7 @@ pub fn check_tests(
 {
     let arc = first_unflagged(network, l, plan, pl);
     if arc < l.arcs {
-        return Checking::Refused(network::answer::refuse(20, arc as u32));
+        return Checking::Refused(file_refusals::refuse(20, arc as u32));
     }
     let mut points = [0u16; 2048];
     times::first_points(network, l, &mut points);

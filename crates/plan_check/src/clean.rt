@@ -1,11 +1,12 @@
 // Whether nothing fails anywhere, yes or no, in one pass: what a good plan is asked. At each border number, node and tick the node's value is read once, and one walk
 // over the arcs out of the node reads once what each of them gives. Where the answer is no, check.rt finds the test and the place.
-use search_arcs::wide;
 use network::header::Layout;
+use plan::flag::is_set;
 use plan::header::PlanLayout;
 use plan_tests::tests;
 use plan_values::value;
 use plan_values::value::Value;
+use search_arcs::wide;
 ghost use mathlib.Core.Path.{_≡_};
 ghost use mathlib.Core.Bool.{true, _||_};
 ghost use Prim.Native.Nat.{_<_};
@@ -45,7 +46,7 @@ fn is_kept_by(
         return true;
     }
     if value::is_same(got, value) {
-        return tests::is_set(plan::read::flag_word(plan, pl, arc), c);
+        return is_set(plan::read::flag_word(plan, pl, arc), c);
     }
     false
 }

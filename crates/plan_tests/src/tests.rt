@@ -1,11 +1,12 @@
 // The check's test 20 at an arc, and its tests 21 to 24 at a border number, a node and a tick. What an arc gives is read by `giving`, and the arcs out of a node are walked
 // by one loop, whatever is asked of them.
-use search_arcs::times;
-use search_arcs::wide;
 use network::header::Layout;
+use plan::flag::is_set;
 use plan::header::PlanLayout;
 use plan_values::value;
 use plan_values::value::Value;
+use search_arcs::times;
+use search_arcs::wide;
 ghost use mathlib.Core.Path.{_≡_};
 ghost use Prim.Native.Nat.{_+_, _*_, _<_};
 ghost use Rattle.network.specs.Decode.{decode};
@@ -52,14 +53,6 @@ pub fn giving(
     let reduced = times::in_period(end, l.period);
     let value = value::profile_at(plan, pl, starts, i, head, reduced);
     value::plus(end - tick, value)
-}
-
-// Is bit c of a flag word set?
-pub fn is_set(word: u64, c: usize) -> bool
-    requires { ⌜ c < 64 ⌝ }
-    ensures { λ r. ⌜ r ≡ Plan.bit word c ⌝ }
-{
-    (word >> c) % 2 == 1
 }
 
 // Has an arc the flag that is asked for, if one is?

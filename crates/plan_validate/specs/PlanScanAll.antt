@@ -12,9 +12,9 @@ use borrow.Author.Tests.{lt-ltb, le-ltb, eq-eqb, ne-eqb, ltb-true}
 use Rattle.theory_loops.specs.First.{first, any, first-le, found, none-yet, pass, stop, done, first-more}
 use Rattle.theory_loops.specs.Pick.{firstRung, at-first, past-first}
 use Rattle.theory_loops.specs.Total.{total-none, total-more, total-part}
-use Rattle.network.specs.Rules.{faulty}
-use Rattle.network.specs.declared.answer.Judged.{Judged}
-use Rattle.network.specs.declared.answer.Judged.the-variants.{Sound}
+use Rattle.file_refusals.specs.Refusal.{faulty}
+use Rattle.file_refusals.specs.declared.Judged.{Judged}
+use Rattle.file_refusals.specs.declared.Judged.the-variants.{Sound}
 use Rattle.file_blocks.specs.declared.cursor.Cursor.{Cursor}
 use Rattle.plan.specs.declared.header.PlanLayout.{PlanLayout}
 use Rattle.plan_validate.specs.declared.rules.Scan.{Scan}

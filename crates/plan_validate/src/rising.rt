@@ -2,9 +2,9 @@
 // one block, so that a point costs no step of a cursor. Where the answer is no, rules.rt finds the point.
 use file_blocks::place::offset;
 use file_blocks::place::side_by_side;
+use file_fields::fields::le16;
 use plan::header::PlanLayout;
 use plan::read::tick;
-use file_fields::fields::le16;
 ghost use mathlib.Core.Path.{_≡_};
 ghost use mathlib.Core.Bool.{true};
 ghost use Prim.Native.Nat.{_+_, _*_, _≤_};

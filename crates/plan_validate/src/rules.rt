@@ -3,8 +3,8 @@
 // first asked whether they keep the rule (rising.rt), and scanned for the place where they do not.
 use crate::rising::is_rising;
 use file_blocks::cursor::Cursor;
-use network::answer::Judged;
-use network::answer::faulty;
+use file_refusals::Judged;
+use file_refusals::faulty;
 use plan::header::PlanLayout;
 use plan::read::flag_word;
 ghost use mathlib.Core.Path.{_≡_};

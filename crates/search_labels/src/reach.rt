@@ -2,12 +2,12 @@
 // out of it are relaxed, again and again, until it is the target or the frontier is empty.
 use crate::NEVER;
 use crate::frontier;
+use network::header::Layout;
+use network::read;
 use search_arcs::chain;
 use search_arcs::chain::End;
 use search_arcs::times;
 use search_arcs::wide;
-use network::header::Layout;
-use network::read;
 ghost use mathlib.Core.Path.{_≡_};
 ghost use Prim.Native.Nat.{_≤_, _<_};
 ghost use lib.ListN.{length, getD};

@@ -1,5 +1,6 @@
 -- What the contracts of this crate cite. `Answer` says what a search answers and `Promise` what that means.
 -- The others name what the internal functions compute, in the order in which they build on each other.
+pub mod Says
 pub mod Trim
 pub mod Answer
 pub mod Into

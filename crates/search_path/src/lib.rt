@@ -1,12 +1,14 @@
 // search_path: the earliest arrival over permitted arcs and the chosen path, of a sound network file that is read in place. It owns the answer of a search and
 // its meaning (specs/Answer.antt, specs/Promise.antt).
+//   answer what a trip answers
 //   path   the chosen path, from the labels
 // It may call `search_labels` for the labels, `search_arcs` for the arcs at a node and their ends, and `network` for the entries of the file; it cites `theory_loops` and `theory_paths`.
+use network::header::Layout;
 use search_arcs::times;
 use search_labels::NEVER;
 use search_labels::reach::reach;
-use network::header::Layout;
 
+pub mod answer;
 mod path;
 
 ghost use mathlib.Core.Path.{_≡_};
@@ -87,7 +89,7 @@ fn tell(
 }
 
 // The search over labels for exactly the nodes.
-fn answer(
+fn search_nodes(
     file: &[u8],
     l: Layout,
     mask: &[u8],
@@ -129,7 +131,7 @@ pub fn search(
     ensures { λ r. ⌜ Answered (graphOf (decode (now (file .entry)))) (permitOf (now (mask .entry))) source departure target (now (arrivals .entry)) (now (arrivals .exit)) (now (roads .entry)) (now (roads .exit)) r ⌝ }
 {
     let nodes = l.nodes;
-    answer(
+    search_nodes(
         file,
         l,
         mask,

@@ -1,12 +1,12 @@
 // The chosen path, from the labels: back from the target, by the lowest arc into each node that explains its label. The arcs into a node are
 // walked by their chain. The path is counted first, and then written from its end, so that the list holds it from its first arc to its last.
+use network::header::Layout;
+use network::read;
 use search_arcs::chain;
 use search_arcs::chain::End;
 use search_arcs::times;
 use search_arcs::wide;
 use search_labels::NEVER;
-use network::header::Layout;
-use network::read;
 ghost use mathlib.Core.Path.{_≡_};
 ghost use Prim.Native.Nat.{_≤_, _<_};
 ghost use lib.ListN.{length};

@@ -9,19 +9,19 @@ use lib.Seq.{take-at}
 use Rattle.theory_paths.specs.Graph.{Permit}
 use Rattle.theory_paths.specs.Labels.{label, labels}
 use Rattle.theory_paths.specs.Chosen.{chosen}
-use Rattle.network.specs.declared.answer.Refusal.{Refusal}
+use Rattle.file_refusals.specs.declared.Refusal.{Refusal}
 use Rattle.network.specs.declared.answer.Opening.{Opening}
 use Rattle.network.specs.declared.answer.Opening.the-variants as opening
 use Rattle.network.specs.Network.{Network}
 use Rattle.network.specs.Decode.{decode}
-use Rattle.network.specs.Town.{graphOf}
+use Rattle.network.specs.Town.{graphOf, partitionOf}
 use Rattle.plan.specs.PlanDecode.{decodePlan}
-use Rattle.plan_check.specs.Promise.{towards}
+use Rattle.plan.specs.Plan.{towards}
 use Rattle.search_path.specs.declared.Outcome.{Outcome}
 use Rattle.search_path.specs.declared.Outcome.the-variants as outcome
-use Rattle.trip_call.specs.declared.answer.Arrival.{Arrival}
-use Rattle.trip_call.specs.declared.answer.Answer.{Answer}
-use Rattle.trip_call.specs.declared.answer.Answer.the-variants.{Arrived, Refused}
+use Rattle.search_path.specs.declared.answer.Arrival.{Arrival}
+use Rattle.search_path.specs.declared.answer.Answer.{Answer}
+use Rattle.search_path.specs.declared.answer.Answer.the-variants.{Arrived, Refused}
 use Rattle.trip_call.specs.Trip.{told, searched, tripAnswer, tripRoads}
 use Rattle.trip_call.specs.Drive.{count-is}
 use Rattle.trip.specs.Flagged.{flaggedBegin}
@@ -102,9 +102,9 @@ module _ (n : Network) (p : Permit) (s t d : ℕ) (old : List ℕ) where
 -- THE TRIP that a line asks for, driven with a fresh list of 512 arrivals and one of 511 roads
 module _ (network plan : List ℕ) (a : Asking) (x : Answer)
     (e : x ≡ tripAnswer (flaggedBegin network plan (a .from) (a .to) (a .leave) (length {A = ℕ} (replicate 512 4294967295)))
-    (searched (decode network) (towards (decode network) (decodePlan plan) (a .to)) (a .from) (a .to) (a .leave) (length {A = ℕ} (replicate 511 0)))) where
+    (searched (decode network) (towards (partitionOf (decode network)) (decodePlan plan) (a .to)) (a .from) (a .to) (a .leave) (length {A = ℕ} (replicate 511 0)))) where
   abbrev permit : Permit
-  permit = towards (decode network) (decodePlan plan) (a .to)
+  permit = towards (partitionOf (decode network)) (decodePlan plan) (a .to)
 
   abbrev before : Opening
   before = flaggedBegin network plan (a .from) (a .to) (a .leave) 512

@@ -2,8 +2,8 @@
 -- for a line of another shape `refused 32` alone.
 use mathlib.Core.List.{List, [], _∷_, _++_}
 use Prim.Native.Nat.{ℕ}
-use Rattle.trip_call.specs.declared.answer.Answer.{Answer}
-use Rattle.trip_call.specs.declared.answer.Answer.the-variants.{Arrived, Refused}
+use Rattle.search_path.specs.declared.answer.Answer.{Answer}
+use Rattle.search_path.specs.declared.answer.Answer.the-variants.{Arrived, Refused}
 use Rattle.trip.specs.Calls.{flaggedCall, flaggedPath}
 use Rattle.sheet_line.specs.declared.line.Asking.{Asking}
 use Rattle.sheet_line.specs.declared.line.Line.{Line}

@@ -3,7 +3,7 @@
 use crate::text::end_line;
 use crate::text::put_numbers;
 use crate::text::put_text;
-use network::answer::Refusal;
+use file_refusals::Refusal;
 use plan_check::answer::Checking;
 use plan_check::check::check_plan;
 ghost use mathlib.Core.Path.{_≡_};

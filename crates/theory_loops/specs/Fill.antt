@@ -93,6 +93,10 @@ tab-list (a ∷ w) = ap (λ (l : List ℕ). a ∷ l) (tab-list w)
 pub filled-none : (f : ℕ → ℕ) (a : ℕ) (old new : List ℕ) → Filled a a f old new → new ≡ old
 filled-none f a old new h = ext-getD 0 new old (h .long) (λ k m. elim (decLt k a) [ yes q ↦ h .before k q | no q ↦ h .after k (omega arith) ])
 
+-- a list whose first entries have become these values: the others stay
+abbrev pub overwritten : List ℕ → List ℕ → List ℕ
+overwritten values old = values ++ drop (length values) old
+
 -- the same said by one list equation, for a caller that puts the list into another definition
 pub filled-list : (f : ℕ → ℕ) (n : ℕ) (old new : List ℕ) → n ≤ length old → Filled 0 n f old new → new ≡ tab n f ++ drop n old
 filled-list f n old new l h =

@@ -9,6 +9,7 @@ use native.Mathlib.Decide.{decLt, le-ind}
 use native.Mathlib.Omega.{arith}
 use lib.ListN.{length, getD, drop, set, length-append, length-set, List·getD-append}
 use lib.Seq.{drop-cons, getD-append-seam, set-append-seam}
+use Rattle.theory_loops.specs.Fill.{overwritten}
 
 unfoldable pub select : ℕ → (ℕ → Bool) → List ℕ
 select zero p = []
@@ -16,19 +17,15 @@ select (suc n) p =
     let r = select n p in
     elim (p n) [ true ↦ r ++ (n ∷ []) | false ↦ r ]
 
--- xs at the front of the old list, whose other entries are as they were
-abbrev pub fronted : List ℕ → List ℕ → List ℕ
-fronted xs old = xs ++ drop (length xs) old
-
 -- one more at the end of the front
-pub front-more : (xs old : List ℕ) (v : ℕ) → length xs < length old → set (fronted xs old) (length xs) v ≡ fronted (xs ++ (v ∷ [])) old
+pub front-more : (xs old : List ℕ) (v : ℕ) → length xs < length old → set (overwritten xs old) (length xs) v ≡ overwritten (xs ++ (v ∷ [])) old
 front-more xs old v l =
     rw (drop-cons old (length xs) 0 l, append-assoc, length-append xs (v ∷ []), add-one) (set-append-seam xs (getD old (length xs) 0) (drop (suc (length xs)) old) v)
 
 -- FOR THE LOOP: the first c entries are the indices selected so far
 pub record Chosen (n : ℕ) (p : ℕ → Bool) (c : ℕ) (old new : List ℕ) : Type 0 where
   pub count : c ≡ length (select n p)
-  pub list : new ≡ fronted (select n p) old
+  pub list : new ≡ overwritten (select n p) old
   pub few : c ≤ n
   pub long : length new ≡ length old
 

@@ -1,5 +1,6 @@
 -- Time-dependent paths, profiles and arc flags: `Graph` has the definitions; the other modules prove, in this order, what is used of them.
 pub mod Graph
+pub mod Partition
 pub mod Drive
 pub mod Simple
 pub mod Earliest

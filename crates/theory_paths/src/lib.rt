@@ -1,6 +1,7 @@
 // theory_paths: time-dependent paths, earliest arrivals, profiles and arc flags, over an abstract graph. Theory alone, no code, and it calls nothing.
 // It knows no bytes and no rounding: a network file gives a `Graph`, and what is proved here then holds of it.
 //   Graph     the definitions that every theorem is about: graph, path, driving, waiting, earliest arrival
+//   Partition a graph whose nodes lie in cells
 //   Drive     `later`, `waiting`, `driven-shift`: FIFO along a path, waiting never helps, whole periods shift
 //   Simple    `shorten`, `arrive-bound`: a path of fewer arcs than nodes ends no later; when it ends at the latest
 //   Earliest  `earliest-unique`, `closed-exact`: labels closed below a bound are the earliest arrivals below it

@@ -6,10 +6,10 @@ use Rattle.theory_paths.specs.Labels.{labels}
 use Rattle.theory_paths.specs.Chosen.{chosen}
 use Rattle.network.specs.Network.{Network}
 use Rattle.network.specs.Decode.{decode}
-use Rattle.network.specs.Town.{graphOf}
+use Rattle.network.specs.Town.{graphOf, partitionOf}
 use Rattle.plan.specs.PlanDecode.{decodePlan}
-use Rattle.plan_check.specs.Promise.{towards}
-use Rattle.trip_call.specs.declared.answer.Answer.{Answer}
+use Rattle.plan.specs.Plan.{towards}
+use Rattle.search_path.specs.declared.answer.Answer.{Answer}
 use Rattle.trip_call.specs.Trip.{searched, tripAnswer}
 use Rattle.trip.specs.Plain.{plainBegin}
 use Rattle.trip.specs.Flagged.{flaggedBegin}
@@ -33,10 +33,10 @@ plainPath network from to departure = pathOf (decode network) all from to depart
 abbrev pub flaggedAnswer : List ℕ → List ℕ → ℕ → ℕ → ℕ → ℕ → ℕ → Answer
 flaggedAnswer network plan from to departure room free =
     tripAnswer (flaggedBegin network plan from to departure room)
-    (searched (decode network) (towards (decode network) (decodePlan plan) to) from to departure free)
+    (searched (decode network) (towards (partitionOf (decode network)) (decodePlan plan) to) from to departure free)
 
 abbrev pub flaggedCall : List ℕ → List ℕ → ℕ → ℕ → ℕ → Answer
 flaggedCall network plan from to departure = flaggedAnswer network plan from to departure 512 511
 
 abbrev pub flaggedPath : List ℕ → List ℕ → ℕ → ℕ → ℕ → List ℕ
-flaggedPath network plan from to departure = pathOf (decode network) (towards (decode network) (decodePlan plan) to) from to departure
+flaggedPath network plan from to departure = pathOf (decode network) (towards (partitionOf (decode network)) (decodePlan plan) to) from to departure

@@ -9,29 +9,29 @@ use lib.Dec.{eqb}
 use Rattle.theory_loops.specs.Fill.{Filled}
 use Rattle.theory_paths.specs.Graph.{Permit}
 use Rattle.theory_paths.specs.Flags.{flagged}
-use Rattle.network.specs.declared.answer.Refusal.{Refusal}
+use Rattle.file_refusals.specs.declared.Refusal.{Refusal}
 use Rattle.network.specs.declared.answer.Opening.{Opening}
 use Rattle.network.specs.declared.answer.Opening.the-variants.{Opened, Refused}
 use Rattle.network.specs.declared.header.Header.{Header}
 use Rattle.network.specs.Network.{Network, arcs, cell}
 use Rattle.network.specs.Decode.{decode}
+use Rattle.network.specs.Town.{partitionOf}
 use Rattle.network.specs.Validate.{validated}
 use Rattle.network.specs.Valid.{ValidFile}
 use Rattle.plan.specs.declared.answer.Planning.{Planning}
 use Rattle.plan.specs.declared.answer.Planning.the-variants as planning
 use Rattle.plan.specs.declared.header.PlanHeader.{PlanHeader}
 use Rattle.plan.specs.declared.header.PlanLayout.{PlanLayout}
-use Rattle.plan.specs.Plan.{Plan, bit, flag}
+use Rattle.plan.specs.Plan.{Plan, bit, flag, towards}
 use Rattle.plan.specs.PlanDecode.{decodePlan, PlanLaid, flagWord}
 use Rattle.plan.specs.PlanLayout.{planLayoutOf}
 use Rattle.plan.specs.PlanValidate.{planned}
 use Rattle.plan.specs.PlanHeader.{PlanWithin}
 use Rattle.plan.specs.PlanValid.{ValidPlan, valid-within, valid-plan-laid, valid-for, plan-exactly}
-use Rattle.plan_check.specs.Promise.{towards}
 use Rattle.search_path.specs.declared.Outcome.{Outcome}
 use Rattle.search_labels.specs.Ready.{permitOf}
-use Rattle.trip_call.specs.declared.answer.Answer.{Answer}
-use Rattle.trip_call.specs.declared.answer.Answer.the-variants as answer
+use Rattle.search_path.specs.declared.answer.Answer.{Answer}
+use Rattle.search_path.specs.declared.answer.Answer.the-variants as answer
 use Rattle.trip_call.specs.Trip.{asked, andThen, told, searched, tripAnswer, tripArrivals, tripRoads}
 use Rattle.trip_call.specs.Drive.{searched-same, arrivals-same, roads-same, drive-nodes, drive-arcs, drive-cells, drive-period}
 
@@ -94,22 +94,22 @@ module _ {network plan : List ℕ} {h : Header} {k : PlanHeader} (v : ValidFile 
   -- a mask that was filled for it permits the arcs towards the target
   module _ (c t : ℕ) (l : PlanLayout) (old mask : List ℕ) (d : c ≡ cell (decode network) t) (e : l ≡ planLayoutOf k)
       (f : Filled 0 (l .arcs) (maskOf (decodePlan plan) c) old mask) where
-    permits : (a : ℕ) → a < arcs (decode network) → permitOf mask a ≡ towards (decode network) (decodePlan plan) t a
+    permits : (a : ℕ) → a < arcs (decode network) → permitOf mask a ≡ towards (partitionOf (decode network)) (decodePlan plan) t a
     permits a m = mask-permits (decodePlan plan) c (l .arcs) old mask f a (omega (arith, flags-are l e)) ∙ ap (λ (x : ℕ). flag (decodePlan plan) a x) d
 
     pub flagged-answer : (r : Answer) (s x free : ℕ) → r ≡ told (searched (decode network) (permitOf mask) s t x free)
-        → r ≡ told (searched (decode network) (towards (decode network) (decodePlan plan) t) s t x free)
-    flagged-answer r s x free g = g ∙ ap told (searched-same (decode network) (permitOf mask) (towards (decode network) (decodePlan plan) t) some permits s t x free)
+        → r ≡ told (searched (decode network) (towards (partitionOf (decode network)) (decodePlan plan) t) s t x free)
+    flagged-answer r s x free g = g ∙ ap told (searched-same (decode network) (permitOf mask) (towards (partitionOf (decode network)) (decodePlan plan) t) some permits s t x free)
 
     pub flagged-arrivals : (s x : ℕ) (before after : List ℕ) → after ≡ tripArrivals (Opened h) (decode network) (permitOf mask) s t x before
-        → after ≡ tripArrivals (Opened h) (decode network) (towards (decode network) (decodePlan plan) t) s t x before
+        → after ≡ tripArrivals (Opened h) (decode network) (towards (partitionOf (decode network)) (decodePlan plan) t) s t x before
     flagged-arrivals s x before after g =
-        g ∙ arrivals-same (decode network) (permitOf mask) (towards (decode network) (decodePlan plan) t) some permits s t x (Opened h) before
+        g ∙ arrivals-same (decode network) (permitOf mask) (towards (partitionOf (decode network)) (decodePlan plan) t) some permits s t x (Opened h) before
 
     pub flagged-roads : (r : Answer) (s x : ℕ) (before after : List ℕ) → after ≡ tripRoads r (decode network) (permitOf mask) s t x before
-        → after ≡ tripRoads r (decode network) (towards (decode network) (decodePlan plan) t) s t x before
+        → after ≡ tripRoads r (decode network) (towards (partitionOf (decode network)) (decodePlan plan) t) s t x before
     flagged-roads r s x before after g =
-        g ∙ roads-same (decode network) (permitOf mask) (towards (decode network) (decodePlan plan) t) some permits s t x r before
+        g ∙ roads-same (decode network) (permitOf mask) (towards (partitionOf (decode network)) (decodePlan plan) t) some permits s t x r before
 
 -- for `search flags` where the flagged trip is driven
 pub ruleset flags = (flags-within, flags-laid, flags-few, fresh-mask, filled-mask, cell-few, flagged-answer, flagged-arrivals, flagged-roads)

@@ -15,18 +15,19 @@ use Rattle.network.specs.declared.answer.Opening.the-variants.{Opened, Refused}
 use Rattle.network.specs.declared.header.Header.{Header}
 use Rattle.network.specs.Network.{Network, nodes}
 use Rattle.network.specs.Decode.{decode}
-use Rattle.network.specs.Rules.{refusal}
+use Rattle.file_refusals.specs.Refusal.{refusal}
 use Rattle.network.specs.Valid.{ValidFile, valid-exactly}
-use Rattle.network.specs.Town.{graphOf}
+use Rattle.network.specs.Town.{graphOf, partitionOf}
 use Rattle.plan_check.specs.declared.answer.Checking.the-variants.{Accepted}
 use Rattle.plan.specs.declared.header.PlanHeader.{PlanHeader}
 use Rattle.plan.specs.PlanDecode.{decodePlan}
 use Rattle.plan.specs.PlanValid.{ValidPlan, plan-exactly}
 use Rattle.plan_check.specs.CheckPlan.{checking, accepted-plan}
-use Rattle.plan_check.specs.Promise.{towards, accepted-trips}
-use Rattle.trip_call.specs.declared.answer.Arrival.{Arrival}
-use Rattle.trip_call.specs.declared.answer.Answer.{Answer}
-use Rattle.trip_call.specs.declared.answer.Answer.the-variants as answer
+use Rattle.plan.specs.Plan.{towards}
+use Rattle.plan_check.specs.Promise.{accepted-trips}
+use Rattle.search_path.specs.declared.answer.Arrival.{Arrival}
+use Rattle.search_path.specs.declared.answer.Answer.{Answer}
+use Rattle.search_path.specs.declared.answer.Answer.the-variants as answer
 use Rattle.trip_call.specs.Trip.{asked, told, searched, tripAnswer, tripRoads}
 use Rattle.trip_call.specs.Drive.{drive-nodes, drive-period}
 use Rattle.trip_call.specs.Stage.{Asked}
@@ -40,8 +41,8 @@ asked-opens h from to departure room q =
     rw (lt-leb (h .nodes) from (q .from-node), lt-leb (h .nodes) to (q .to-node), lt-leb (h .period) departure (q .early), le-ltb room (h .nodes) (q .long))
 
 module _ (network plan : List ℕ) (from to departure : ℕ) (arrivals₀ roads₀ roads : List ℕ) (a : Answer)
-    (e : a ≡ tripAnswer (flaggedBegin network plan from to departure (length arrivals₀)) (searched (decode network) (towards (decode network) (decodePlan plan) to) from to departure (length roads₀)))
-    (w : roads ≡ tripRoads a (decode network) (towards (decode network) (decodePlan plan) to) from to departure roads₀) where
+    (e : a ≡ tripAnswer (flaggedBegin network plan from to departure (length arrivals₀)) (searched (decode network) (towards (partitionOf (decode network)) (decodePlan plan) to) from to departure (length roads₀)))
+    (w : roads ≡ tripRoads a (decode network) (towards (partitionOf (decode network)) (decodePlan plan) to) from to departure roads₀) where
   abbrev n : Network
   n = decode network
 
@@ -49,21 +50,21 @@ module _ (network plan : List ℕ) (from to departure : ℕ) (arrivals₀ roads�
   g = graphOf (decode network)
 
   abbrev p : Permit
-  p = towards (decode network) (decodePlan plan) to
+  p = towards (partitionOf (decode network)) (decodePlan plan) to
 
   -- FOR ANY WELL-FORMED PLAN, accepted or not
   module _ {h : Header} (v : ValidFile network h) {k : PlanHeader} (m : ValidPlan h (decode network) plan k) (q : Asked h from to departure (length arrivals₀)) where
-    is-told : a ≡ told (searched (decode network) (towards (decode network) (decodePlan plan) to) from to departure (length roads₀))
+    is-told : a ≡ told (searched (decode network) (towards (partitionOf (decode network)) (decodePlan plan) to) from to departure (length roads₀))
     is-told = rw (valid-exactly network h .1 v, plan-exactly v plan k .1 m, asked-opens h from to departure (length arrivals₀) q) at e
 
-    pub flagged-no-way : (a ≡ answer.Refused (refusal 28 0)) ↔ (¬ Reachable (graphOf (decode network)) (towards (decode network) (decodePlan plan) to) from to)
+    pub flagged-no-way : (a ≡ answer.Refused (refusal 28 0)) ↔ (¬ Reachable (graphOf (decode network)) (towards (partitionOf (decode network)) (decodePlan plan) to) from to)
     flagged-no-way = trip-none network h p from to departure arrivals₀ roads₀ roads v (q .from-node) (q .to-node) (q .early) (q .long) a is-told w
 
-    pub flagged-arrives : (r : Arrival) → a ≡ answer.Arrived r → Arrives (graphOf (decode network)) (towards (decode network) (decodePlan plan) to) from departure to roads r
+    pub flagged-arrives : (r : Arrival) → a ≡ answer.Arrived r → Arrives (graphOf (decode network)) (towards (partitionOf (decode network)) (decodePlan plan) to) from departure to roads r
     flagged-arrives = trip-arrives network h p from to departure arrivals₀ roads₀ roads v (q .from-node) (q .to-node) (q .early) (q .long) a is-told w
 
-    pub flagged-reaches : Reachable (graphOf (decode network)) (towards (decode network) (decodePlan plan) to) from to
-        → length (chosen (graphOf (decode network)) (towards (decode network) (decodePlan plan) to) from (labels (graphOf (decode network)) (towards (decode network) (decodePlan plan) to) from departure) to) ≤ length roads₀
+    pub flagged-reaches : Reachable (graphOf (decode network)) (towards (partitionOf (decode network)) (decodePlan plan) to) from to
+        → length (chosen (graphOf (decode network)) (towards (partitionOf (decode network)) (decodePlan plan) to) from (labels (graphOf (decode network)) (towards (partitionOf (decode network)) (decodePlan plan) to) from departure) to) ≤ length roads₀
         → (r : Arrival) × (a ≡ answer.Arrived r)
     flagged-reaches = trip-reaches network h p from to departure arrivals₀ roads₀ roads v (q .from-node) (q .to-node) (q .early) (q .long) a is-told w
 
@@ -87,11 +88,11 @@ pub record AsGoodAsAny (g : Graph) (s x t : ℕ) (path roads₀ roads : List ℕ
 -- DEMAND 3. Whatever network and plan the check has accepted together, whoever made the plan: at every departure below the period, from every node to every
 -- node, with lists that are long enough.
 module _ (network plan : List ℕ) (from to departure : ℕ) (arrivals₀ roads₀ roads : List ℕ) (a : Answer)
-    (e : a ≡ tripAnswer (flaggedBegin network plan from to departure (length arrivals₀)) (searched (decode network) (towards (decode network) (decodePlan plan) to) from to departure (length roads₀)))
-    (w : roads ≡ tripRoads a (decode network) (towards (decode network) (decodePlan plan) to) from to departure roads₀) where
+    (e : a ≡ tripAnswer (flaggedBegin network plan from to departure (length arrivals₀)) (searched (decode network) (towards (partitionOf (decode network)) (decodePlan plan) to) from to departure (length roads₀)))
+    (w : roads ≡ tripRoads a (decode network) (towards (partitionOf (decode network)) (decodePlan plan) to) from to departure roads₀) where
   pub accepted-trip : checking network plan ≡ Accepted → from < nodes (decode network) → to < nodes (decode network) → departure < decode network .period → nodes (decode network) ≤ length arrivals₀
       → AsGoodAsAny (graphOf (decode network)) from departure to
-      (chosen (graphOf (decode network)) (towards (decode network) (decodePlan plan) to) from (labels (graphOf (decode network)) (towards (decode network) (decodePlan plan) to) from departure) to)
+      (chosen (graphOf (decode network)) (towards (partitionOf (decode network)) (decodePlan plan) to) from (labels (graphOf (decode network)) (towards (partitionOf (decode network)) (decodePlan plan) to) from departure) to)
       roads₀ roads a
   accepted-trip accepted l m o room =
       let c = accepted-plan network plan accepted in

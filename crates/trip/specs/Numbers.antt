@@ -11,15 +11,16 @@ use lib.Dec.{leb, ltb}
 use borrow.Author.Tests.{le-ltb}
 use Rattle.theory_loops.specs.Pick.{cond-holds}
 use Rattle.theory_paths.specs.Graph.{Permit}
-use Rattle.network.specs.declared.answer.Refusal.{Refusal}
+use Rattle.file_refusals.specs.declared.Refusal.{Refusal}
 use Rattle.network.specs.declared.answer.Opening.{Opening}
 use Rattle.network.specs.declared.answer.Opening.the-variants.{Opened, Refused}
 use Rattle.network.specs.declared.header.Header.{Header}
 use Rattle.network.specs.Decode.{decode}
-use Rattle.network.specs.Rules.{refusal}
+use Rattle.file_refusals.specs.Refusal.{refusal}
 use Rattle.network.specs.Validate.{validated}
 use Rattle.network.specs.Valid.{valid-exactly}
-use Rattle.network.specs.Numbers.{Numbered, numbered, validated-numbers}
+use Rattle.file_refusals.specs.Numbered.{Numbered, numbered}
+use Rattle.network.specs.Numbers.{validated-numbers}
 use Rattle.network.specs.Town.{graphOf}
 use Rattle.plan.specs.declared.answer.Planning.{Planning}
 use Rattle.plan.specs.declared.answer.Planning.the-variants as planning
@@ -29,8 +30,8 @@ use Rattle.search_path.specs.declared.Outcome.{Outcome}
 use Rattle.search_path.specs.declared.Outcome.the-variants.{Arrived, NoWay, Short}
 use Rattle.search_labels.specs.Ready.{Leaving}
 use Rattle.search_path.specs.Promise.{arrived-few, never-short}
-use Rattle.trip_call.specs.declared.answer.Arrival.{Arrival}
-use Rattle.trip_call.specs.declared.answer.Answer.the-variants as answer
+use Rattle.search_path.specs.declared.answer.Arrival.{Arrival}
+use Rattle.search_path.specs.declared.answer.Answer.the-variants as answer
 use Rattle.trip_call.specs.Trip.{asked, andThen, told, searched, tripAnswer}
 use Rattle.trip_call.specs.Drive.{drive-nodes}
 use Rattle.trip_call.specs.Stage.{asked-passed, then-passed}

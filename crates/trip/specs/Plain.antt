@@ -14,7 +14,7 @@ use Rattle.network.specs.Decode.{decode}
 use Rattle.network.specs.Validate.{validated}
 use Rattle.network.specs.Valid.{ValidFile, valid-exactly}
 use Rattle.search_labels.specs.Ready.{permitOf}
-use Rattle.trip_call.specs.declared.answer.Answer.{Answer}
+use Rattle.search_path.specs.declared.answer.Answer.{Answer}
 use Rattle.trip_call.specs.Trip.{asked, andThen, told, searched, tripAnswer, tripArrivals, tripRoads}
 use Rattle.trip_call.specs.Stage.{Asked, asked-passed, then-passed}
 use Rattle.trip_call.specs.Drive.{searched-same, arrivals-same, roads-same, drive-arcs, drive-period}

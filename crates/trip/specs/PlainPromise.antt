@@ -10,12 +10,12 @@ use Rattle.network.specs.declared.answer.Opening.{Opening}
 use Rattle.network.specs.declared.answer.Opening.the-variants.{Opened, Refused}
 use Rattle.network.specs.declared.header.Header.{Header}
 use Rattle.network.specs.Decode.{decode}
-use Rattle.network.specs.Rules.{refusal}
+use Rattle.file_refusals.specs.Refusal.{refusal}
 use Rattle.network.specs.Town.{graphOf}
 use Rattle.search_path.specs.declared.Outcome.{Outcome}
-use Rattle.trip_call.specs.declared.answer.Arrival.{Arrival}
-use Rattle.trip_call.specs.declared.answer.Answer.{Answer}
-use Rattle.trip_call.specs.declared.answer.Answer.the-variants as answer
+use Rattle.search_path.specs.declared.answer.Arrival.{Arrival}
+use Rattle.search_path.specs.declared.answer.Answer.{Answer}
+use Rattle.search_path.specs.declared.answer.Answer.the-variants as answer
 use Rattle.trip_call.specs.Trip.{told, searched, tripAnswer, tripRoads}
 use Rattle.trip.specs.Plain.{plainBegin, Begun, begun}
 use Rattle.trip.specs.Promise.{Arrives, trip-arrives, trip-none, trip-home}

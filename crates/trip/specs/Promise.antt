@@ -7,19 +7,18 @@ use mathlib.Core.List.{List}
 use Prim.Native.Nat.{ℕ, _≤_, _<_}
 use native.Mathlib.Omega.{arith}
 use lib.ListN.{length, take}
-use Rattle.theory_loops.specs.Fill.{Filled, tab, length-tab, tab-list, list-filled, fill-none}
+use Rattle.theory_loops.specs.Fill.{Filled, tab, length-tab, tab-list, list-filled, fill-none, overwritten}
 use Rattle.theory_paths.specs.Graph.{Graph, Permit, IsPath, driven, waited, Reachable, EarliestArrival}
 use Rattle.theory_paths.specs.Earliest.{never}
 use Rattle.theory_paths.specs.Labels.{label, labels}
 use Rattle.theory_paths.specs.Chosen.{chosen}
-use Rattle.network.specs.declared.answer.Refusal.{Refusal}
+use Rattle.file_refusals.specs.declared.Refusal.{Refusal}
 use Rattle.network.specs.declared.answer.Opening.the-variants.{Refused}
 use Rattle.network.specs.declared.header.Header.{Header}
 use Rattle.network.specs.Network.{Network, nodes}
 use Rattle.network.specs.Decode.{decode}
-use Rattle.network.specs.Rules.{refusal}
+use Rattle.file_refusals.specs.Refusal.{refusal}
 use Rattle.network.specs.Valid.{ValidFile}
-use Rattle.network_open.specs.Open.{overwritten}
 use Rattle.network.specs.Town.{graphOf}
 use Rattle.search_path.specs.declared.Trip.{Trip}
 use Rattle.search_path.specs.declared.Outcome.{Outcome}
@@ -29,9 +28,9 @@ use Rattle.search_labels.specs.Ready.{Leaving, leaving}
 use Rattle.search_arcs.specs.Town.{town-of}
 use Rattle.search_path.specs.Promise.{arrived, arrives, waiting, no-way, at-home, before-never}
 use Rattle.search_path.specs.Trim.{shown}
-use Rattle.trip_call.specs.declared.answer.Arrival.{Arrival}
-use Rattle.trip_call.specs.declared.answer.Answer.{Answer}
-use Rattle.trip_call.specs.declared.answer.Answer.the-variants as answer
+use Rattle.search_path.specs.declared.answer.Arrival.{Arrival}
+use Rattle.search_path.specs.declared.answer.Answer.{Answer}
+use Rattle.search_path.specs.declared.answer.Answer.the-variants as answer
 use Rattle.trip_call.specs.Trip.{told, searched, tripRoads}
 use Rattle.trip_call.specs.Drive.{count-is, drive-laid, drive-nodes}
 use Rattle.network.specs.Layout.{layoutOf}

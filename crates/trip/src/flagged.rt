@@ -4,40 +4,31 @@ use network::header::Header;
 use network::read::cell;
 use network_open::validate::validate;
 use plan::answer::Planning;
+use plan::flag::is_set;
 use plan::header::PlanHeader;
 use plan::header::PlanLayout;
 use plan::read::flag_word;
 use plan_validate::validate::validate_plan;
-use trip_call::answer::Answer;
+use search_path::answer::Answer;
 use trip_call::begin::ask;
 use trip_call::drive::drive;
 ghost use mathlib.Core.Path.{_≡_};
 ghost use mathlib.Core.Bool.{cond};
 ghost use Prim.Native.Nat.{_≤_, _<_};
 ghost use lib.ListN.{length};
-ghost use Rattle.theory_loops.specs.Fill.{Filled, tab};
+ghost use Rattle.theory_loops.specs.Fill.{Filled, tab, overwritten};
 ghost use Rattle.theory_paths.specs.Labels.{labels};
 ghost use Rattle.network.specs.Network.{nodes};
 ghost use Rattle.network.specs.Decode.{decode};
 ghost use Rattle.network.specs.Valid.{ValidFile};
-ghost use Rattle.network_open.specs.Open.{overwritten};
-ghost use Rattle.network.specs.Town.{graphOf};
-ghost use Rattle.plan.specs.Plan.{bit};
+ghost use Rattle.network.specs.Town.{graphOf, partitionOf};
+ghost use Rattle.plan.specs.Plan.{bit, towards};
 ghost use Rattle.plan.specs.PlanDecode.{decodePlan, PlanLaid};
 ghost use Rattle.plan.specs.PlanValid.{ValidPlan};
-ghost use Rattle.plan_check.specs.Promise.{towards};
 ghost use Rattle.search_path.specs.Trim.{shown};
 ghost use Rattle.trip_call.specs.Trip.{asked, told, searched, tripAnswer, tripArrivals, tripRoads};
 ghost use Rattle.trip_call.specs.Stage.{Asked};
 ghost use Rattle.trip.specs.Flagged.{maskOf, flaggedWith, flaggedBegin};
-
-// Is bit c of the word set?
-fn is_set(word: u64, c: usize) -> bool
-    requires { ⌜ c < 64 ⌝ }
-    ensures { λ r. ⌜ r ≡ bit word c ⌝ }
-{
-    (word >> c) % 2 == 1
-}
 
 // The bit as a number.
 fn flag(word: u64, c: usize) -> u8
@@ -73,9 +64,9 @@ fn drive_flagged(
     requires { ⌜ ValidFile (now network) h ⌝ }
     requires { ⌜ ValidPlan h (decode (now network)) (now plan) k ⌝ }
     requires { ⌜ Asked h from to departure (length (now arrivals)) ⌝ }
-    ensures answer { λ r. ⌜ r ≡ told (searched (decode (now (network .entry))) (towards (decode (now (network .entry))) (decodePlan (now (plan .entry))) to) from to departure (length (now (roads .entry)))) ⌝ }
-    ensures arrivals { λ _. ⌜ now (arrivals .exit) ≡ overwritten (tab (nodes (decode (now (network .entry)))) (shown (labels (graphOf (decode (now (network .entry)))) (towards (decode (now (network .entry))) (decodePlan (now (plan .entry))) to) from departure) to)) (now (arrivals .entry)) ⌝ }
-    ensures roads { λ r. ⌜ now (roads .exit) ≡ tripRoads r (decode (now (network .entry))) (towards (decode (now (network .entry))) (decodePlan (now (plan .entry))) to) from to departure (now (roads .entry)) ⌝ }
+    ensures answer { λ r. ⌜ r ≡ told (searched (decode (now (network .entry))) (towards (partitionOf (decode (now (network .entry)))) (decodePlan (now (plan .entry))) to) from to departure (length (now (roads .entry)))) ⌝ }
+    ensures arrivals { λ _. ⌜ now (arrivals .exit) ≡ overwritten (tab (nodes (decode (now (network .entry)))) (shown (labels (graphOf (decode (now (network .entry)))) (towards (partitionOf (decode (now (network .entry)))) (decodePlan (now (plan .entry))) to) from departure) to)) (now (arrivals .entry)) ⌝ }
+    ensures roads { λ r. ⌜ now (roads .exit) ≡ tripRoads r (decode (now (network .entry))) (towards (partitionOf (decode (now (network .entry)))) (decodePlan (now (plan .entry))) to) from to departure (now (roads .entry)) ⌝ }
 {
     let c = cell(network, h.layout(), to as usize);
     let mut mask = [0u8; 2048];
@@ -97,9 +88,9 @@ fn flagged_asked(
 ) -> Answer
     requires { ⌜ ValidFile (now network) h ⌝ }
     requires { ⌜ ValidPlan h (decode (now network)) (now plan) k ⌝ }
-    ensures answer { λ r. ⌜ r ≡ tripAnswer (asked h from to departure (length (now (arrivals .entry)))) (searched (decode (now (network .entry))) (towards (decode (now (network .entry))) (decodePlan (now (plan .entry))) to) from to departure (length (now (roads .entry)))) ⌝ }
-    ensures arrivals { λ _. ⌜ now (arrivals .exit) ≡ tripArrivals (asked h from to departure (length (now (arrivals .entry)))) (decode (now (network .entry))) (towards (decode (now (network .entry))) (decodePlan (now (plan .entry))) to) from to departure (now (arrivals .entry)) ⌝ }
-    ensures roads { λ r. ⌜ now (roads .exit) ≡ tripRoads r (decode (now (network .entry))) (towards (decode (now (network .entry))) (decodePlan (now (plan .entry))) to) from to departure (now (roads .entry)) ⌝ }
+    ensures answer { λ r. ⌜ r ≡ tripAnswer (asked h from to departure (length (now (arrivals .entry)))) (searched (decode (now (network .entry))) (towards (partitionOf (decode (now (network .entry)))) (decodePlan (now (plan .entry))) to) from to departure (length (now (roads .entry)))) ⌝ }
+    ensures arrivals { λ _. ⌜ now (arrivals .exit) ≡ tripArrivals (asked h from to departure (length (now (arrivals .entry)))) (decode (now (network .entry))) (towards (partitionOf (decode (now (network .entry)))) (decodePlan (now (plan .entry))) to) from to departure (now (arrivals .entry)) ⌝ }
+    ensures roads { λ r. ⌜ now (roads .exit) ≡ tripRoads r (decode (now (network .entry))) (towards (partitionOf (decode (now (network .entry)))) (decodePlan (now (plan .entry))) to) from to departure (now (roads .entry)) ⌝ }
 {
     match ask(h, from, to, departure, arrivals.len()) {
         Opening::Refused(r) => Answer::Refused(r),
@@ -129,9 +120,9 @@ fn flagged_planned(
     roads: &mut [u16],
 ) -> Answer
     requires { ⌜ ValidFile (now network) h ⌝ }
-    ensures answer { λ r. ⌜ r ≡ tripAnswer (flaggedWith h (now (network .entry)) (now (plan .entry)) from to departure (length (now (arrivals .entry)))) (searched (decode (now (network .entry))) (towards (decode (now (network .entry))) (decodePlan (now (plan .entry))) to) from to departure (length (now (roads .entry)))) ⌝ }
-    ensures arrivals { λ _. ⌜ now (arrivals .exit) ≡ tripArrivals (flaggedWith h (now (network .entry)) (now (plan .entry)) from to departure (length (now (arrivals .entry)))) (decode (now (network .entry))) (towards (decode (now (network .entry))) (decodePlan (now (plan .entry))) to) from to departure (now (arrivals .entry)) ⌝ }
-    ensures roads { λ r. ⌜ now (roads .exit) ≡ tripRoads r (decode (now (network .entry))) (towards (decode (now (network .entry))) (decodePlan (now (plan .entry))) to) from to departure (now (roads .entry)) ⌝ }
+    ensures answer { λ r. ⌜ r ≡ tripAnswer (flaggedWith h (now (network .entry)) (now (plan .entry)) from to departure (length (now (arrivals .entry)))) (searched (decode (now (network .entry))) (towards (partitionOf (decode (now (network .entry)))) (decodePlan (now (plan .entry))) to) from to departure (length (now (roads .entry)))) ⌝ }
+    ensures arrivals { λ _. ⌜ now (arrivals .exit) ≡ tripArrivals (flaggedWith h (now (network .entry)) (now (plan .entry)) from to departure (length (now (arrivals .entry)))) (decode (now (network .entry))) (towards (partitionOf (decode (now (network .entry)))) (decodePlan (now (plan .entry))) to) from to departure (now (arrivals .entry)) ⌝ }
+    ensures roads { λ r. ⌜ now (roads .exit) ≡ tripRoads r (decode (now (network .entry))) (towards (partitionOf (decode (now (network .entry)))) (decodePlan (now (plan .entry))) to) from to departure (now (roads .entry)) ⌝ }
 {
     match validate_plan(network, h, h.layout(), plan) {
         Planning::Refused(r) => Answer::Refused(r),
@@ -159,9 +150,9 @@ pub fn flagged_trip(
     arrivals: &mut [u32],
     roads: &mut [u16],
 ) -> Answer
-    ensures answer { λ r. ⌜ r ≡ tripAnswer (flaggedBegin (now (network .entry)) (now (plan .entry)) from to departure (length (now (arrivals .entry)))) (searched (decode (now (network .entry))) (towards (decode (now (network .entry))) (decodePlan (now (plan .entry))) to) from to departure (length (now (roads .entry)))) ⌝ }
-    ensures arrivals { λ _. ⌜ now (arrivals .exit) ≡ tripArrivals (flaggedBegin (now (network .entry)) (now (plan .entry)) from to departure (length (now (arrivals .entry)))) (decode (now (network .entry))) (towards (decode (now (network .entry))) (decodePlan (now (plan .entry))) to) from to departure (now (arrivals .entry)) ⌝ }
-    ensures roads { λ r. ⌜ now (roads .exit) ≡ tripRoads r (decode (now (network .entry))) (towards (decode (now (network .entry))) (decodePlan (now (plan .entry))) to) from to departure (now (roads .entry)) ⌝ }
+    ensures answer { λ r. ⌜ r ≡ tripAnswer (flaggedBegin (now (network .entry)) (now (plan .entry)) from to departure (length (now (arrivals .entry)))) (searched (decode (now (network .entry))) (towards (partitionOf (decode (now (network .entry)))) (decodePlan (now (plan .entry))) to) from to departure (length (now (roads .entry)))) ⌝ }
+    ensures arrivals { λ _. ⌜ now (arrivals .exit) ≡ tripArrivals (flaggedBegin (now (network .entry)) (now (plan .entry)) from to departure (length (now (arrivals .entry)))) (decode (now (network .entry))) (towards (partitionOf (decode (now (network .entry)))) (decodePlan (now (plan .entry))) to) from to departure (now (arrivals .entry)) ⌝ }
+    ensures roads { λ r. ⌜ now (roads .exit) ≡ tripRoads r (decode (now (network .entry))) (towards (partitionOf (decode (now (network .entry)))) (decodePlan (now (plan .entry))) to) from to departure (now (roads .entry)) ⌝ }
 {
     match validate(network) {
         Opening::Refused(r) => Answer::Refused(r),

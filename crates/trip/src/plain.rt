@@ -1,7 +1,7 @@
 // The plain trip, over all arcs.
 use network::answer::Opening;
 use network_open::validate::validate;
-use trip_call::answer::Answer;
+use search_path::answer::Answer;
 use trip_call::begin::ask;
 use trip_call::drive::drive;
 ghost use mathlib.Core.Path.{_≡_};

@@ -7,7 +7,7 @@ use native.Mathlib.Omega.{arith}
 use lib.ListN.{length}
 use lib.Dec.{eqb, ltb}
 use borrow.Author.Tests.{ltb-false}
-use Rattle.theory_loops.specs.Fill.{tab, length-tab, tab-list, filled-none, filled-list}
+use Rattle.theory_loops.specs.Fill.{tab, length-tab, tab-list, filled-none, filled-list, overwritten}
 use Rattle.theory_paths.specs.Graph.{Permit}
 use Rattle.theory_paths.specs.Earliest.{never}
 use Rattle.theory_paths.specs.Labels.{label, labels}
@@ -22,15 +22,14 @@ use Rattle.network.specs.Layout.{layoutOf}
 use Rattle.network.specs.Decode.{decode, Laid}
 use Rattle.network.specs.Sound.{SoundNetwork}
 use Rattle.network.specs.Valid.{ValidFile, valid-laid}
-use Rattle.network_open.specs.Open.{overwritten}
 use Rattle.network.specs.Town.{graphOf}
 use Rattle.search_path.specs.declared.Trip.{Trip}
 use Rattle.search_path.specs.declared.Outcome.{Outcome}
 use Rattle.search_path.specs.declared.Outcome.the-variants.{Arrived, NoWay, Short}
 use Rattle.search_path.specs.Answer.{Answered, outcomeOf, entryOf}
 use Rattle.search_path.specs.Trim.{shown}
-use Rattle.trip_call.specs.declared.answer.Answer.{Answer}
-use Rattle.trip_call.specs.declared.answer.Answer.the-variants as answer
+use Rattle.search_path.specs.declared.answer.Answer.{Answer}
+use Rattle.search_path.specs.declared.answer.Answer.the-variants as answer
 use Rattle.trip_call.specs.Trip.{told, searched, tripArrivals, tripRoads}
 
 -- an arrival's count is the chosen path's, and there is room for it

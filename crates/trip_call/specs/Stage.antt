@@ -8,7 +8,7 @@ use lib.Dec.{leb, ltb}
 use borrow.Author.Tests.{leb-false, ltb-false}
 use Rattle.theory_loops.specs.Pick.{passed-by}
 use Rattle.theory_paths.specs.Graph.{Permit}
-use Rattle.network.specs.declared.answer.Refusal.{Refusal}
+use Rattle.file_refusals.specs.declared.Refusal.{Refusal}
 use Rattle.network.specs.declared.answer.Opening.{Opening}
 use Rattle.network.specs.declared.answer.Opening.the-variants.{Opened, Refused}
 use Rattle.network.specs.declared.header.Header.{Header}
@@ -16,8 +16,8 @@ use Rattle.network.specs.Network.{Network}
 use Rattle.network.specs.Validate.{refused, validated}
 use Rattle.network.specs.Valid.{ValidFile, valid-exactly}
 use Rattle.search_path.specs.declared.Outcome.{Outcome}
-use Rattle.trip_call.specs.declared.answer.Answer.{Answer}
-use Rattle.trip_call.specs.declared.answer.Answer.the-variants as answer
+use Rattle.search_path.specs.declared.answer.Answer.{Answer}
+use Rattle.search_path.specs.declared.answer.Answer.the-variants as answer
 use Rattle.trip_call.specs.Trip.{asked, andThen, told, tripAnswer, tripArrivals}
 
 -- what the call has shown where nothing before the search is refused

@@ -6,26 +6,25 @@ use mathlib.Core.List.{List}
 use Prim.Native.Nat.{ℕ}
 use lib.ListN.{length}
 use lib.Dec.{leb, ltb}
-use Rattle.theory_loops.specs.Fill.{tab}
+use Rattle.theory_loops.specs.Fill.{tab, overwritten}
 use Rattle.theory_paths.specs.Graph.{Permit}
 use Rattle.theory_paths.specs.Labels.{label, labels}
 use Rattle.theory_paths.specs.Chosen.{chosen}
-use Rattle.network.specs.declared.answer.Refusal.{Refusal}
+use Rattle.file_refusals.specs.declared.Refusal.{Refusal}
 use Rattle.network.specs.declared.answer.Opening.{Opening}
 use Rattle.network.specs.declared.answer.Opening.the-variants.{Opened, Refused}
 use Rattle.network.specs.declared.header.Header.{Header}
 use Rattle.network.specs.Network.{Network, nodes}
-use Rattle.network.specs.Rules.{refusal}
+use Rattle.file_refusals.specs.Refusal.{refusal}
 use Rattle.network.specs.Validate.{refused}
-use Rattle.network_open.specs.Open.{overwritten}
 use Rattle.network.specs.Town.{graphOf}
 use Rattle.search_path.specs.declared.Trip.{Trip}
 use Rattle.search_path.specs.declared.Outcome.{Outcome}
 use Rattle.search_path.specs.declared.Outcome.the-variants.{Arrived, NoWay, Short}
 use Rattle.search_path.specs.Answer.{outcomeOf}
 use Rattle.search_path.specs.Trim.{shown}
-use Rattle.trip_call.specs.declared.answer.Answer.{Answer}
-use Rattle.trip_call.specs.declared.answer.Answer.the-variants as answer
+use Rattle.search_path.specs.declared.answer.Answer.{Answer}
+use Rattle.search_path.specs.declared.answer.Answer.the-variants as answer
 
 -- 25: from, then to, is no node (that number); 26: the departure is not below the period; 27: the list of arrivals has no room for the nodes
 unfoldable pub asked : Header → ℕ → ℕ → ℕ → ℕ → Opening

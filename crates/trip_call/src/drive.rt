@@ -1,17 +1,16 @@
 // A trip once nothing before it is refused: the search, its outcome told.
-use crate::answer::Answer;
-use crate::answer::told;
+use crate::told::told;
 use network::header::Header;
+use search_path::answer::Answer;
 use search_path::search;
 ghost use mathlib.Core.Path.{_≡_};
 ghost use Prim.Native.Nat.{_≤_, _<_};
 ghost use lib.ListN.{length};
-ghost use Rattle.theory_loops.specs.Fill.{tab};
+ghost use Rattle.theory_loops.specs.Fill.{tab, overwritten};
 ghost use Rattle.theory_paths.specs.Labels.{labels};
 ghost use Rattle.network.specs.Network.{nodes};
 ghost use Rattle.network.specs.Decode.{decode};
 ghost use Rattle.network.specs.Valid.{ValidFile};
-ghost use Rattle.network_open.specs.Open.{overwritten};
 ghost use Rattle.network.specs.Town.{graphOf};
 ghost use Rattle.search_labels.specs.Ready.{permitOf};
 ghost use Rattle.search_path.specs.Trim.{shown};

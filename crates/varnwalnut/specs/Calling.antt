@@ -14,14 +14,15 @@ use Rattle.network.specs.declared.answer.Opening.the-variants.{Opened, Refused}
 use Rattle.network_pack.specs.declared.pack.Packing.{Packing}
 use Rattle.network.specs.Network.{Network}
 use Rattle.network.specs.Decode.{decode}
-use Rattle.network_open.specs.Open.{overwritten, tableAfter}
+use Rattle.theory_loops.specs.Fill.{overwritten}
+use Rattle.network_open.specs.Open.{tableAfter}
 use Rattle.network_pack.specs.Pack.{bytesAfter}
-use Rattle.network.specs.Town.{graphOf}
+use Rattle.network.specs.Town.{graphOf, partitionOf}
 use Rattle.plan.specs.PlanDecode.{decodePlan}
-use Rattle.plan_check.specs.Promise.{towards}
-use Rattle.trip_call.specs.declared.answer.Arrival.{Arrival}
-use Rattle.trip_call.specs.declared.answer.Answer.{Answer}
-use Rattle.trip_call.specs.declared.answer.Answer.the-variants as answer
+use Rattle.plan.specs.Plan.{towards}
+use Rattle.search_path.specs.declared.answer.Arrival.{Arrival}
+use Rattle.search_path.specs.declared.answer.Answer.{Answer}
+use Rattle.search_path.specs.declared.answer.Answer.the-variants as answer
 use Rattle.trip_call.specs.Trip.{searched, tripAnswer, tripRoads}
 use Rattle.trip_call.specs.Drive.{count-is}
 use Rattle.trip.specs.Plain.{plainBegin, begun}
@@ -106,7 +107,7 @@ plain-count network from to departure room free a e =
 
 pub flagged-count : (network plan : List ℕ) (from to departure room free : ℕ) (a : Answer) → a ≡ flaggedAnswer network plan from to departure room free → tripCount a ≤ 511
 flagged-count network plan from to departure room free a e =
-    few-roads a (λ r q. count-few network (towards (decode network) (decodePlan plan) to) from to departure room free (flaggedBegin network plan from to departure room)
+    few-roads a (λ r q. count-few network (towards (partitionOf (decode network)) (decodePlan plan) to) from to departure room free (flaggedBegin network plan from to departure room)
     (flagged-before network plan from to departure room) (λ h. flagged-begun network plan h from to departure room) r (sym e ∙ q))
 
 -- for `search callings` in the entries

@@ -1,27 +1,29 @@
 // The entries for desk programs: an answer is a refusal or 0, with lent numbers: the three places of the refusal, then the answer's own numbers.
 // A list of numbers that is shorter than named gives 31 before all else, and nothing is written.
 use crate::SHORT;
-use network_open::open::open_network;
-use network_pack::pack::pack_network;
-use plan_check::check::check_plan;
 use c_replies::numbers::write_checking;
 use c_replies::numbers::write_lists;
 use c_replies::numbers::write_opening;
 use c_replies::numbers::write_packing;
+use network_open::open::open_network;
+use network_pack::pack::pack_network;
+use plan_check::check::check_plan;
 use trip::flagged::flagged_trip;
 use trip::plain::plain_trip;
 ghost use mathlib.Core.Path.{_≡_};
 ghost use lib.ListN.{length};
 ghost use Rattle.theory_paths.specs.Graph.{all};
 ghost use Rattle.network.specs.Decode.{decode};
+ghost use Rattle.network.specs.Town.{partitionOf};
 ghost use Rattle.network_encode.specs.Encode.{encode};
-ghost use Rattle.network_open.specs.Open.{overwritten, tableAfter};
+ghost use Rattle.network_open.specs.Open.{tableAfter};
+ghost use Rattle.theory_loops.specs.Fill.{overwritten};
 ghost use Rattle.network_open.specs.Open.{opening as openingOf};
 ghost use Rattle.network_encode.specs.Tables.{networkOf};
 ghost use Rattle.network_pack.specs.Pack.{numbers, bytesAfter};
 ghost use Rattle.network_pack.specs.Pack.{packing as packingOf};
 ghost use Rattle.plan.specs.PlanDecode.{decodePlan};
-ghost use Rattle.plan_check.specs.Promise.{towards};
+ghost use Rattle.plan.specs.Plan.{towards};
 ghost use Rattle.plan_check.specs.CheckPlan.{checking as checkingOf};
 ghost use Rattle.trip_call.specs.Trip.{tripArrivals, tripRoads};
 ghost use Rattle.trip.specs.Plain.{plainBegin};
@@ -153,8 +155,8 @@ pub extern "C" fn varnwalnut_flagged_trip_lists(
 ) -> u32
     ensures code { λ r. ⌜ r ≡ roomed 5 (length (now (answer .entry))) (tripCode (flaggedAnswer (now (network .entry)) (now (plan .entry)) from to departure (length (now (arrivals .entry))) (length (now (roads .entry))))) ⌝ }
     ensures numbers { λ _. ⌜ now (answer .exit) ≡ kept 5 (length (now (answer .entry))) (now (answer .entry)) (overwritten (tripNumbers (flaggedAnswer (now (network .entry)) (now (plan .entry)) from to departure (length (now (arrivals .entry))) (length (now (roads .entry))))) (now (answer .entry))) ⌝ }
-    ensures arrivals { λ _. ⌜ now (arrivals .exit) ≡ kept 5 (length (now (answer .entry))) (now (arrivals .entry)) (tripArrivals (flaggedBegin (now (network .entry)) (now (plan .entry)) from to departure (length (now (arrivals .entry)))) (decode (now (network .entry))) (towards (decode (now (network .entry))) (decodePlan (now (plan .entry))) to) from to departure (now (arrivals .entry))) ⌝ }
-    ensures roads { λ _. ⌜ now (roads .exit) ≡ kept 5 (length (now (answer .entry))) (now (roads .entry)) (tripRoads (flaggedAnswer (now (network .entry)) (now (plan .entry)) from to departure (length (now (arrivals .entry))) (length (now (roads .entry)))) (decode (now (network .entry))) (towards (decode (now (network .entry))) (decodePlan (now (plan .entry))) to) from to departure (now (roads .entry))) ⌝ }
+    ensures arrivals { λ _. ⌜ now (arrivals .exit) ≡ kept 5 (length (now (answer .entry))) (now (arrivals .entry)) (tripArrivals (flaggedBegin (now (network .entry)) (now (plan .entry)) from to departure (length (now (arrivals .entry)))) (decode (now (network .entry))) (towards (partitionOf (decode (now (network .entry)))) (decodePlan (now (plan .entry))) to) from to departure (now (arrivals .entry))) ⌝ }
+    ensures roads { λ _. ⌜ now (roads .exit) ≡ kept 5 (length (now (answer .entry))) (now (roads .entry)) (tripRoads (flaggedAnswer (now (network .entry)) (now (plan .entry)) from to departure (length (now (arrivals .entry))) (length (now (roads .entry)))) (decode (now (network .entry))) (towards (partitionOf (decode (now (network .entry)))) (decodePlan (now (plan .entry))) to) from to departure (now (roads .entry))) ⌝ }
 {
     if answer.len() < 5 {
         return SHORT;

@@ -5,7 +5,7 @@ use trip::flagged::flagged_trip;
 use trip::plain::plain_trip;
 ghost use mathlib.Core.Path.{_≡_};
 ghost use lib.ListN.{length};
-ghost use Rattle.network_open.specs.Open.{overwritten};
+ghost use Rattle.theory_loops.specs.Fill.{overwritten};
 ghost use Rattle.c_replies.specs.Reply.{tripBytes, tripCode};
 ghost use Rattle.varnwalnut.specs.Room.{roomed, kept};
 ghost use Rattle.trip.specs.Calls.{plainCall, plainPath, flaggedCall, flaggedPath};

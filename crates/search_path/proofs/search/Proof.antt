@@ -9,14 +9,14 @@ use borrow.Author.Needs.{needs}
 use Rattle.search_path.proofs.search.Statement.{statement}
 use Rattle.search_path.proofs.search.Tie as tie
 
-slice-relend-prefix-answer : tie.Need-slice-relend-prefix-answer
-slice-relend-prefix-answer c = search needs
+slice-relend-prefix-search-nodes : tie.Need-slice-relend-prefix-search-nodes
+slice-relend-prefix-search-nodes c = search needs
 
-slice-aggregate-answer : tie.Need-slice-aggregate-answer
-slice-aggregate-answer c = simp length-take (omega arith)
+slice-aggregate-search-nodes : tie.Need-slice-aggregate-search-nodes
+slice-aggregate-search-nodes c = simp length-take (omega arith)
 
-answer-requires : tie.Need-answer-requires
-answer-requires c κs = (search town-of, (search (length-take-le, needs), search needs))
+search-nodes-requires : tie.Need-search-nodes-requires
+search-nodes-requires c κs = (search town-of, (search (length-take-le, needs), search needs))
 
 same-length : tie.Need-same-length
 same-length c = search needs
@@ -28,15 +28,15 @@ returns : tie.Need-returns
 returns c =
     let a = c .before .before .before .before in
     let s = a .before .before .before .before .before .before .before .pre in
-    answered-front _ _ _ _ _ _ _ _ _ _ _ (laid-sizes (s .0) .nodes) (s .1 .1 .0 .1) (a .answer .ensures)
+    answered-front _ _ _ _ _ _ _ _ _ _ _ (laid-sizes (s .0) .nodes) (s .1 .1 .0 .1) (a .search-nodes .ensures)
 
 pub search-spec : {M : Type 1} → statement M
 search-spec =
     tie.close
     (tie.spec
-    slice-relend-prefix-answer
-    slice-aggregate-answer
-    answer-requires
+    slice-relend-prefix-search-nodes
+    slice-aggregate-search-nodes
+    search-nodes-requires
     same-length
     same-length-2
     returns)

@@ -1,8 +1,8 @@
--- `trip_call::answer::told` meets its contract.
+-- `trip_call::told::told` meets its contract.
 use Rattle.trip_call.specs.Trip.{tellings}
 use borrow.Author.Needs.{needs}
-use Rattle.trip_call.proofs.answer.told.Statement.{statement}
-use Rattle.trip_call.proofs.answer.told.Tie as tie
+use Rattle.trip_call.proofs.told.told.Statement.{statement}
+use Rattle.trip_call.proofs.told.told.Tie as tie
 
 enum-known-outcome : tie.Need-enum-known-outcome
 enum-known-outcome c = search needs

@@ -1,9 +1,9 @@
--- `search_path::answer` meets its contract: what is told by the labels that the search left is told by the true labels.
+-- `search_path::search_nodes` meets its contract: what is told by the labels that the search left is told by the true labels.
 use Rattle.search_path.specs.Answering.{answered, in-labels}
 use Rattle.search_labels.specs.Ready.{ready-of}
 use borrow.Author.Needs.{needs}
-use Rattle.search_path.proofs.answer.Statement.{statement}
-use Rattle.search_path.proofs.answer.Tie as tie
+use Rattle.search_path.proofs.search_nodes.Statement.{statement}
+use Rattle.search_path.proofs.search_nodes.Tie as tie
 
 first-points-requires : tie.Need-first-points-requires
 first-points-requires c κs = search needs
@@ -42,8 +42,8 @@ returns c =
     let n = s .pre .1 .1 in
     answered (s .args .mask .now) (s .pre .0) (n .0) (n .1) (n .2) (s .pre .1 .0 .1) (r .reach .ensures) (o .tell .ensures) (t .trim .ensures)
 
-pub answer-spec : {M : Type 1} → statement M
-answer-spec =
+pub search-nodes-spec : {M : Type 1} → statement M
+search-nodes-spec =
     tie.close
     (tie.spec
     first-points-requires

@@ -1,0 +1,9 @@
+-- What a trip answers, in document 01's terms: the tick of arrival and the count of roads.
+use mathlib.Core.List.{[], _∷_}
+use Rattle.file_refusals.specs.Says.{Says, gives, refuses}
+use Rattle.search_path.specs.declared.answer.Answer.{Answer}
+use Rattle.search_path.specs.declared.answer.Answer.the-variants.{Arrived, Refused}
+
+abbrev pub tripSays : Answer → Says
+tripSays (Arrived a) = gives (a .tick ∷ a .count ∷ [])
+tripSays (Refused r) = refuses 2 r
