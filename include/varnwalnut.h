@@ -1,14 +1,17 @@
 /*
  * Varnwalnut: routes through small towns whose roads take as long as the hour makes them take.
  *
- * A network file holds a town's places, roads and travels; a plan file holds flags and profiles that make searches short. Each call takes whole
- * files as bytes and validates them first; it reads nothing else, keeps nothing between calls and allocates nothing.
+ * A network file holds a town's places, roads and travels; a plan file holds flags and profiles that make
+ * searches short. Each call takes whole files as bytes and validates them first; it reads nothing else, keeps
+ * nothing between calls and allocates nothing.
  *
- * Every function returns 0, or the number of a refusal (below). Every one ends, on any bytes and any numbers, and changes nothing but the buffers
- * that it names as written. These things are proved; so is what each buffer holds afterwards.
+ * Every function returns 0, or the number of a refusal (below). Every one ends, on any bytes and any numbers,
+ * and changes nothing but the buffers that it names as written. These things are proved; so is what each
+ * buffer holds afterwards.
  *
- * A list is a pointer and then a count of ELEMENTS (not of bytes). Pointers are never NULL, also where the count is 0. No written list overlaps another
- * list of the same call. Numbers in files are low byte first; numbers in lists of uint16_t and uint32_t are the machine's own.
+ * A list is a pointer and then a count of ELEMENTS (not of bytes). Pointers are never NULL, also where the
+ * count is 0. No written list overlaps another list of the same call. Numbers in files are low byte first;
+ * numbers in lists of uint16_t and uint32_t are the machine's own.
  *
  * Threads: the functions have no state and may run at once on any number of threads, also on the same files.
  * Stack: below 20 KB for each function but varnwalnut_pack_network, which needs about 280 KB.
@@ -41,7 +44,8 @@ enum {
 #define VARNWALNUT_NEVER UINT32_C(4294967295)
 
 /*
- * Refusals. The lowest number wins, then the lowest place. In brackets: what the three places say; places that are not named are 0.
+ * Refusals. The lowest number wins, then the lowest place. In brackets: what the three places say; places
+ * that are not named are 0. Where counts do not add up, the place is how many roads or profiles there are.
  */
 enum {
     VARNWALNUT_OK = 0,
@@ -54,7 +58,7 @@ enum {
     VARNWALNUT_NETWORK_SIZE = 5,    /* its length is not what the header calls for */
     VARNWALNUT_NETWORK_FORM = 6,    /* a later block's kind, number, entries, byte 1 or fill (block) */
     VARNWALNUT_NETWORK_CELL = 7,    /* a cell is not below the count of cells (place) */
-    VARNWALNUT_NETWORK_ROAD = 8,    /* a road's ends or point count (road), or the counts do not add up (count of roads) */
+    VARNWALNUT_NETWORK_ROAD = 8,    /* a road's ends or count of points (road); the counts' sum (roads) */
     VARNWALNUT_NETWORK_POINT = 9,   /* a point's tick or travel (point) */
     VARNWALNUT_NETWORK_FIFO = 10,   /* leaving later would arrive earlier (the earlier point) */
 
@@ -66,7 +70,7 @@ enum {
     VARNWALNUT_PLAN_SIZE = 15,      /* its length is not what the header calls for */
     VARNWALNUT_PLAN_FORM = 16,      /* a later block's kind, number, entries, byte 1 or fill (block) */
     VARNWALNUT_PLAN_FLAG = 17,      /* a flag for a cell that is not there (road) */
-    VARNWALNUT_PLAN_COUNT = 18,     /* a profile's point count (profile), or the counts do not add up (count of profiles) */
+    VARNWALNUT_PLAN_COUNT = 18,     /* a profile's count of points (profile); the counts' sum (profiles) */
     VARNWALNUT_PLAN_TICK = 19,      /* a profile point's tick (point) */
 
     /* the check of a plan; from 21 on (border index, place, tick) */
@@ -90,20 +94,26 @@ enum {
  * THE TABLET
  *
  * A trip from one place to another, leaving at a tick of the day. The answer stands in bytes, low byte first:
- *   0..3 the refusal or 0 | 4..7 the tick of arrival | 8..9 the count of roads | 10.. the road numbers, 2 bytes each, from the first road to the last
- * On a refusal the arrival and the count are 0. Bytes after the last road number (on a refusal: from byte 10 on) stay as they were. With fewer than
- * VARNWALNUT_TRIP_BYTES answer bytes the call returns 31 before all else and writes nothing. 27 and 29 do not occur here.
- * A tick of arrival may be after the period: it counts on from the day of leaving.
+ *   0..3 the refusal or 0 | 4..7 the tick of arrival | 8..9 the count of roads
+ *   10.. the road numbers, 2 bytes each, from the first road to the last
+ * On a refusal the arrival and the count are 0. Bytes after the last road number (on a refusal: from byte 10
+ * on) stay as they were. With fewer than VARNWALNUT_TRIP_BYTES answer bytes the call returns 31 before all
+ * else and writes nothing. 27 and 29 do not occur here. A tick of arrival may be after the period: it counts
+ * on from the day of leaving.
  */
 
-/* Over all roads: the arrival is the earliest over all ways, with whatever waits. Refusals: 1 to 10, 25, 26, 28, 31. */
+/*
+ * Over all roads: the arrival is the earliest over all ways, with whatever waits. Refusals: 1 to 10, 25, 26,
+ * 28, 31.
+ */
 uint32_t varnwalnut_plain_trip(const uint8_t *network, size_t network_length,
                                uint8_t *answer, size_t answer_length,
                                uint32_t from, uint32_t to, uint32_t departure);
 
 /*
- * Over the roads with the flag of the target's cell. Under a plan that varnwalnut_check_plan accepts, the arrival is the earliest over all ways too, and
- * 28 is said exactly when there is none. Refusals: 1 to 19, 25, 26, 28, 31.
+ * Over the roads with the flag of the target's cell. Under a plan that varnwalnut_check_plan accepts, the
+ * arrival is the earliest over all ways too, and 28 is said exactly when there is none. Refusals: 1 to 19,
+ * 25, 26, 28, 31.
  */
 uint32_t varnwalnut_flagged_trip(const uint8_t *network, size_t network_length,
                                  const uint8_t *plan, size_t plan_length,
@@ -113,23 +123,25 @@ uint32_t varnwalnut_flagged_trip(const uint8_t *network, size_t network_length,
 /*
  * THE DESK
  *
- * Here the answer is a list of numbers: first the three places of a refusal, then the answer's own numbers. On a refusal the numbers after the places
- * are 0; on an answer the places are 0. With fewer answer numbers than named the call returns 31 before all else and writes nothing at all; numbers
- * after those named stay as they were.
+ * Here the answer is a list of numbers: first the three places of a refusal, then the answer's own numbers.
+ * On a refusal the numbers after the places are 0; on an answer the places are 0. With fewer answer numbers
+ * than named the call returns 31 before all else and writes nothing at all; numbers after those named stay as
+ * they were.
  */
 
 /*
- * Is the plan one that the flagged trips of this network may trust? 0 exactly when its profiles are the true least travels at every tick and its flags
- * are enough. answer[0..3]: the places. Refusals: 1 to 24, 31.
+ * Is the plan one that the flagged trips of this network may trust? 0 exactly when its profiles are the true
+ * least travels at every tick and its flags are enough. answer[0..3]: the places. Refusals: 1 to 24, 31.
  */
 uint32_t varnwalnut_check_plan(const uint8_t *network, size_t network_length,
                                const uint8_t *plan, size_t plan_length,
                                uint32_t *answer, size_t answer_length);
 
 /*
- * The tables of a network file: for each place its cell; for each road where it leads from and to and its count of points; for each point its tick and
- * travel. answer[0..9]: the places, then network number, period, places, roads, cells, points. On a refusal every table stays as it was; else only the
- * first entries of each change, as many as there are places, roads or points. Refusals: 1 to 10, 30, 31.
+ * The tables of a network file: for each place its cell; for each road where it leads from and to and its
+ * count of points; for each point its tick and travel. answer[0..9]: the places, then network number, period,
+ * places, roads, cells, points. On a refusal every table stays as it was; else only the first entries of each
+ * change, as many as there are places, roads or points. Refusals: 1 to 10, 30, 31.
  */
 uint32_t varnwalnut_open_network(const uint8_t *network, size_t network_length,
                                  uint16_t *cells, size_t cells_length,
@@ -141,11 +153,13 @@ uint32_t varnwalnut_open_network(const uint8_t *network, size_t network_length,
                                  uint32_t *answer, size_t answer_length);
 
 /*
- * The network file of such tables, of which only the first entries are looked at. answer[0..4]: the places, then the file's length in bytes. On a refusal
- * no byte of `out` changes; else its first bytes become the file and the others stay. What is packed opens to the same tables, and the tables of an
- * opened file pack to the same bytes. Refusals: 4, 30, 7 to 10, 31, in this order.
+ * The network file of such tables, of which only the first entries are looked at. answer[0..4]: the places,
+ * then the file's length in bytes. On a refusal no byte of `out` changes; else its first bytes become the
+ * file and the others stay. What is packed opens to the same tables, and the tables of an opened file pack to
+ * the same bytes. Refusals: 4, 30, 7 to 10, 31, in this order.
  */
-uint32_t varnwalnut_pack_network(uint32_t number, uint32_t period, uint32_t place_count, uint32_t road_count, uint32_t cell_count, uint32_t point_count,
+uint32_t varnwalnut_pack_network(uint32_t number, uint32_t period, uint32_t place_count, uint32_t road_count,
+                                 uint32_t cell_count, uint32_t point_count,
                                  const uint16_t *cells, size_t cells_length,
                                  const uint16_t *from, size_t from_length,
                                  const uint16_t *to, size_t to_length,
@@ -156,10 +170,11 @@ uint32_t varnwalnut_pack_network(uint32_t number, uint32_t period, uint32_t plac
                                  uint32_t *answer, size_t answer_length);
 
 /*
- * The trips with lent lists. answer[0..5]: the places, then the tick of arrival and the count of roads. Up to 27 both lists stay as they were. On arrival
- * and on 29 the first arrivals, one for each place, hold the earliest arrival where it is before the target's or the place is the target, else never; on
- * 28 the earliest arrival of every place that can be reached, and never for the others. `roads` changes only on arrival, in its first entries, as many as
- * are counted. Refusals: those of the tablet's trips, and 27 and 29.
+ * The trips with lent lists. answer[0..5]: the places, then the tick of arrival and the count of roads. Up to
+ * 27 both lists stay as they were. On arrival and on 29 the first arrivals, one for each place, hold the
+ * earliest arrival where it is before the target's or the place is the target, else never; on 28 the earliest
+ * arrival of every place that can be reached, and never for the others. `roads` changes only on arrival, in
+ * its first entries, as many as are counted. Refusals: those of the tablet's trips, and 27 and 29.
  */
 uint32_t varnwalnut_plain_trip_lists(const uint8_t *network, size_t network_length,
                                      uint32_t from, uint32_t to, uint32_t departure,

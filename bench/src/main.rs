@@ -1,9 +1,11 @@
-//! The C library of Varnwalnut against plain optimised Rust, on the same bytes in one run, in turns: first that both answer alike,
-//! then a table of times and ratios, the nodes that searches settle, and the stack that each call of the library needs.
+//! The C library of Varnwalnut against plain optimised Rust, on the same bytes in one run, in turns: first what the run is made on and
+//! with, then that both answer alike, then a table of times and ratios, the nodes that searches settle, and the stack that each call of
+//! the library needs.
 mod agree;
 mod clock;
 mod files;
 mod library;
+mod machine;
 mod measure;
 mod plain;
 mod profiles;
@@ -34,6 +36,7 @@ fn effort() -> Effort {
 
 fn main() {
     let effort = effort();
+    machine::print();
     let medium = Subject::new("medium", &town::MEDIUM);
     let full = Subject::new("full", &town::FULL);
     for subject in [&medium, &full] {

@@ -47,7 +47,7 @@ impl Subject {
 
     pub fn summary(&self) -> String {
         format!(
-            "{}: {} nodes, {} arcs, {} points, period {}, {} cells, {} borders; network {} bytes; plan {} bytes, {} points",
+            "{}: {} nodes, {} arcs, {} points, period {}, {} cells, {} borders\n  network {} bytes; plan {} bytes, {} points",
             self.name,
             self.town.cells.len(),
             self.town.tails.len(),
@@ -71,7 +71,8 @@ pub fn agree(medium: &Subject, full: &Subject) {
     let trips = agree::on_damaged_files(&medium.files, &medium.asks, 2000);
     let checks = agree::on_checks(&medium.files, 12);
     // Each ask of each town is a plain and two flagged trips in lists, and a plain and a flagged one in bytes.
-    println!("alike: {} trips; damaged files, refusal:times {}; checks {}", 5 * ASKS * 2, told(&trips), told(&checks));
+    println!("alike: {} trips; on damaged files and in checks, refusal:times", 5 * ASKS * 2);
+    println!("  files {}\n  checks {}", told(&trips), told(&checks));
 }
 
 /// Refusal numbers with how often each occurred.

@@ -2,26 +2,25 @@
 use crate::measure::{spread, Spread, Times};
 
 pub const HEAD: &str = "
-operation                    town     library, median (quartiles)         Rust, median (quartiles)            RATIO (quartiles of rounds)";
+operation                town   library (quartiles)        Rust (quartiles)           RATIO (quartiles)";
 
-/// A time in the unit that suits it.
-fn time(seconds: f64) -> String {
-    match seconds {
-        s if s >= 1.0 => format!("{s:.2} s"),
-        s if s >= 1e-3 => format!("{:.2} ms", s * 1e3),
-        s => format!("{:.1} us", s * 1e6),
-    }
-}
-
+/// Median and quartiles in the unit that suits the median.
 fn times(spread: Spread) -> String {
-    format!("{} ({} to {})", time(spread.median), time(spread.low), time(spread.high))
+    let (parts, digits, unit) = match spread.median {
+        s if s >= 1.0 => (1.0, 2, "s"),
+        s if s >= 1e-2 => (1e3, 1, "ms"),
+        s if s >= 1e-3 => (1e3, 2, "ms"),
+        _ => (1e6, 1, "us"),
+    };
+    let [median, low, high] = [spread.median, spread.low, spread.high].map(|seconds| format!("{:.digits$}", seconds * parts));
+    format!("{median} ({low} to {high}) {unit}")
 }
 
 pub fn print(operation: &str, town: &str, library: &Times, rust: &Times) {
     let (left, ours) = (spread(&library.0), spread(&rust.0));
     let rounds = spread(&library.over(rust));
     println!(
-        "{operation:28} {town:8} {:35} {:35} {:.2} ({:.2} to {:.2})",
+        "{operation:24} {town:6} {:26} {:26} {:.2} ({:.2} to {:.2})",
         times(left),
         times(ours),
         left.median / ours.median,
@@ -33,5 +32,5 @@ pub fn print(operation: &str, town: &str, library: &Times, rust: &Times) {
 /// A line below an operation that reads some bytes: how fast it does.
 pub fn print_rate(town: &str, bytes: usize, library: &Times, rust: &Times) {
     let rate = |times: &Times| format!("{:.1}", bytes as f64 / spread(&times.0).median / 1e9);
-    println!("{:28} {town:8} {:35} {:35}", "  GB/s", rate(library), rate(rust));
+    println!("{:24} {town:6} {:26} {}", "  GB/s", rate(library), rate(rust));
 }
