@@ -1,4 +1,5 @@
-// The desk's answers in lent numbers: the three places of a refusal, then the answer's own numbers. Each returns the refusal, or 0.
+// The desk's answers in lent numbers: the three places of a refusal, then the answer's own values. Each
+// returns the refusal, or 0.
 use network::answer::Opening;
 use network_pack::pack::Packing;
 use plan_check::answer::Checking;
@@ -7,7 +8,12 @@ ghost use mathlib.Core.Path.{_≡_};
 ghost use Prim.Native.Nat.{_≤_};
 ghost use lib.ListN.{length};
 ghost use Rattle.theory_loops.specs.Fill.{overwritten};
-ghost use Rattle.c_replies.specs.Reply.{checkNumbers, checkCode, openNumbers, openCode, packNumbers, packCode, tripNumbers, tripCode, tripCount};
+ghost use Rattle.file_refusals.specs.Says.{numbersOf};
+ghost use Rattle.network.specs.Answer.{openingSays};
+ghost use Rattle.network_pack.specs.Answer.{packingSays};
+ghost use Rattle.plan_check.specs.Answer.{checkingSays};
+ghost use Rattle.search_path.specs.Says.{tripSays, tripCount};
+ghost use Rattle.network.specs.Limits.{mostRoads};
 
 // The numbers become the first of the lent ones.
 fn write(numbers: &[u32], answer: &mut [u32])
@@ -22,8 +28,9 @@ fn write(numbers: &[u32], answer: &mut [u32])
 // What the check answers.
 pub fn write_checking(checking: Checking, answer: &mut [u32]) -> u32
     requires { ⌜ 3 ≤ length (now answer) ⌝ }
-    ensures code { λ r. ⌜ r ≡ checkCode checking ⌝ }
-    ensures numbers { λ _. ⌜ now (answer .exit) ≡ overwritten (checkNumbers checking) (now (answer .entry)) ⌝ }
+    ensures code { λ r. ⌜ r ≡ checkingSays checking .number ⌝ }
+    ensures numbers { λ _. ⌜ now (answer .exit)
+        ≡ overwritten (numbersOf (checkingSays checking)) (now (answer .entry)) ⌝ }
 {
     match checking {
         Checking::Accepted => {
@@ -42,8 +49,9 @@ pub fn write_checking(checking: Checking, answer: &mut [u32]) -> u32
 // What Open answers.
 pub fn write_opening(opening: Opening, answer: &mut [u32]) -> u32
     requires { ⌜ 9 ≤ length (now answer) ⌝ }
-    ensures code { λ r. ⌜ r ≡ openCode opening ⌝ }
-    ensures numbers { λ _. ⌜ now (answer .exit) ≡ overwritten (openNumbers opening) (now (answer .entry)) ⌝ }
+    ensures code { λ r. ⌜ r ≡ openingSays opening .number ⌝ }
+    ensures numbers { λ _. ⌜ now (answer .exit)
+        ≡ overwritten (numbersOf (openingSays opening)) (now (answer .entry)) ⌝ }
 {
     match opening {
         Opening::Opened(h) => {
@@ -72,8 +80,9 @@ pub fn write_opening(opening: Opening, answer: &mut [u32]) -> u32
 // What Pack answers.
 pub fn write_packing(packing: Packing, answer: &mut [u32]) -> u32
     requires { ⌜ 4 ≤ length (now answer) ⌝ }
-    ensures code { λ r. ⌜ r ≡ packCode packing ⌝ }
-    ensures numbers { λ _. ⌜ now (answer .exit) ≡ overwritten (packNumbers packing) (now (answer .entry)) ⌝ }
+    ensures code { λ r. ⌜ r ≡ packingSays packing .number ⌝ }
+    ensures numbers { λ _. ⌜ now (answer .exit)
+        ≡ overwritten (numbersOf (packingSays packing)) (now (answer .entry)) ⌝ }
 {
     match packing {
         Packing::Packed(l) => {
@@ -91,9 +100,10 @@ pub fn write_packing(packing: Packing, answer: &mut [u32]) -> u32
 
 // What a trip answers.
 pub fn write_lists(trip: Answer, answer: &mut [u32]) -> u32
-    requires { ⌜ (tripCount trip ≤ 511) × (5 ≤ length (now answer)) ⌝ }
-    ensures code { λ r. ⌜ r ≡ tripCode trip ⌝ }
-    ensures numbers { λ _. ⌜ now (answer .exit) ≡ overwritten (tripNumbers trip) (now (answer .entry)) ⌝ }
+    requires { ⌜ (tripCount trip ≤ mostRoads) × (5 ≤ length (now answer)) ⌝ }
+    ensures code { λ r. ⌜ r ≡ tripSays trip .number ⌝ }
+    ensures numbers { λ _. ⌜ now (answer .exit)
+        ≡ overwritten (numbersOf (tripSays trip)) (now (answer .entry)) ⌝ }
 {
     match trip {
         Answer::Arrived(a) => {

@@ -9,12 +9,15 @@ ghost use mathlib.Core.List.{_++_};
 ghost use lib.ListN.{length, take};
 ghost use lib.Seq.{sets};
 ghost use Rattle.search_path.specs.declared.answer.Answer.the-variants as answered;
-ghost use Rattle.c_replies.specs.Reply.{bytes, roadBytes, tripBytes, tripCode, tripCount};
+ghost use Rattle.search_path.specs.Says.{tripSays, tripCount};
+ghost use Rattle.network.specs.Limits.{mostRoads};
+ghost use Rattle.c_replies.specs.Reply.{tripSize, bytes, roadBytes, tripBytes};
 
 // The first road numbers of a list.
 fn write_roads(roads: &[u16], count: usize, answer: &mut [u8])
-    requires { ⌜ (count ≤ 511) × (count ≤ length (now roads)) × (1032 ≤ length (now answer)) ⌝ }
-    ensures { λ _. ⌜ now (answer .exit) ≡ sets (now (answer .entry)) 10 (roadBytes (take count (now (roads .entry)))) ⌝ }
+    requires { ⌜ (count ≤ mostRoads) × (count ≤ length (now roads)) × (tripSize ≤ length (now answer)) ⌝ }
+    ensures { λ _. ⌜ now (answer .exit)
+        ≡ sets (now (answer .entry)) 10 (roadBytes (take count (now (roads .entry)))) ⌝ }
 {
     for i in 0..count {
         put16(answer, 10 + 2 * i, roads[i]);
@@ -23,8 +26,9 @@ fn write_roads(roads: &[u16], count: usize, answer: &mut [u8])
 
 // A refusal: its number, no arrival and no road.
 fn write_refused(number: u32, answer: &mut [u8])
-    requires { ⌜ 1032 ≤ length (now answer) ⌝ }
-    ensures { λ _. ⌜ now (answer .exit) ≡ sets (now (answer .entry)) 0 (bytes 4 number ++ bytes 4 0 ++ bytes 2 0) ⌝ }
+    requires { ⌜ tripSize ≤ length (now answer) ⌝ }
+    ensures { λ _. ⌜ now (answer .exit)
+        ≡ sets (now (answer .entry)) 0 (bytes 4 number ++ bytes 4 0 ++ bytes 2 0) ⌝ }
 {
     put32(answer, 0, number);
     put32(answer, 4, 0);
@@ -33,8 +37,10 @@ fn write_refused(number: u32, answer: &mut [u8])
 
 // An arrival: its tick, and its roads.
 fn write_arrived(a: Arrival, roads: &[u16], answer: &mut [u8])
-    requires { ⌜ (a .count ≤ 511) × (a .count ≤ length (now roads)) × (1032 ≤ length (now answer)) ⌝ }
-    ensures { λ _. ⌜ now (answer .exit) ≡ sets (now (answer .entry)) 0 (tripBytes (answered.Arrived a) (take (a .count) (now (roads .entry)))) ⌝ }
+    requires { ⌜ (a .count ≤ mostRoads) × (a .count ≤ length (now roads))
+        × (tripSize ≤ length (now answer)) ⌝ }
+    ensures { λ _. ⌜ now (answer .exit)
+        ≡ sets (now (answer .entry)) 0 (tripBytes (answered.Arrived a) (now (roads .entry))) ⌝ }
 {
     put32(answer, 0, 0);
     put32(answer, 4, a.tick);
@@ -44,9 +50,11 @@ fn write_arrived(a: Arrival, roads: &[u16], answer: &mut [u8])
 
 // The answer to a trip whose roads stand in a list, and its refusal or 0.
 pub fn write_trip(trip: Answer, roads: &[u16], answer: &mut [u8]) -> u32
-    requires { ⌜ (tripCount trip ≤ 511) × (511 ≤ length (now roads)) × (1032 ≤ length (now answer)) ⌝ }
-    ensures code { λ r. ⌜ r ≡ tripCode trip ⌝ }
-    ensures bytes { λ _. ⌜ now (answer .exit) ≡ sets (now (answer .entry)) 0 (tripBytes trip (take (tripCount trip) (now (roads .entry)))) ⌝ }
+    requires { ⌜ (tripCount trip ≤ mostRoads) × (mostRoads ≤ length (now roads))
+        × (tripSize ≤ length (now answer)) ⌝ }
+    ensures code { λ r. ⌜ r ≡ tripSays trip .number ⌝ }
+    ensures bytes { λ _. ⌜ now (answer .exit)
+        ≡ sets (now (answer .entry)) 0 (tripBytes trip (now (roads .entry))) ⌝ }
 {
     match trip {
         Answer::Arrived(a) => {

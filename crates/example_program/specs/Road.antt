@@ -1,37 +1,31 @@
--- Road 1 of Quay town as the program has it, from place 1 to place 2, with the points (0, 3) and (5, 7) in a period of 10.
--- Owns the points as lists, that they are a day's points, and the travel by them, which the contract of `travel_at` cites.
-use mathlib.Core.Path.{refl}
-use mathlib.Core.List.{List, [], _∷_}
-use Prim.Native.Nat.{ℕ, zero, suc, _<_}
+-- The travel of road 1 of Quay town as the program has it: by the plain trip from place 1 to place 2, which
+-- it alone leads to from there.
+use mathlib.Core.Path.{_≡_}
+use mathlib.Core.List.{List}
+use Prim.Native.Nat.{ℕ, _-_, _≤_}
 use native.Mathlib.Omega.{arith}
-use Rattle.theory_travel.specs.Table.{Table, entryAt, valueAt}
+use lib.ListN.{getD}
+use Rattle.file_refusals.specs.declared.Refusal.{Refusal}
+use Rattle.search_path.specs.declared.answer.Arrival.{Arrival}
+use Rattle.search_path.specs.declared.answer.Answer.{Answer}
+use Rattle.search_path.specs.declared.answer.Answer.the-variants.{Arrived, Refused}
+use Rattle.search_path.specs.Says.{tripSays}
+use Rattle.trip.specs.Calls.{plainCall}
 
-abbrev pub ticks : List ℕ
-ticks = 0 ∷ 5 ∷ []
+-- the arrival, which is 0 where there is none, less the departure
+abbrev pub roadTravel : List ℕ → ℕ → ℕ
+roadTravel network tick = getD (tripSays (plainCall network 1 2 tick) .values) 0 0 - tick
 
-abbrev pub travels : List ℕ
-travels = 3 ∷ 7 ∷ []
+-- FOR CODE that has the trip's answer
+module _ (network : List ℕ) (tick : ℕ) (a : Answer) (e : a ≡ plainCall network 1 2 tick) where
+  pub travel-later : (r : Arrival) → a ≡ Arrived r → r .tick - tick ≡ roadTravel network tick
+  travel-later r q = rw (← e, q)
 
--- they are a day's points
-rising : (i : ℕ) → suc i < 2 → entryAt ticks 0 i < entryAt ticks 0 (suc i)
-unfolding entryAt
-rising zero l = omega arith
-rising (suc i) l = absurd (omega arith)
+  pub travel-none : (r : Arrival) → a ≡ Arrived r → r .tick ≤ tick → 0 ≡ roadTravel network tick
+  travel-none r q l = rw (← e, q) (omega arith)
 
-below : (i : ℕ) → i < 2 → entryAt ticks 0 i < 10
-unfolding entryAt
-below zero l = omega arith
-below (suc zero) l = omega arith
-below (suc (suc i)) l = absurd (omega arith)
+  pub travel-refused : (r : Refusal) → a ≡ Refused r → 0 ≡ roadTravel network tick
+  travel-refused r q = rw (← e, q) (omega arith)
 
-pub road-points : Table ticks travels 0 2 10
-unfolding entryAt
-road-points = record {
-  in-ticks = omega arith;
-  in-values = omega arith;
-  day = record { some = omega arith; start = refl; rise = rising; below = below };
-}
-
--- the travel at a tick below the period
-abbrev pub roadTravel : ℕ → ℕ
-roadTravel x = valueAt ticks travels 0 2 10 x
+-- for `search travels` in its cases
+pub ruleset travels = (travel-later, travel-none, travel-refused)

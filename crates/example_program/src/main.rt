@@ -1,10 +1,14 @@
 // example_program: the worked example, run and printed, a line for each row.
 //   town   the town's files: the network packed from its tables, plans read from files
 //   print  answers as lines
-// The same rows are proved from the files' bytes in one theorem (`example_theorem`). The program calls every operation, and `io` and `os` for its input and output.
+// The same rows are proved from the files' bytes in one theorem (`example_theorem`). The program calls every
+// operation, and `io` and `os` for its input and output.
 mod print;
 mod town;
 
+use network::limits::MOST_NODES;
+use network::limits::MOST_ROADS;
+use network::limits::NEVER;
 use print::end_line;
 use print::print_checking;
 use print::print_number;
@@ -12,30 +16,34 @@ use print::print_opening;
 use print::print_packing;
 use print::print_trip;
 use print::say;
+use search_path::answer::Answer;
 use town::LONG;
+use trip::flagged::flagged_trip;
+use trip::plain::plain_trip;
 ghost use mathlib.Core.Path.{_≡_};
-ghost use Prim.Native.Nat.{_%_};
 ghost use Rattle.example_program.specs.Road.{roadTravel};
 
-const PERIOD: u16 = 10;
+const PERIOD: u32 = 10;
 
-const TICKS: [u16; 2] = [0, 5];
-
-const TRAVELS: [u32; 2] = [3, 7];
-
-// The travel of road 1 at a tick.
-fn travel_at(tick: u32) -> u32
-    ensures { λ r. ⌜ r ≡ roadTravel (tick % 10) ⌝ }
+// The travel of road 1, the only one out of place 1, at a tick: of the trip from there to place 2 that leaves
+// then.
+fn travel_at(file: &[u8; 2048], tick: u32) -> u32
+    ensures { λ r. ⌜ r ≡ roadTravel (now (file .entry)) tick ⌝ }
 {
-    theory_travel::value_at(&TICKS, &TRAVELS, 0, 2, PERIOD, tick)
+    let mut arrivals = [NEVER; MOST_NODES];
+    let mut roads = [0u16; MOST_ROADS];
+    match plain_trip(file, 1, 2, tick, &mut arrivals, &mut roads) {
+        Answer::Arrived(a) => if tick < a.tick { a.tick - tick } else { 0 },
+        Answer::Refused(r) => 0,
+    }
 }
 
 // Road 1 over its period, on one line.
-fn print_road() {
+fn print_road(file: &[u8; 2048]) {
     say(b"road 1:");
     for tick in 0..PERIOD {
         say(b" ");
-        print_number(travel_at(tick as u32));
+        print_number(travel_at(file, tick));
     }
     end_line();
 }
@@ -79,26 +87,18 @@ fn print_file(name: &[u8]) {
 
 // A plain trip.
 fn print_plain(file: &[u8; 2048], from: u32, to: u32, departure: u32) {
-    let mut arrivals = [4294967295u32; 512];
-    let mut roads = [0u16; 511];
-    let answer = trip::plain::plain_trip(file, from, to, departure, &mut arrivals, &mut roads);
+    let mut arrivals = [NEVER; MOST_NODES];
+    let mut roads = [0u16; MOST_ROADS];
+    let answer = plain_trip(file, from, to, departure, &mut arrivals, &mut roads);
     say(b"plain ");
     print_trip(from, to, departure, answer, &roads);
 }
 
 // A flagged trip.
 fn print_flagged(file: &[u8; 2048], plan: &[u8; 2048], from: u32, to: u32, departure: u32) {
-    let mut arrivals = [4294967295u32; 512];
-    let mut roads = [0u16; 511];
-    let answer = trip::flagged::flagged_trip(
-        file,
-        plan,
-        from,
-        to,
-        departure,
-        &mut arrivals,
-        &mut roads,
-    );
+    let mut arrivals = [NEVER; MOST_NODES];
+    let mut roads = [0u16; MOST_ROADS];
+    let answer = flagged_trip(file, plan, from, to, departure, &mut arrivals, &mut roads);
     say(b"flagged ");
     print_trip(from, to, departure, answer, &roads);
 }
@@ -130,10 +130,11 @@ fn print_trips(file: &[u8; 2048]) {
 }
 
 fn main() {
-    print_road();
     let mut file = [0u8; LONG];
+    let packed = town::pack(7, &mut file);
+    print_road(&file);
     say(b"network: ");
-    print_packing(town::pack(7, &mut file));
+    print_packing(packed);
     say(b"the packed network: ");
     print_open(&file);
     print_second_point(8);

@@ -2,6 +2,7 @@
 use file_refusals::Refusal;
 use libc::STDOUT_FILENO;
 use network::answer::Opening;
+use network::limits::MOST_ROADS;
 use network_pack::pack::Packing;
 use plan_check::answer::Checking;
 use search_path::answer::Answer;
@@ -66,8 +67,8 @@ fn wide(road: u16) -> u32 {
 }
 
 // The first roads of a list, as many as counted and as it has.
-fn print_roads(roads: &[u16; 511], count: usize) {
-    for i in 0..511 {
+fn print_roads(roads: &[u16; MOST_ROADS], count: usize) {
+    for i in 0..MOST_ROADS {
         if i < count {
             say(b" ");
             print_number(wide(roads[i]));
@@ -77,7 +78,7 @@ fn print_roads(roads: &[u16; 511], count: usize) {
 }
 
 // From, to, leave; arrive, road count and roads, or the refusal.
-pub fn print_trip(from: u32, to: u32, departure: u32, answer: Answer, roads: &[u16; 511]) {
+pub fn print_trip(from: u32, to: u32, departure: u32, answer: Answer, roads: &[u16; MOST_ROADS]) {
     print_number(from);
     say(b" ");
     print_number(to);

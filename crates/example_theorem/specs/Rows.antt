@@ -1,53 +1,78 @@
--- The rows of document 01's section on Quay town, and of its run sheet: a question each, about files given by their bytes, and its answer in document 01's
--- numbers. What is told of a question is stated by the definitions that the contracts of the operations cite.
-use mathlib.Core.List.{List, [], _∷_}
-use Prim.Native.Nat.{ℕ}
-use Rattle.file_refusals.specs.declared.Refusal.{Refusal}
-use Rattle.network.specs.declared.answer.Opening.{Opening}
-use Rattle.network.specs.declared.answer.Opening.the-variants as opening
+-- The rows of document 01's section on Quay town, and of its run sheet: a question each, about files given by
+-- their bytes, and its answer. What is told of a question is stated by the definitions that the contracts of
+-- the operations cite, and what an answer says by the one definition for each enum of answers.
+use mathlib.Core.List.{List, [], _∷_, _++_}
+use Prim.Native.Nat.{ℕ, _/_, _%_}
+use lib.ListN.{length, take, replicate}
+use Rattle.theory_paths.specs.Graph.{driven}
+use Rattle.file_refusals.specs.Says as says
+use Rattle.file_fields.specs.Block.{blockSize}
+use Rattle.network.specs.Answer.{openingSays}
 use Rattle.network.specs.Decode.{decode}
+use Rattle.network.specs.Tables.{Tables, tables}
+use Rattle.network.specs.Town.{travelAt, graphOf, partitionOf}
 use Rattle.network_open.specs.Open.{opening}
-use Rattle.network.specs.Town.{travelAt}
-use Rattle.plan_check.specs.declared.answer.Checking.{Checking}
-use Rattle.plan_check.specs.declared.answer.Checking.the-variants as checking
+use Rattle.plan.specs.Border.{borders}
+use Rattle.plan_check.specs.Answer.{checkingSays}
 use Rattle.plan_check.specs.CheckPlan.{checking}
 use Rattle.search_path.specs.declared.answer.Answer.{Answer}
-use Rattle.search_path.specs.declared.answer.Answer.the-variants as answer
+use Rattle.search_path.specs.Says.{tripSays, tripCount}
 use Rattle.trip.specs.Calls.{plainCall, plainPath, flaggedCall, flaggedPath}
+use Rattle.text_numbers.specs.Text.{ascii}
+use Rattle.sheet.specs.Sheet.{sheetText}
 use Rattle.example_theorem.specs.Files.{networkFile, planFile}
 
--- the travel of a road at a tick below the period; how a network opens; a plain trip; the check of a plan; a flagged trip
+-- how many bytes a file has beyond whole blocks, and how many blocks; the borders of a network; the travel of
+-- a road at a tick below the period; when roads end that are driven from a tick on; how a network opens; a
+-- plain trip; the check of a plan; a flagged trip; the run sheet
 pub data Question : Type 0 where
+  blocks : (file : List ℕ) → Question
+  bordering : (network : List ℕ) → Question
   travel : (network : List ℕ) (road tick : ℕ) → Question
+  drives : (network roads : List ℕ) (tick : ℕ) → Question
   opens : (network : List ℕ) → Question
   plain : (network : List ℕ) (from to departure : ℕ) → Question
   checks : (network plan : List ℕ) → Question
   flagged : (network plan : List ℕ) (from to departure : ℕ) → Question
+  prints : (network plan input : List ℕ) → Question
 
--- ANSWERS AS NUMBERS: a refusal and its three places; else 0, and then of an opening the header's numbers, of a trip the arrival, the count of roads and
--- the roads
-abbrev pub refusalTold : Refusal → List ℕ
-refusalTold r = r .number ∷ r .first ∷ r .second ∷ r .third ∷ []
-
-abbrev pub openingTold : Opening → List ℕ
-openingTold (opening.Opened h) = 0 ∷ h .number ∷ h .period ∷ h .nodes ∷ h .arcs ∷ h .cells ∷ h .points ∷ []
-openingTold (opening.Refused r) = refusalTold r
-
-abbrev pub checkTold : Checking → List ℕ
-checkTold checking.Accepted = 0 ∷ []
-checkTold (checking.Refused r) = refusalTold r
+-- ANSWERS AS NUMBERS: refusal or 0, three places, the values; and after those of a trip its roads, as many as
+-- it counts
+abbrev pub told : says.Says → List ℕ
+told s = s .number ∷ says.numbersOf s
 
 abbrev pub tripTold : Answer → List ℕ → List ℕ
-tripTold (answer.Arrived a) path = 0 ∷ a .tick ∷ a .count ∷ path
-tripTold (answer.Refused r) path = refusalTold r
+tripTold a path = told (tripSays a) ++ take (tripCount a) path
 
--- the tables of an opening have room for 4 nodes, 4 arcs and 5 points
-abbrev pub told : Question → List ℕ
-told (travel network road tick) = travelAt (decode network) road tick ∷ []
-told (opens network) = openingTold (opening network 4 4 4 4 5 5)
-told (plain network from to departure) = tripTold (plainCall network from to departure) (plainPath network from to departure)
-told (checks network plan) = checkTold (checking network plan)
-told (flagged network plan from to departure) = tripTold (flaggedCall network plan from to departure) (flaggedPath network plan from to departure)
+-- the tables that are lent to Open have room for 4 nodes, 4 arcs and 5 points
+abbrev pub lent : Tables
+lent =
+    tables (replicate 4 0) (replicate 4 0) (replicate 4 0) (replicate 4 0) (replicate 5 0) (replicate 5 0)
+
+abbrev pub answerTo : Question → List ℕ
+answerTo (blocks file) = length file % blockSize ∷ length file / blockSize ∷ []
+answerTo (bordering network) = borders (partitionOf (decode network))
+answerTo (travel network road tick) = travelAt (decode network) road tick ∷ []
+answerTo (drives network roads tick) = driven (graphOf (decode network)) roads tick ∷ []
+answerTo (opens network) = told (openingSays (opening network lent))
+answerTo (plain network from to departure) =
+    tripTold (plainCall network from to departure) (plainPath network from to departure)
+answerTo (checks network plan) = told (checkingSays (checking network plan))
+answerTo (flagged network plan from to departure) =
+    tripTold (flaggedCall network plan from to departure) (flaggedPath network plan from to departure)
+answerTo (prints network plan input) = sheetText network plan input
+
+-- a refusal of a call that would give so many values; what an opening and a check give; a trip's arrival by
+-- these roads
+abbrev pub refused : ℕ → ℕ → ℕ → ℕ → ℕ → List ℕ
+refused count number first second third =
+    told (says.refuses count (record { number = number; first = first; second = second; third = third }))
+
+abbrev pub given : List ℕ → List ℕ
+given values = told (says.gives values)
+
+abbrev pub arrived : ℕ → List ℕ → List ℕ
+arrived tick roads = given (tick ∷ length roads ∷ []) ++ roads
 
 pub record Row : Type 0 where
   pub question : Question
@@ -65,8 +90,12 @@ plan = planFile 3 2 (21 ∷ 0 ∷ 124 ∷ 20 ∷ []) 6 (78 ∷ 0 ∷ 137 ∷ 74 
 
 unfoldable pub rows : List Row
 rows =
+    -- four blocks each, and the border
+    (blocks network gives 0 ∷ 4 ∷ [])
+    ∷ (blocks plan gives 0 ∷ 4 ∷ [])
+    ∷ (bordering network gives 2 ∷ [])
     -- road 1 at ticks 0 to 9
-    (travel network 1 0 gives 3 ∷ [])
+    ∷ (travel network 1 0 gives 3 ∷ [])
     ∷ (travel network 1 1 gives 3 ∷ [])
     ∷ (travel network 1 2 gives 4 ∷ [])
     ∷ (travel network 1 3 gives 5 ∷ [])
@@ -76,23 +105,41 @@ rows =
     ∷ (travel network 1 7 gives 5 ∷ [])
     ∷ (travel network 1 8 gives 4 ∷ [])
     ∷ (travel network 1 9 gives 3 ∷ [])
-    -- plain trips, the first of them a tie
-    ∷ (plain network 0 3 0 gives 0 ∷ 7 ∷ 3 ∷ 0 ∷ 1 ∷ 3 ∷ [])
-    ∷ (plain network 0 3 1 gives 0 ∷ 8 ∷ 2 ∷ 2 ∷ 3 ∷ [])
-    ∷ (plain network 0 3 8 gives 0 ∷ 14 ∷ 3 ∷ 0 ∷ 1 ∷ 3 ∷ [])
-    ∷ (plain network 3 0 0 gives 28 ∷ 0 ∷ 0 ∷ 0 ∷ [])
-    ∷ (plain network 3 3 4 gives 0 ∷ 4 ∷ 0 ∷ [])
+    -- plain trips; the first is a tie of two ways
+    ∷ (drives network (0 ∷ 1 ∷ 3 ∷ []) 0 gives 7 ∷ [])
+    ∷ (drives network (2 ∷ 3 ∷ []) 0 gives 7 ∷ [])
+    ∷ (plain network 0 3 0 gives arrived 7 (0 ∷ 1 ∷ 3 ∷ []))
+    ∷ (plain network 0 3 1 gives arrived 8 (2 ∷ 3 ∷ []))
+    ∷ (plain network 0 3 8 gives arrived 14 (0 ∷ 1 ∷ 3 ∷ []))
+    ∷ (plain network 3 3 4 gives arrived 4 [])
+    -- there is no way from 3 to 0, whenever one leaves
+    ∷ (plain network 3 0 0 gives refused 2 28 0 0 0)
+    ∷ (plain network 3 0 1 gives refused 2 28 0 0 0)
+    ∷ (plain network 3 0 2 gives refused 2 28 0 0 0)
+    ∷ (plain network 3 0 3 gives refused 2 28 0 0 0)
+    ∷ (plain network 3 0 4 gives refused 2 28 0 0 0)
+    ∷ (plain network 3 0 5 gives refused 2 28 0 0 0)
+    ∷ (plain network 3 0 6 gives refused 2 28 0 0 0)
+    ∷ (plain network 3 0 7 gives refused 2 28 0 0 0)
+    ∷ (plain network 3 0 8 gives refused 2 28 0 0 0)
+    ∷ (plain network 3 0 9 gives refused 2 28 0 0 0)
     -- the second point of road 1 as (5, 7), (5, 8) and (5, 9)
-    ∷ (opens network gives 0 ∷ 9 ∷ 10 ∷ 4 ∷ 4 ∷ 2 ∷ 5 ∷ [])
-    ∷ (opens (networkFile 8 (38 ∷ 0 ∷ 203 ∷ 36 ∷ [])) gives 0 ∷ 9 ∷ 10 ∷ 4 ∷ 4 ∷ 2 ∷ 5 ∷ [])
-    ∷ (opens (networkFile 9 (39 ∷ 0 ∷ 192 ∷ 37 ∷ [])) gives 10 ∷ 2 ∷ 0 ∷ 0 ∷ [])
+    ∷ (opens network gives given (9 ∷ 10 ∷ 4 ∷ 4 ∷ 2 ∷ 5 ∷ []))
+    ∷ (opens (networkFile 8 (38 ∷ 0 ∷ 203 ∷ 36 ∷ [])) gives given (9 ∷ 10 ∷ 4 ∷ 4 ∷ 2 ∷ 5 ∷ []))
+    ∷ (opens (networkFile 9 (39 ∷ 0 ∷ 192 ∷ 37 ∷ [])) gives refused 6 10 2 0 0)
     -- the plan; flags 1, 2, 2, 2 and 3, 2, 0, 2; place 0's first travel as 5 and 7
-    ∷ (checks network plan gives 0 ∷ [])
-    ∷ (checks network (planFile 1 2 (19 ∷ 0 ∷ 136 ∷ 18 ∷ []) 6 (78 ∷ 0 ∷ 137 ∷ 74 ∷ [])) gives 24 ∷ 0 ∷ 0 ∷ 7 ∷ [])
-    ∷ (checks network (planFile 3 0 (19 ∷ 0 ∷ 152 ∷ 18 ∷ []) 6 (78 ∷ 0 ∷ 137 ∷ 74 ∷ [])) gives 24 ∷ 0 ∷ 0 ∷ 1 ∷ [])
-    ∷ (checks network (planFile 3 2 (21 ∷ 0 ∷ 124 ∷ 20 ∷ []) 5 (77 ∷ 0 ∷ 144 ∷ 73 ∷ [])) gives 23 ∷ 0 ∷ 0 ∷ 0 ∷ [])
-    ∷ (checks network (planFile 3 2 (21 ∷ 0 ∷ 124 ∷ 20 ∷ []) 7 (79 ∷ 0 ∷ 130 ∷ 75 ∷ [])) gives 22 ∷ 0 ∷ 0 ∷ 0 ∷ [])
-    -- the run sheet's flagged trips
-    ∷ (flagged network plan 0 3 7 gives 0 ∷ 13 ∷ 3 ∷ 0 ∷ 1 ∷ 3 ∷ [])
-    ∷ (flagged network plan 3 0 7 gives 28 ∷ 0 ∷ 0 ∷ 0 ∷ [])
+    ∷ (checks network plan gives given [])
+    ∷ (checks network (planFile 1 2 (19 ∷ 0 ∷ 136 ∷ 18 ∷ []) 6 (78 ∷ 0 ∷ 137 ∷ 74 ∷ []))
+    gives refused 0 24 0 0 7)
+    ∷ (checks network (planFile 3 0 (19 ∷ 0 ∷ 152 ∷ 18 ∷ []) 6 (78 ∷ 0 ∷ 137 ∷ 74 ∷ []))
+    gives refused 0 24 0 0 1)
+    ∷ (checks network (planFile 3 2 (21 ∷ 0 ∷ 124 ∷ 20 ∷ []) 5 (77 ∷ 0 ∷ 144 ∷ 73 ∷ []))
+    gives refused 0 23 0 0 0)
+    ∷ (checks network (planFile 3 2 (21 ∷ 0 ∷ 124 ∷ 20 ∷ []) 7 (79 ∷ 0 ∷ 130 ∷ 75 ∷ []))
+    gives refused 0 22 0 0 0)
+    -- the run sheet, and its two flagged trips
+    ∷ (flagged network plan 0 3 7 gives arrived 13 (0 ∷ 1 ∷ 3 ∷ []))
+    ∷ (flagged network plan 3 0 7 gives refused 2 28 0 0 0)
+    ∷ (prints network plan (ascii "0 3 7\n3 0 7\n")
+    gives ascii "plan accepted\n0 3 7 13 3 0 1 3\n3 0 7 refused 28\n")
     ∷ []

@@ -1,11 +1,12 @@
--- Quay town in one theorem: of every row, what is told of its question is its answer (`quay-town`). A test computes it for all rows, by the quick forms of
--- validation, and a law turns the test into the rule.
+-- Quay town in one theorem: the answer to every row's question is the row's answer (`quay-town`). A test
+-- computes it for all rows, by the quick forms of validation, and a law turns the test into the rule.
 use mathlib.Core.Path.{_≡_, refl, sym, _∙_}
 use mathlib.Core.Logic.{Or·elim}
-use mathlib.Core.Bool.{Bool, true, false, _&&_, and-eq-true-iff, true≢false, So-prop}
-use mathlib.Core.List.{List, [], _∷_, List·Mem, not-mem-nil, eq-or-mem-of-mem-cons}
+use mathlib.Core.Bool.{Bool, true, false, cond, _&&_, and-eq-true-iff, true≢false, So-prop}
+use mathlib.Core.List.{List, [], _∷_, _++_, List·Mem, not-mem-nil, eq-or-mem-of-mem-cons}
 use Prim.Native.Nat.{ℕ}
-use lib.Dec.{eqb}
+use lib.ListN.{length, take}
+use lib.Dec.{eqb, ltb}
 use borrow.Author.Tests.{eqb-true}
 use Rattle.theory_loops.specs.First.{first}
 use Rattle.theory_loops.specs.Pick.{firstRung}
@@ -13,78 +14,167 @@ use Rattle.theory_loops.specs.Triple.{firstTripleRung}
 use Rattle.theory_loops.specs.Select.{select}
 use Rattle.theory_loops.specs.Total.{total}
 use Rattle.theory_loops.specs.Fill.{tab}
-use Rattle.file_blocks.specs.Place.{offset}
+use Rattle.theory_paths.specs.Graph.{all, ends}
+use Rattle.theory_paths.specs.Labels.{relaxed, rounds, labels}
+use Rattle.theory_paths.specs.Chosen.{lowest, back, chosen}
 use Rattle.theory_travel.specs.Line.{line}
 use Rattle.theory_travel.specs.Points.{segment, value}
 use Rattle.theory_travel.specs.Day.{closed, dayValue}
 use Rattle.theory_travel.specs.Table.{entryAt}
-use Rattle.theory_paths.specs.Graph.{all, ends}
-use Rattle.theory_paths.specs.Labels.{relaxed, rounds, labels}
-use Rattle.theory_paths.specs.Chosen.{lowest, back, chosen}
+use Rattle.theory_travel.specs.Ticks.{badTick}
+use Rattle.file_blocks.specs.Place.{offset}
 use Rattle.network.specs.declared.answer.Opening.{Opening}
 use Rattle.network.specs.declared.answer.Opening.the-variants as opening
 use Rattle.network.specs.declared.header.Header.{Header}
-use Rattle.network.specs.Limits.{made}
+use Rattle.network.specs.Limits.{mostNodes, mostRoads, made}
+use Rattle.network.specs.Answer.{openingSays}
 use Rattle.network.specs.Network.{Network, start}
 use Rattle.network.specs.Decode.{decode}
-use Rattle.network.specs.Town.{partitionOf}
-use Rattle.network.specs.Rules.{judged, judgedArcs, judgedSum, judgedPoints, badEnds, firstPoint, badPoint, badPointBy, misplaced, overtaken}
+use Rattle.network.specs.Rules.{
+  judged,
+  judgedArcs,
+  judgedSum,
+  judgedPoints,
+  badEnds,
+  firstPoint,
+  badPoint,
+  overtaken,
+}
 use Rattle.network.specs.Validate.{badLength, validated}
-use Rattle.network_open.specs.Open.{openedIn, tooShort}
-use Rattle.network.specs.Town.{travelAt}
+use Rattle.network.specs.Town.{graphOf, partitionOf, travelAt}
+use Rattle.network_open.specs.Open.{openedIn, tooShort, tooShortBy}
 use Rattle.plan.specs.declared.answer.Planning.{Planning}
-use Rattle.plan_check.specs.declared.answer.Checking.{Checking}
-use Rattle.plan_check.specs.declared.answer.Checking.the-variants as checking
 use Rattle.plan.specs.Border.{borders, isBorder}
-use Rattle.plan.specs.Plan.{pointStart, profileValue, towards}
+use Rattle.plan.specs.Plan.{pointStart, profileValue}
 use Rattle.plan.specs.PlanDecode.{decodePlan}
 use Rattle.plan.specs.PlanRules as rules
 use Rattle.plan.specs.PlanValidate.{badPlanLength, matching, planned}
 use Rattle.plan_tests.specs.Tests.{fails, fails22, given}
+use Rattle.plan_check.specs.declared.answer.Checking.{Checking}
+use Rattle.plan_check.specs.declared.answer.Checking.the-variants as checking
+use Rattle.plan_check.specs.Answer.{checkingSays}
 use Rattle.plan_check.specs.Check.{checked, tripleRung}
 use Rattle.plan_check.specs.CheckPlan.{checkedBy}
-use Rattle.trip_call.specs.Trip.{asked, andThen, searched, tripAnswer}
-use Rattle.trip.specs.Flagged.{plannedThen}
+use Rattle.search_path.specs.declared.answer.Answer.{Answer}
+use Rattle.trip_call.specs.Trip.{asked, andThen, tripAnswer}
+use Rattle.search_path.specs.Answer.{searched}
+use Rattle.trip.specs.Flagged.{plannedThen, flaggedArcs}
 use Rattle.trip.specs.Calls.{plainPath, flaggedPath}
+use Rattle.text_numbers.specs.Text.{ascii}
+use Rattle.text_numbers.specs.Number.{decimal, digitsOf}
+use Rattle.sheet_line.specs.declared.line.Line.{Line}
+use Rattle.sheet_line.specs.declared.line.Line.the-variants.{Asks, Other}
+use Rattle.sheet_line.specs.Scanning.{scanned, scannedAll, spaceScanned, digitScanned, ended}
+use Rattle.sheet_text.specs.Numbers.{spaced}
+use Rattle.sheet_text.specs.Head.{most, headText, verdictText, isAccepted, reads}
+use Rattle.sheet_text.specs.TripText.{lineText, tripText, tripOf, pathFor, askingText, answerText}
+use Rattle.sheet.specs.Lines.{linesOf, linesFrom}
+use Rattle.sheet.specs.Reading.{textsOf}
+use Rattle.sheet.specs.Sheet.{sheetText}
 use Rattle.example_theorem.specs.Files.{networkFile, planFile}
 use Rattle.example_theorem.specs.Quick.{summed, blank, quickFormed}
-use Rattle.example_theorem.specs.Validation.{quickValidated, quickPlanned, validated-quick, planned-quick}
-use Rattle.example_theorem.specs.Rows.{Question, travel, opens, plain, checks, flagged, openingTold, checkTold, tripTold, told, Row, rows}
+use Rattle.example_theorem.specs.Validation.{
+  quickValidated,
+  quickPlanned,
+  validated-quick,
+  planned-quick,
+}
+use Rattle.example_theorem.specs.Rows.{
+  Question,
+  blocks,
+  bordering,
+  travel,
+  drives,
+  opens,
+  plain,
+  checks,
+  flagged,
+  prints,
+  told,
+  tripTold,
+  lent,
+  answerTo,
+  Row,
+  rows,
+}
 
--- what is told of a question, with the validation of networks and of plans as arguments
+-- THE ANSWERS with the validation of networks and of plans as arguments
 module _ (opened : List ℕ → Opening) (planning : Header → Network → List ℕ → Planning) where
+  abbrev plainBy : List ℕ → ℕ → ℕ → ℕ → Answer
+  plainBy network from to departure =
+      tripAnswer (andThen (opened network) (λ h. asked h from to departure mostNodes))
+      (searched (graphOf (decode network)) all from to departure mostRoads)
+
+  abbrev flaggedBy : List ℕ → List ℕ → ℕ → ℕ → ℕ → Answer
+  flaggedBy network file from to departure =
+      tripAnswer
+      (andThen (opened network)
+      (λ h. plannedThen (planning h (decode network) file) (asked h from to departure mostNodes)))
+      (searched (graphOf (decode network)) (flaggedArcs network file to) from to departure mostRoads)
+
   abbrev checkedOver : List ℕ → List ℕ → Opening → Checking
   checkedOver network file (opening.Refused r) = checking.Refused r
-  checkedOver network file (opening.Opened h) = checkedBy (decode network) (decodePlan file) (planning h (decode network) file)
+  checkedOver network file (opening.Opened h) =
+      checkedBy (partitionOf (decode network)) (decodePlan file) (planning h (decode network) file)
 
-  abbrev toldBy : Question → List ℕ
-  toldBy (travel network road tick) = travelAt (decode network) road tick ∷ []
-  toldBy (opens network) = openingTold (openedIn (opened network) (λ h. tooShort h 4 4 4 4 5 5))
-  toldBy (plain network from to departure) =
-      tripTold
-      (tripAnswer (andThen (opened network) (λ h. asked h from to departure 512)) (searched (decode network) all from to departure 511))
-      (plainPath network from to departure)
-  toldBy (checks network file) = checkTold (checkedOver network file (opened network))
-  toldBy (flagged network file from to departure) =
-      tripTold
-      (tripAnswer (andThen (opened network) (λ h. plannedThen (planning h (decode network) file) (asked h from to departure 512)))
-      (searched (decode network) (towards (partitionOf (decode network)) (decodePlan file) to) from to departure 511))
-      (flaggedPath network file from to departure)
+  abbrev checkBy : List ℕ → List ℕ → Checking
+  checkBy network file = checkedOver network file (opened network)
 
-told-by : (q : Question) → told q ≡ toldBy validated planned q
-told-by (travel network road tick) = refl
-told-by (opens network) = refl
-told-by (plain network from to departure) = refl
-told-by (checks network file) = refl
-told-by (flagged network file from to departure) = refl
+  -- the run sheet, of files that are not too large
+  abbrev lineBy : List ℕ → List ℕ → Line → List ℕ
+  lineBy network file (Asks a) =
+      askingText a ++ answerText (flaggedBy network file (a .from) (a .to) (a .leave))
+      (pathFor network file a)
+  lineBy network file Other = ascii "refused 32\n"
 
-abbrev quickTold : Question → List ℕ
-quickTold q = toldBy quickValidated quickPlanned q
+  abbrev sheetBy : List ℕ → List ℕ → List ℕ → List ℕ
+  sheetBy network file input =
+      let large = ltb most (length network) in
+      let too = ltb most (length file) in
+      cond large (ascii "too large\n") (cond too (ascii "too large\n") (verdictText (checkBy network file)))
+      ++ cond (cond large false (cond too false (isAccepted (checkBy network file))))
+      (textsOf (lineBy network file) (take 64 (linesOf input))) []
 
-told-quick : (q : Question) → told q ≡ quickTold q
-told-quick q = told-by q ∙ (λ i. toldBy (λ f. validated-quick f i) (λ h n f. planned-quick h n f i) q)
+  abbrev answerBy : Question → List ℕ
+  answerBy (blocks file) = answerTo (blocks file)
+  answerBy (bordering network) = answerTo (bordering network)
+  answerBy (travel network road tick) = answerTo (travel network road tick)
+  answerBy (drives network roads tick) = answerTo (drives network roads tick)
+  answerBy (opens network) = told (openingSays (openedIn (opened network) (λ h. tooShort h lent)))
+  answerBy (plain network from to departure) =
+      tripTold (plainBy network from to departure) (plainPath network from to departure)
+  answerBy (checks network file) = told (checkingSays (checkBy network file))
+  answerBy (flagged network file from to departure) =
+      tripTold (flaggedBy network file from to departure) (flaggedPath network file from to departure)
+  answerBy (prints network file input) = sheetBy network file input
 
--- THE TEST: two lists have the same numbers; a row's answer is what is told; and all rows' are
+line-by : (network file : List ℕ) (line : Line)
+    → lineText network file line ≡ lineBy validated planned network file line
+unfolding lineText tripText tripOf
+line-by network file (Asks a) = refl
+line-by network file Other = refl
+
+answer-by : (q : Question) → answerTo q ≡ answerBy validated planned q
+unfolding sheetText headText reads
+answer-by (blocks file) = refl
+answer-by (bordering network) = refl
+answer-by (travel network road tick) = refl
+answer-by (drives network roads tick) = refl
+answer-by (opens network) = refl
+answer-by (plain network from to departure) = refl
+answer-by (checks network file) = refl
+answer-by (flagged network file from to departure) = refl
+answer-by (prints network file input) = λ i.
+    headText network file
+    ++ cond (reads network file) (textsOf (λ line. line-by network file line i) (take 64 (linesOf input))) []
+
+abbrev quickAnswer : Question → List ℕ
+quickAnswer q = answerBy quickValidated quickPlanned q
+
+answer-quick : (q : Question) → answerTo q ≡ quickAnswer q
+answer-quick q = answer-by q ∙ (λ i. answerBy (λ f. validated-quick f i) (λ h n f. planned-quick h n f i) q)
+
+-- THE TEST: two lists have the same numbers; a row's answer is the answer to its question; and all rows' are
 same : List ℕ → List ℕ → Bool
 same [] [] = true
 same [] (y ∷ t) = false
@@ -92,14 +182,21 @@ same (x ∷ s) [] = false
 same (x ∷ s) (y ∷ t) = eqb x y && same s t
 
 agrees : Row → Bool
-agrees r = same (quickTold (r .question)) (r .answer)
+agrees r = same (quickAnswer (r .question)) (r .answer)
 
 allAgree : List Row → Bool
 allAgree [] = true
 allAgree (r ∷ l) = agrees r && allAgree l
 
 rows-agree : allAgree rows ≡ true
-unfolding allAgree agrees same rows first firstRung select total tab offset line segment value closed dayValue entryAt ends relaxed rounds labels lowest back chosen made start decode judged judgedArcs judgedSum judgedPoints badEnds firstPoint badPoint badPointBy misplaced overtaken badLength tooShort travelAt borders isBorder pointStart profileValue decodePlan rules.badTick rules.badProfile rules.badPoint rules.judgedTicks rules.judgedSum rules.judgedCounts rules.judgedFlags badPlanLength matching fails fails22 given checked tripleRung firstTripleRung asked networkFile planFile summed blank quickFormed
+unfolding allAgree agrees same rows first firstRung select total tab offset line segment value closed
+    dayValue entryAt ends relaxed rounds labels lowest back chosen made start decode judged judgedArcs
+    judgedSum judgedPoints badEnds firstPoint badPoint badTick overtaken badLength tooShortBy
+    travelAt borders isBorder pointStart profileValue decodePlan rules.badProfile
+    rules.firstBadPoint rules.judgedTicks rules.judgedSum rules.judgedCounts rules.judgedFlags badPlanLength
+    matching fails fails22 given checked tripleRung firstTripleRung asked networkFile planFile summed
+    blank quickFormed headText verdictText isAccepted reads textsOf linesFrom scannedAll scanned
+    spaceScanned digitScanned ended askingText answerText pathFor spaced decimal digitsOf
 rows-agree = refl
 
 -- THE RULE
@@ -119,6 +216,6 @@ each-agrees (k ∷ l) h r m =
     let (e, f) = and-eq-true-iff (agrees k) (allAgree l) .0 h in
     Or·elim (So-prop (agrees r)) (eq-or-mem-of-mem-cons m) (λ q. rw q e) (each-agrees l f r)
 
-pub quay-town : (r : Row) → List·Mem r rows → told (r .question) ≡ r .answer
+pub quay-town : (r : Row) → List·Mem r rows → answerTo (r .question) ≡ r .answer
 unfolding agrees
-quay-town r m = told-quick (r .question) ∙ same-lists _ _ (each-agrees rows rows-agree r m)
+quay-town r m = answer-quick (r .question) ∙ same-lists _ _ (each-agrees rows rows-agree r m)

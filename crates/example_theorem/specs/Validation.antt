@@ -1,5 +1,6 @@
--- Validation of the two files with the tests of a block's check and form as arguments. With those of the crate `blocks` it is the validation that the
--- contracts cite; with the quick ones it computes fast; and since the tests are equal, so are the answers.
+-- Validation of the two files with the tests of a block's check and form as arguments. With those of the
+-- crate `file_blocks` it is the validation that the contracts cite; with the quick ones it computes fast; and
+-- since the tests are equal, so are the answers.
 use mathlib.Core.Path.{_≡_, refl, _∙_}
 use mathlib.Core.Bool.{Bool, cond, not, _&&_}
 use mathlib.Core.List.{List}
@@ -18,6 +19,7 @@ use Rattle.network.specs.declared.header.Made.the-variants.{Inside, Outside}
 use Rattle.network.specs.Network.{Network}
 use Rattle.network.specs.Layout.{arcBlock, pointBlock, allBlocks}
 use Rattle.network.specs.Decode.{decode}
+use Rattle.network.specs.Town.{partitionOf}
 use Rattle.network.specs.Rules.{judged}
 use Rattle.network.specs.Validate as network
 use Rattle.plan.specs.declared.answer.Planning.{Planning}
@@ -41,45 +43,57 @@ module _ (check : Checks) (form : Forms) where
   -- the first block of a run that is out of its form, or what comes after the run
   abbrev pub firstOff : ℕ → ℕ → ℕ → ℕ → ℕ → ℕ → ℕ
   firstOff from kind per size n next =
-      firstRung (λ j. from + j) (blocks per n) (λ j. not (form (from + j) kind (entriesIn per n j) (8 + size * entriesIn per n j))) next
+      firstRung (λ j. from + j) (blocks per n)
+      (λ j. not (form (from + j) kind (entriesIn per n j) (8 + size * entriesIn per n j))) next
 
   -- a network file
   abbrev pub offNetwork : Header → ℕ
-  offNetwork h = firstOff 1 2 250 2 (h .nodes) (firstOff (arcBlock h) 3 83 6 (h .arcs) (firstOff (pointBlock h) 4 125 4 (h .points) (allBlocks h)))
+  offNetwork h =
+      firstOff 1 2 250 2 (h .nodes)
+      (firstOff (arcBlock h) 3 83 6 (h .arcs) (firstOff (pointBlock h) 4 125 4 (h .points) (allBlocks h)))
 
   abbrev pub headedBy : List ℕ → Made → Opening
   headedBy file (Inside h) =
       cond (eqb (length file) (512 * allBlocks h))
-      (cond (ltb (offNetwork h) (allBlocks h)) (network.refused 6 (offNetwork h)) (network.validatedRules h (judged (decode file))))
-      (network.refused 5 0)
-  headedBy file Outside = network.refused 4 0
+      (cond (ltb (offNetwork h) (allBlocks h)) (network.unopened 6 (offNetwork h))
+      (network.validatedRules h (judged (decode file))))
+      (network.unopened 5 0)
+  headedBy file Outside = network.unopened 4 0
 
   abbrev pub validatedBy : List ℕ → Opening
   validatedBy file =
-      cond (network.badLength (length file)) (network.refused 1 0)
-      (firstRung (network.refused 2) (length file / 512) (λ b. not (check b))
-      (cond (form 0 1 1 24) (headedBy file (network.madeAt file)) (network.refused 3 0)))
+      cond (network.badLength (length file)) (network.unopened 1 0)
+      (firstRung (network.unopened 2) (length file / 512) (λ b. not (check b))
+      (cond (form 0 1 1 24) (headedBy file (network.madeAt file)) (network.unopened 3 0)))
 
   -- a plan file
   abbrev pub offPlan : PlanHeader → ℕ
-  offPlan k = firstOff 1 6 62 8 (k .arcs) (firstOff (countBlock k) 7 250 2 (profileCount k) (firstOff (planPointBlock k) 8 83 6 (k .points) (planBlocks k)))
+  offPlan k =
+      firstOff 1 6 62 8 (k .arcs)
+      (firstOff (countBlock k) 7 250 2 (profileCount k)
+      (firstOff (planPointBlock k) 8 83 6 (k .points) (planBlocks k)))
 
   abbrev pub matchedBy : List ℕ → Network → PlanHeader → Planning
   matchedBy file n k =
       cond (eqb (length file) (512 * planBlocks k))
-      (cond (ltb (offPlan k) (planBlocks k)) (plan.refused 16 (offPlan k)) (plan.plannedRules k (planJudged n (decodePlan file))))
-      (plan.refused 15 0)
+      (cond (ltb (offPlan k) (planBlocks k)) (plan.unplanned 16 (offPlan k))
+      (plan.plannedRules k (planJudged n (decodePlan file))))
+      (plan.unplanned 15 0)
 
   abbrev pub plannedBy : Header → Network → List ℕ → Planning
   plannedBy h n file =
-      cond (plan.badPlanLength (length file)) (plan.refused 11 0)
-      (firstRung (plan.refused 12) (length file / 512) (λ b. not (check b))
+      cond (plan.badPlanLength (length file)) (plan.unplanned 11 0)
+      (firstRung (plan.unplanned 12) (length file / 512) (λ b. not (check b))
       (cond (form 0 5 1 28 && eqb (le16 file 22) 0)
-      (cond (plan.matching h (borderCount n) (planHeaderAt file)) (matchedBy file n (planHeaderAt file)) (plan.refused 14 0))
-      (plan.refused 13 0)))
+      (cond (plan.matching h (borderCount (partitionOf n)) (planHeaderAt file))
+      (matchedBy file n (planHeaderAt file))
+      (plan.unplanned 14 0))
+      (plan.unplanned 13 0)))
 
-header-by : (file : List ℕ) (m : Made) → network.validatedHeader file m ≡ headedBy (good file) (formed file) file m
-unfolding network.validatedLength network.validatedForm network.firstUnformed network.unformedArcs network.unformedPoints
+header-by : (file : List ℕ) (m : Made)
+    → network.validatedHeader file m ≡ headedBy (good file) (formed file) file m
+unfolding network.validatedLength network.validatedForm network.firstUnformed network.unformedArcs
+    network.unformedPoints
 header-by file (Inside h) = refl
 header-by file Outside = refl
 
@@ -87,8 +101,10 @@ validated-by : (file : List ℕ) → network.validated file ≡ validatedBy (goo
 unfolding network.validated network.validatedFirst
 validated-by file = rw (header-by file (network.madeAt file))
 
-planned-by : (h : Header) (n : Network) (file : List ℕ) → plan.planned h n file ≡ plannedBy (good file) (formed file) h n file
-unfolding plan.planned plan.plannedFirst plan.firstFormed plan.plannedHeader plan.plannedLength plan.plannedForm plan.firstUnformed plan.unformedCounts plan.unformedPoints planLayoutOf
+planned-by : (h : Header) (n : Network) (file : List ℕ)
+    → plan.planned h n file ≡ plannedBy (good file) (formed file) h n file
+unfolding plan.planned plan.plannedFirst plan.firstFormed plan.plannedHeader plan.plannedLength
+    plan.plannedForm plan.firstUnformed plan.unformedCounts plan.unformedPoints planLayoutOf
 planned-by h n file = refl
 
 -- by the quick tests
@@ -99,7 +115,11 @@ abbrev pub quickPlanned : Header → Network → List ℕ → Planning
 quickPlanned h n file = plannedBy (quickGood file) (quickFormed file) h n file
 
 pub validated-quick : (file : List ℕ) → network.validated file ≡ quickValidated file
-validated-quick file = validated-by file ∙ (λ i. validatedBy (λ b. good-quick file b i) (λ b k e u. formed-quick file b k e u i) file)
+validated-quick file =
+    validated-by file
+    ∙ (λ i. validatedBy (λ b. good-quick file b i) (λ b k e u. formed-quick file b k e u i) file)
 
 pub planned-quick : (h : Header) (n : Network) (file : List ℕ) → plan.planned h n file ≡ quickPlanned h n file
-planned-quick h n file = planned-by h n file ∙ (λ i. plannedBy (λ b. good-quick file b i) (λ b k e u. formed-quick file b k e u i) h n file)
+planned-quick h n file =
+    planned-by h n file
+    ∙ (λ i. plannedBy (λ b. good-quick file b i) (λ b k e u. formed-quick file b k e u i) h n file)

@@ -1,5 +1,5 @@
--- A block's form: its kind, a zero byte, its number of entries, its own number, and zeros from its last entry up to its check.
--- Every test is executable, and nested as the code makes it.
+-- A block's form: its kind, a zero byte, its number of entries, its own number, and zeros from its last entry
+-- up to its check. Every test is executable, and nested as the code makes it.
 use mathlib.Core.Path.{_≡_, ap}
 use mathlib.Core.Bool.{Bool, true, false, not, _&&_, and-eq-true-iff}
 use mathlib.Core.List.{List}
@@ -11,6 +11,7 @@ use borrow.Author.Tests.{eq-eqb, ne-eqb, eqb-true, le-ltb, ltb-false, not-true, 
 use Rattle.theory_loops.specs.First.{first, any, First, some, none, none-yet, pass, clear, first-le, first-is}
 use Rattle.file_fields.specs.Fields.{le16, le32}
 use Rattle.file_blocks.specs.Place.{entriesIn}
+use Rattle.file_fields.specs.Block.{blockSize, summedSize, headSize}
 
 -- byte k from a on is no zero
 abbrev pub nonzero : List ℕ → ℕ → ℕ → Bool
@@ -23,11 +24,16 @@ zeros file a e = not (any (e - a) (nonzero file a))
 -- block b is of this kind, with so many entries, and `used` bytes are its head and its entries
 unfoldable pub formed : List ℕ → ℕ → ℕ → ℕ → ℕ → Bool
 formed file b kind entries used =
-    eqb (getD file (512 * b) 0) kind && (eqb (getD file (512 * b + 1) 0) 0 && (eqb (le16 file (512 * b + 2)) entries && (eqb (le32 file (512 * b + 4)) b && zeros file (512 * b + used) (512 * b + 508))))
+    eqb (getD file (blockSize * b) 0) kind &&
+    (eqb (getD file (blockSize * b + 1) 0) 0 &&
+    (eqb (le16 file (blockSize * b + 2)) entries &&
+    (eqb (le32 file (blockSize * b + 4)) b && zeros file (blockSize * b + used)
+    (blockSize * b + summedSize))))
 
 -- block j of a run of n entries, whose first block is `from`
 abbrev pub runFormed : List ℕ → ℕ → ℕ → ℕ → ℕ → ℕ → ℕ → Bool
-runFormed file from kind per size n j = formed file (from + j) kind (entriesIn per n j) (8 + size * entriesIn per n j)
+runFormed file from kind per size n j =
+    formed file (from + j) kind (entriesIn per n j) (headSize + size * entriesIn per n j)
 
 abbrev pub unformed : List ℕ → ℕ → ℕ → ℕ → ℕ → ℕ → ℕ → Bool
 unformed file from kind per size n j = not (runFormed file from kind per size n j)
@@ -37,7 +43,8 @@ module _ (file : List ℕ) (a : ℕ) where
   pub zero-none : first 0 (nonzero file a) ≡ 0
   zero-none = none-yet (nonzero file a)
 
-  pub zero-pass : (k : ℕ) → first k (nonzero file a) ≡ k → getD file (a + k) 0 ≡ 0 → first (k + 1) (nonzero file a) ≡ k + 1
+  pub zero-pass : (k : ℕ) → first k (nonzero file a) ≡ k → getD file (a + k) 0 ≡ 0
+      → first (k + 1) (nonzero file a) ≡ k + 1
   zero-pass k h e = pass (nonzero file a) k h (ap not (eq-eqb _ _ e))
 
   pub zero-stop : (e k : ℕ) → k < e - a → (getD file (a + k) 0 ≡ 0 → ⊥) → false ≡ zeros file a e
@@ -54,11 +61,14 @@ module _ (file : List ℕ) (a : ℕ) where
       let n : e - a ≤ first (e - a) (nonzero file a) = ltb-false _ _ (not-true _ h) in
       let f : first (e - a) (nonzero file a) ≡ e - a = omega (arith, first-le (nonzero file a) (e - a)) in
       let k : a + (i - a) ≡ i = omega arith in
-      let z : getD file (a + (i - a)) 0 ≡ 0 = eqb-true _ _ (not-false _ (clear (nonzero file a) (e - a) f (i - a) (omega arith))) in
+      let z : getD file (a + (i - a)) 0 ≡ 0 =
+      eqb-true _ _ (not-false _ (clear (nonzero file a) (e - a) f (i - a) (omega arith))) in
       rw k at z
 
   pub zeros-all : (e : ℕ) → ((i : ℕ) → a ≤ i → i < e → getD file i 0 ≡ 0) → zeros file a e ≡ true
-  zeros-all e h = ap not (le-ltb (first (e - a) (nonzero file a)) (e - a) (omega (arith, first-is (nonzero file a) (e - a) (e - a) all)))
+  zeros-all e h = ap not
+      (le-ltb (first (e - a) (nonzero file a)) (e - a)
+      (omega (arith, first-is (nonzero file a) (e - a) (e - a) all)))
     where
       all : First (e - a) (nonzero file a) (e - a)
       all =
@@ -70,43 +80,48 @@ module _ (file : List ℕ) (a : ℕ) where
 
 -- FOR THE CODE of `formed`: the first test that fails decides, and the last is left when all before it hold
 module _ (file : List ℕ) (b kind entries used : ℕ) where
-  pub kind-decides : (getD file (512 * b) 0 ≡ kind → ⊥) → eqb (getD file (512 * b) 0) kind ≡ formed file b kind entries used
+  pub kind-decides : (getD file (blockSize * b) 0 ≡ kind → ⊥)
+      → eqb (getD file (blockSize * b) 0) kind ≡ formed file b kind entries used
   unfolding formed
   kind-decides h = rw (ne-eqb _ _ h)
 
-  module _ (k : getD file (512 * b) 0 ≡ kind) where
-    pub zero-decides : (getD file (512 * b + 1) 0 ≡ 0 → ⊥) → eqb (getD file (512 * b + 1) 0) 0 ≡ formed file b kind entries used
+  module _ (k : getD file (blockSize * b) 0 ≡ kind) where
+    pub zero-decides : (getD file (blockSize * b + 1) 0 ≡ 0 → ⊥)
+        → eqb (getD file (blockSize * b + 1) 0) 0 ≡ formed file b kind entries used
     unfolding formed
     zero-decides h = rw (eq-eqb _ _ k, ne-eqb _ _ h)
 
-    module _ (z : getD file (512 * b + 1) 0 ≡ 0) (x : ℕ) (e : x ≡ le16 file (512 * b + 2)) where
+    module _ (z : getD file (blockSize * b + 1) 0 ≡ 0) (x : ℕ) (e : x ≡ le16 file (blockSize * b + 2)) where
       pub entries-decide : (x ≡ entries → ⊥) → eqb x entries ≡ formed file b kind entries used
       unfolding formed
       entries-decide h = rw (eq-eqb _ _ k, eq-eqb _ _ z, ← e, ne-eqb _ _ h)
 
-      module _ (f : x ≡ entries) (y : ℕ) (g : y ≡ le32 file (512 * b + 4)) where
+      module _ (f : x ≡ entries) (y : ℕ) (g : y ≡ le32 file (blockSize * b + 4)) where
         pub number-decides : (y ≡ b → ⊥) → eqb y b ≡ formed file b kind entries used
         unfolding formed
         number-decides h = rw (eq-eqb _ _ k, eq-eqb _ _ z, ← e, eq-eqb _ _ f, ← g, ne-eqb _ _ h)
 
-        pub fill-decides : y ≡ b → (t : Bool) → t ≡ zeros file (512 * b + used) (512 * b + 508) → t ≡ formed file b kind entries used
+        pub fill-decides : y ≡ b → (t : Bool)
+            → t ≡ zeros file (blockSize * b + used) (blockSize * b + summedSize)
+            → t ≡ formed file b kind entries used
         unfolding formed
         fill-decides h t q = rw (eq-eqb _ _ k, eq-eqb _ _ z, ← e, eq-eqb _ _ f, ← g, eq-eqb _ _ h) q
 
 pub ruleset forms = (kind-decides, zero-decides, entries-decide, number-decides, fill-decides)
 
 -- FOR THE CODE of `unformed`, which has worked the entries out
-pub run-unformed : (file : List ℕ) (from kind per size n j e : ℕ) (t : Bool) → e ≡ entriesIn per n j → t ≡ formed file (from + j) kind e (8 + size * e)
+pub run-unformed : (file : List ℕ) (from kind per size n j e : ℕ) (t : Bool) → e ≡ entriesIn per n j
+    → t ≡ formed file (from + j) kind e (headSize + size * e)
     → not t ≡ unformed file from kind per size n j
 run-unformed file from kind per size n j e t f h = rw (h, f)
 
 -- what `formed` says, part by part
 pub record Formed (file : List ℕ) (b kind entries used : ℕ) : Type 0 where
-  pub kind-is : getD file (512 * b) 0 ≡ kind
-  pub zero-is : getD file (512 * b + 1) 0 ≡ 0
-  pub entries-is : le16 file (512 * b + 2) ≡ entries
-  pub number-is : le32 file (512 * b + 4) ≡ b
-  pub fill-is : (i : ℕ) → 512 * b + used ≤ i → i < 512 * b + 508 → getD file i 0 ≡ 0
+  pub kind-is : getD file (blockSize * b) 0 ≡ kind
+  pub zero-is : getD file (blockSize * b + 1) 0 ≡ 0
+  pub entries-is : le16 file (blockSize * b + 2) ≡ entries
+  pub number-is : le32 file (blockSize * b + 4) ≡ b
+  pub fill-is : (i : ℕ) → blockSize * b + used ≤ i → i < blockSize * b + summedSize → getD file i 0 ≡ 0
 
 module _ (file : List ℕ) (b kind entries used : ℕ) where
   pub formed-parts : formed file b kind entries used ≡ true → Formed file b kind entries used
@@ -121,11 +136,16 @@ module _ (file : List ℕ) (b kind entries used : ℕ) where
         zero-is = eqb-true _ _ z;
         entries-is = eqb-true _ _ e;
         number-is = eqb-true _ _ n;
-        fill-is = zeros-each file (512 * b + used) (512 * b + 508) f;
+        fill-is = zeros-each file (blockSize * b + used) (blockSize * b + summedSize) f;
       }
 
   pub parts-formed : Formed file b kind entries used → formed file b kind entries used ≡ true
   unfolding formed
   parts-formed f =
-      rw (eq-eqb _ _ (f .kind-is), eq-eqb _ _ (f .zero-is), eq-eqb _ _ (f .entries-is), eq-eqb _ _ (f .number-is))
-      (zeros-all file (512 * b + used) (512 * b + 508) (f .fill-is))
+      rw (
+        eq-eqb _ _ (f .kind-is),
+        eq-eqb _ _ (f .zero-is),
+        eq-eqb _ _ (f .entries-is),
+        eq-eqb _ _ (f .number-is),
+      )
+      (zeros-all file (blockSize * b + used) (blockSize * b + summedSize) (f .fill-is))

@@ -1,5 +1,8 @@
--- The table of kinds: for each its number in a block's first byte, the bytes of an entry, and the entries of a full block.
-use Prim.Native.Nat.{ℕ}
+-- The table of kinds: for each its number in a block's first byte, the bytes of an entry, and the entries of
+-- a full block.
+use mathlib.Core.Path.{_≡_, refl}
+use Prim.Native.Nat.{ℕ, _/_}
+use Rattle.file_fields.specs.Block.{entriesSize}
 
 -- the header of a network
 abbrev pub networkKind : ℕ
@@ -74,3 +77,9 @@ profilePointSize = 6
 
 abbrev pub profilePointPer : ℕ
 profilePointPer = 83
+
+-- a full block has as many entries as fit
+pub full-blocks : (cellPer ≡ entriesSize / cellSize) × (arcPer ≡ entriesSize / arcSize)
+    × (pointPer ≡ entriesSize / pointSize) × (flagPer ≡ entriesSize / flagSize)
+    × (countPer ≡ entriesSize / countSize) × (profilePointPer ≡ entriesSize / profilePointSize)
+full-blocks = (refl, refl, refl, refl, refl, refl)

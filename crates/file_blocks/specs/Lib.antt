@@ -7,4 +7,5 @@ pub mod Form
 pub mod Read
 pub mod Bytes
 pub mod Run
+pub mod RunLaws
 pub mod Write

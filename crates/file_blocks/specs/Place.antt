@@ -1,15 +1,18 @@
--- Where the entries of a kind stand. A kind's blocks are a run from block `from` on, with `per` entries of `size` bytes a block, all blocks
--- but the last full: entry i is entry i % per of block from + i / per. Nothing here says what an entry means.
-use mathlib.Core.Path.{_≡_, sym, _∙_}
+-- Where the entries of a kind stand. A kind's blocks are a run from block `from` on, with `per` entries of
+-- `size` bytes a block, all blocks but the last full: entry i is entry i % per of block from + i / per.
+-- Nothing here says what an entry means.
+use mathlib.Core.Path.{_≡_, _∙_}
 use mathlib.Core.List.{List}
 use Prim.Native.Nat.{ℕ, _+_, _-_, _*_, _/_, _%_, _≤_, _<_, min}
-use native.Mathlib.Nat.{mod-lt, mul-le-mul-left, le-div-iff-mul-le, div-mul-le-self, div-add-mod, mul-add-div, mul-add-mod-self-left, div-eq-of-lt, mod-eq-of-lt, mul-comm, min-le-left}
+use native.Mathlib.Nat.{mod-lt, mul-le-mul-left, le-div-iff-mul-le, div-mul-le-self, div-add-mod, mul-add-div}
+use native.Mathlib.Nat.{mul-add-mod-self-left, div-eq-of-lt, mod-eq-of-lt, mul-comm, min-le-left}
 use native.Mathlib.Omega.{arith}
 use lib.ListN.{length}
+use Rattle.file_fields.specs.Block.{blockSize, summedSize, headSize, entriesSize}
 
 -- the byte at which entry i starts
 unfoldable pub offset : ℕ → ℕ → ℕ → ℕ → ℕ
-offset from per size i = 512 * (from + i / per) + 8 + size * (i % per)
+offset from per size i = blockSize * (from + i / per) + headSize + size * (i % per)
 
 -- the blocks that n entries take
 abbrev pub blocks : ℕ → ℕ → ℕ
@@ -20,14 +23,14 @@ abbrev pub entriesIn : ℕ → ℕ → ℕ → ℕ
 entriesIn per n j = min per (n - per * j)
 
 -- a file that has room for the run of n entries
-pub record Stored (from per size n : ℕ) (file : List ℕ) : Type 0 where
+pub record RunInFile (from per size n : ℕ) (file : List ℕ) : Type 0 where
   pub pos : 0 < per
-  pub fit : size * per ≤ 500
-  pub room : 512 * (from + blocks per n) ≤ length file
+  pub fit : size * per ≤ entriesSize
+  pub room : blockSize * (from + blocks per n) ≤ length file
 
-module _ (from per size : ℕ) (pos : 0 < per) (fit : size * per ≤ 500) where
+module _ (from per size : ℕ) (pos : 0 < per) (fit : size * per ≤ entriesSize) where
   -- the whole entry stands before its block's check
-  pub offset-in : (i : ℕ) → offset from per size i + size ≤ 512 * (from + i / per) + 508
+  pub offset-in : (i : ℕ) → offset from per size i + size ≤ blockSize * (from + i / per) + summedSize
   unfolding offset
   offset-in i = omega (arith, mul-le-mul-left size (mod-lt i pos))
 
@@ -36,14 +39,11 @@ module _ (from per size : ℕ) (pos : 0 < per) (fit : size * per ≤ 500) where
   block-below n i l = le-div-iff-mul-le pos .1 (omega (arith, div-mul-le-self i per))
 
   -- so it stands in the file
-  pub entry-in : (n i : ℕ) → i < n → offset from per size i + size ≤ 512 * (from + blocks per n)
+  pub entry-in : (n i : ℕ) → i < n → offset from per size i + size ≤ blockSize * (from + blocks per n)
   entry-in n i l = omega (arith, offset-in i, block-below n i l)
 
 -- every index is that of an entry in a block, and back
 module _ (per : ℕ) (pos : 0 < per) where
-  pub index-is : (i : ℕ) → i ≡ per * (i / per) + i % per
-  index-is i = sym (div-add-mod i per)
-
   pub index-in : (n i : ℕ) → i < n → i % per < entriesIn per n (i / per)
   index-in n i l = omega (arith, mod-lt i pos, div-add-mod i per)
 
@@ -60,28 +60,30 @@ module _ (per : ℕ) (pos : 0 < per) where
   pub block-used : (n j : ℕ) → j < blocks per n → 0 < entriesIn per n j
   block-used n j l = omega (arith, le-div-iff-mul-le pos .0 l, mul-comm per j)
 
-  pub block-full : (n j : ℕ) → j + 1 < blocks per n → entriesIn per n j ≡ per
-  block-full n j l = omega (arith, le-div-iff-mul-le pos .0 l, mul-comm per j)
-
 -- where entry e of block j stands
-pub offset-at : (from per size : ℕ) → 0 < per → (j e : ℕ) → e < per → offset from per size (per * j + e) ≡ 512 * (from + j) + 8 + size * e
+pub offset-at : (from per size : ℕ) → 0 < per → (j e : ℕ) → e < per
+    → offset from per size (per * j + e) ≡ blockSize * (from + j) + headSize + size * e
 unfolding offset
 offset-at from per size pos j e l = rw (index-block per pos j e l, index-entry per pos j e l)
 
 -- and the entries after entry i in its block stand behind it
-pub offset-on : (from per size : ℕ) → 0 < per → (i e : ℕ) → i % per + e < per → offset from per size (i + e) ≡ offset from per size i + size * e
+pub offset-on : (from per size : ℕ) → 0 < per → (i e : ℕ) → i % per + e < per
+    → offset from per size (i + e) ≡ offset from per size i + size * e
 unfolding offset
 offset-on from per size pos i e l =
     let q : i + e ≡ per * (i / per) + (i % per + e) = omega (arith, div-add-mod i per) in
-    rw (q, index-block per pos (i / per) (i % per + e) l, index-entry per pos (i / per) (i % per + e) l) (omega arith)
+    rw (q, index-block per pos (i / per) (i % per + e) l, index-entry per pos (i / per) (i % per + e) l)
+    (omega arith)
 
--- FOR A WALK over the blocks of a stored run: block j starts at an entry of the run, stands whole in the file, and its entries fit
-module _ (from per size n : ℕ) (file : List ℕ) (s : Stored from per size n file) (j : ℕ) (l : j < blocks per n) where
+-- FOR A WALK over the blocks of a stored run: block j starts at an entry of the run, stands whole in the
+-- file, and its entries fit
+module _ (from per size n : ℕ) (file : List ℕ) (s : RunInFile from per size n file) (j : ℕ)
+    (l : j < blocks per n) where
   pub block-starts : per * j ≤ n
   block-starts = omega (arith, block-used per (s .pos) n j l)
 
-  pub block-in : 512 * (from + j) + 512 ≤ length file
+  pub block-in : blockSize * (from + j) + blockSize ≤ length file
   block-in = omega (arith, s .room)
 
-  pub block-fits : (m : ℕ) → m ≡ entriesIn per n j → size * m ≤ 500
+  pub block-fits : (m : ℕ) → m ≡ entriesIn per n j → size * m ≤ entriesSize
   block-fits m e = rw e (omega (arith, s .fit, mul-le-mul-left size (min-le-left per (n - per * j))))

@@ -1,35 +1,41 @@
--- What a reader of blocks finds at a block number: that the file has ended, or whether the block's check is right.
-use mathlib.Core.Bool.{Bool, true, false, cond, not}
+-- What a reader of blocks finds at a block number: whether the file has that block, and its check is right.
+use mathlib.Core.Bool.{Bool, true, false, not, _&&_, and-eq-true-iff}
 use mathlib.Core.List.{List}
-use mathlib.Core.Path.{_≡_, refl, sym, ap, _∙_}
-use Prim.Native.Nat.{ℕ, _/_, _<_}
-use borrow.Author.Tests.{lt-leb}
+use mathlib.Core.Path.{_≡_, ap}
+use Prim.Native.Nat.{ℕ, _/_, _+_, _≤_, _<_}
+use native.Mathlib.Decide.{decLe}
+use native.Mathlib.Omega.{arith}
+use borrow.Author.Tests.{ltb-true, lt-ltb}
 use lib.ListN.{length}
-use lib.Dec.{leb}
+use lib.Dec.{ltb}
+use Rattle.theory_loops.specs.First.{first, pass, stop, done}
+use Rattle.theory_loops.specs.Pick.{and-clear}
+use Rattle.file_fields.specs.Block.{blockSize}
 use Rattle.file_fields.specs.Sum.{good}
-use Rattle.file_blocks.specs.declared.reader.Step.{Step}
-use Rattle.file_blocks.specs.declared.reader.Step.the-variants.{Good, Bad, End}
 
-abbrev pub stepAt : List ℕ → ℕ → Step
-stepAt file b = cond (leb (length file / 512) b) End (cond (good file b) Good Bad)
-
-abbrev pub isBad : Step → Bool
-isBad Good = false
-isBad Bad = true
-isBad End = false
+-- the file has block b, and its check is right
+abbrev pub goodAt : List ℕ → ℕ → Bool
+goodAt file b = ltb b (length file / blockSize) && good file b
 
 -- block b's check is wrong
 abbrev pub bad : List ℕ → ℕ → Bool
 bad file b = not (good file b)
 
--- which is what the reader finds at a block of the file
-pub bad-read : (file : List ℕ) (b : ℕ) → b < length file / 512 → isBad (stepAt file b) ≡ bad file b
-bad-read file b l = rw (lt-leb _ _ l) (at (good file b))
-  where
-    at : (t : Bool) → isBad (cond t Good Bad) ≡ not t
-    at true = refl
-    at false = refl
+-- FOR A WALK that has passed right blocks alone, and stands at i: it goes past a right block, or has ended
+module _ (file : List ℕ) (i : ℕ) (none : first i (bad file) ≡ i) where
+  abbrev n : ℕ
+  n = length file / blockSize
 
--- FOR THE LOOP: what the test said of a step is so of the block
-pub bad-told : (file : List ℕ) (b : ℕ) (s : Step) (t u : Bool) → b < length file / 512 → s ≡ stepAt file b → t ≡ isBad s → t ≡ u → bad file b ≡ u
-bad-told file b s t u l f g h = sym (bad-read file b l) ∙ (ap isBad (sym f) ∙ (sym g ∙ h))
+  pub goes-on : goodAt file i ≡ true → (i < n) × (first (i + 1) (bad file) ≡ i + 1)
+  goes-on e =
+      let h = and-eq-true-iff (ltb i n) (good file i) .0 e in
+      (ltb-true i n (h .0), pass (bad file) i none (ap not (h .1)))
+
+  pub stops : i ≤ n → goodAt file i ≡ false → i ≡ first n (bad file)
+  stops l e =
+      elim (decLe n i) [
+        | yes h ↦ done (bad file) n i none l h
+        | no h ↦
+            let m : i < n = omega arith in
+            stop (bad file) n i none m (ap not (and-clear (ltb i n) (good file i) .0 e (lt-ltb i n m)))
+      ]

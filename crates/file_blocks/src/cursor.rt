@@ -1,9 +1,13 @@
-// A walk over the entries of a run in their order, without a division: the byte at which the entries of a block start, and the number of
-// the entry in that block. specs/Cursor.antt says where it stands before entry i.
+// A walk over the entries of a run in their order, without a division: the byte at which the entries of a
+// block start, and the number of the entry in that block. specs/Cursor.antt says where it stands before entry
+// i.
+use file_fields::BLOCK;
+use file_fields::HEAD;
 use file_fields::fields::le16;
 ghost use mathlib.Core.Path.{_≡_};
 ghost use Prim.Native.Nat.{_+_, _*_, _/_, _^_, _≤_, _<_};
 ghost use lib.ListN.{length};
+ghost use Rattle.file_fields.specs.Block.{blockSize};
 ghost use Rattle.file_fields.specs.Fields;
 ghost use Rattle.file_blocks.specs.Cursor.{cursorFirst, cursorAt, moved};
 
@@ -15,11 +19,11 @@ pub struct Cursor {
 impl Cursor {
     // Before the first entry of a run whose first block is `from`.
     pub fn new(from: usize) -> Cursor
-        requires { ⌜ from < 16384 ⌝ }
+        requires { ⌜ from < 2 ^ 54 ⌝ }
         ensures { λ r. ⌜ r ≡ cursorFirst from ⌝ }
     {
         Cursor {
-            base: 512 * from + 8,
+            base: BLOCK * from + HEAD,
             slot: 0,
         }
     }
@@ -30,14 +34,14 @@ impl Cursor {
         ensures { λ r. ⌜ r ≡ cursorAt from per i ⌝ }
     {
         Cursor {
-            base: 512 * (from + i / per) + 8,
+            base: BLOCK * (from + i / per) + HEAD,
             slot: i % per,
         }
     }
 
     // Before the next entry, in a run of `per` entries a block.
     pub fn next(self, per: usize) -> Cursor
-        requires { ⌜ (self .slot < 512) × (self .base < 8388608) ⌝ }
+        requires { ⌜ (self .slot < blockSize) × (self .base < 2 ^ 62) ⌝ }
         ensures { λ r. ⌜ r ≡ moved per self ⌝ }
     {
         if self.slot + 1 < per {
@@ -47,7 +51,7 @@ impl Cursor {
             };
         }
         Cursor {
-            base: self.base + 512,
+            base: self.base + BLOCK,
             slot: 0,
         }
     }
@@ -55,7 +59,8 @@ impl Cursor {
     // The 16 bits with which the entry starts, in a run of entries of `size` bytes.
     pub fn field(self, file: &[u8], size: usize) -> usize
         requires { ⌜ self .base + size * self .slot + 2 ≤ length (now file) ⌝ }
-        ensures { λ r. ⌜ (r ≡ Fields.le16 (now (file .entry)) (self .base + size * self .slot)) × (r < 65536) ⌝ }
+        ensures { λ r. ⌜ (r ≡ Fields.le16 (now (file .entry)) (self .base + size * self .slot))
+            × (r < 65536) ⌝ }
     {
         le16(file, self.base + size * self.slot) as usize
     }

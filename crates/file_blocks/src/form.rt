@@ -1,14 +1,18 @@
 // A block's form, and the first block of a run that has not the form it is to have: specs/Form.antt.
 use crate::place::blocks;
 use crate::place::entries_in;
+use file_fields::BLOCK;
+use file_fields::HEAD;
+use file_fields::SUMMED;
 use file_fields::fields::le16;
 use file_fields::fields::le32;
 ghost use mathlib.Core.Path.{_≡_};
 ghost use Prim.Native.Nat.{_+_, _*_, _≤_, _<_, _^_};
 ghost use lib.ListN.{length};
 ghost use Rattle.theory_loops.specs.First.{first};
+ghost use Rattle.file_fields.specs.Block.{blockSize, summedSize};
 ghost use Rattle.file_blocks.specs.Place;
-ghost use Rattle.file_blocks.specs.Place.{Stored};
+ghost use Rattle.file_blocks.specs.Place.{RunInFile};
 ghost use Rattle.file_blocks.specs.Form.{zeros, formed, unformed};
 
 // Are all bytes from a up to e zero?
@@ -26,14 +30,14 @@ pub fn is_zero(file: &[u8], a: usize, e: usize) -> bool
 
 // Has block b this kind and number of entries, its own number, and zeros after its first `used` bytes?
 pub fn is_formed(file: &[u8], b: usize, kind: u8, entries: usize, used: usize) -> bool
-    requires { ⌜ (512 * b + 512 ≤ length (now file)) × (used ≤ 508) ⌝ }
+    requires { ⌜ (blockSize * b + blockSize ≤ length (now file)) × (used ≤ summedSize) ⌝ }
     ensures { λ r. ⌜ r ≡ formed (now (file .entry)) b kind entries used ⌝ }
 {
-    let at = 512 * b;
+    let at = BLOCK * b;
     file[at] == kind
         && (file[at + 1] == 0
             && (le16(file, at + 2) as usize == entries
-                && (le32(file, at + 4) as usize == b && is_zero(file, at + used, at + 508))))
+                && (le32(file, at + 4) as usize == b && is_zero(file, at + used, at + SUMMED))))
 }
 
 // Is block j of a run of n entries out of its form?
@@ -46,12 +50,12 @@ fn is_unformed(
     n: usize,
     j: usize,
 ) -> bool
-    requires { ⌜ Stored from per size n (now file) ⌝ }
+    requires { ⌜ RunInFile from per size n (now file) ⌝ }
     requires { ⌜ j < Place.blocks per n ⌝ }
     ensures { λ r. ⌜ r ≡ unformed (now (file .entry)) from kind per size n j ⌝ }
 {
     let entries = entries_in(per, n, j);
-    !is_formed(file, from + j, kind, entries, 8 + size * entries)
+    !is_formed(file, from + j, kind, entries, HEAD + size * entries)
 }
 
 // The first block of a run of n entries that is out of its form, or the number of blocks.
@@ -63,7 +67,7 @@ pub fn first_unformed(
     size: usize,
     n: usize,
 ) -> usize
-    requires { ⌜ Stored from per size n (now file) ⌝ }
+    requires { ⌜ RunInFile from per size n (now file) ⌝ }
     requires { ⌜ n + per < 2 ^ 64 ⌝ }
     ensures { λ r. ⌜ r ≡ first (Place.blocks per n) (unformed (now (file .entry)) from kind per size n) ⌝ }
 {

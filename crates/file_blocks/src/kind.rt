@@ -1,4 +1,5 @@
-// The table of kinds: for each its number, the bytes of an entry, and the entries of a full block. specs/Kind.antt has the same by name.
+// The table of kinds: for each its number, the bytes of an entry, and the entries of a full block.
+// specs/Kind.antt has the same by name.
 
 // The header of a network.
 pub const NETWORK: u8 = 1;

@@ -1,20 +1,23 @@
 // Where the entries of a kind stand in a file, and a table filled from one field of them.
 // A kind is given by its first block, its entries a block and an entry's size: specs/Place.antt.
+use file_fields::BLOCK;
+use file_fields::HEAD;
 use file_fields::fields::le16;
 ghost use mathlib.Core.Path.{_≡_};
 ghost use Prim.Native.Nat.{_+_, _-_, _*_, _/_, _%_, _≤_, _<_, _^_, min};
 ghost use lib.ListN.{length};
 ghost use Rattle.theory_loops.specs.Fill.{Filled};
+ghost use Rattle.file_fields.specs.Block.{entriesSize};
 ghost use Rattle.file_blocks.specs.Place;
-ghost use Rattle.file_blocks.specs.Place.{Stored, entriesIn};
+ghost use Rattle.file_blocks.specs.Place.{RunInFile, entriesIn};
 ghost use Rattle.file_blocks.specs.Table.{entry16, part16};
 
 // The byte at which entry i starts.
 pub fn offset(from: usize, per: usize, size: usize, i: usize) -> usize
-    requires { ⌜ (0 < per) × (size * per ≤ 500) × (from + i / per < 2 ^ 54) ⌝ }
+    requires { ⌜ (0 < per) × (size * per ≤ entriesSize) × (from + i / per < 2 ^ 54) ⌝ }
     ensures { λ r. ⌜ r ≡ Place.offset from per size i ⌝ }
 {
-    512 * (from + i / per) + 8 + size * (i % per)
+    BLOCK * (from + i / per) + HEAD + size * (i % per)
 }
 
 // The blocks that n entries take.
@@ -43,7 +46,8 @@ pub fn side_by_side(per: usize, i: usize, n: usize) -> usize
     if n < left { n } else { left }
 }
 
-// The m entries of `out` from `first` on become the 16-bit fields at byte `at` of the m entries that start at byte `base`.
+// The m entries of `out` from `first` on become the 16-bit fields at byte `at` of the m entries that start at
+// byte `base`.
 fn decode_part16(
     file: &[u8],
     base: usize,
@@ -54,7 +58,9 @@ fn decode_part16(
     first: usize,
 )
     requires { ⌜ (at + 2 ≤ size) × (base + size * m ≤ length (now file)) × (first + m ≤ length (now out)) ⌝ }
-    ensures { λ _. ⌜ Filled first (first + m) (part16 (now (file .entry)) base size at first) (now (out .entry)) (now (out .exit)) ⌝ }
+    ensures { λ _. ⌜ Filled first (first + m) (part16 (now (file .entry)) base size at first)
+        (now (out .entry))
+        (now (out .exit)) ⌝ }
 {
     for e in 0..m {
         out[first + e] = le16(file, base + size * e + at);
@@ -71,12 +77,14 @@ pub fn decode16(
     n: usize,
     out: &mut [u16],
 )
-    requires { ⌜ Stored from per size n (now file) ⌝ }
+    requires { ⌜ RunInFile from per size n (now file) ⌝ }
     requires { ⌜ (at + 2 ≤ size) × (n ≤ length (now out)) ⌝ }
-    ensures { λ _. ⌜ Filled 0 n (entry16 (now (file .entry)) from per size at) (now (out .entry)) (now (out .exit)) ⌝ }
+    ensures { λ _. ⌜ Filled 0 n (entry16 (now (file .entry)) from per size at) (now (out .entry))
+        (now (out .exit))
+        ⌝ }
 {
     for j in 0..blocks(per, n) {
         let m = entries_in(per, n, j);
-        decode_part16(file, 512 * (from + j) + 8, size, at, m, out, per * j);
+        decode_part16(file, BLOCK * (from + j) + HEAD, size, at, m, out, per * j);
     }
 }

@@ -1,35 +1,25 @@
-// A reader that carries the lent blocks and the number of the next one: specs/Read.antt.
-// Each function over it takes the struct apart and leaves the work to `step_at`; `read` stands above them, and whoever walks blocks calls that.
+// A reader that carries the lent blocks and the number of the next one: specs/Read.antt. One is made for a
+// file and stepped from block to block, by thin functions over `good_at`, whose parameters are plain. A
+// function that holds a reader is proved by a walk of its MIR.
+use file_fields::BLOCK;
 use file_fields::sum::is_good;
 ghost use mathlib.Core.Path.{_≡_};
-ghost use Prim.Native.Nat.{_/_};
+ghost use Prim.Native.Nat.{_+_, _/_, _<_, _^_};
 ghost use lib.ListN.{length};
 ghost use Rattle.theory_loops.specs.First.{first};
-ghost use Rattle.file_blocks.specs.Read.{stepAt, isBad, bad};
+ghost use Rattle.file_fields.specs.Block.{blockSize};
+ghost use Rattle.file_blocks.specs.Read.{goodAt, bad};
 
 pub struct Blocks<'a> {
     pub file: &'a [u8],
     pub at: usize,
 }
 
-pub enum Step {
-    Good,
-    Bad,
-    End,
-}
-
-// What stands at a block of a file.
-pub fn step_at(file: &[u8], at: usize) -> Step
-    ensures { λ r. ⌜ r ≡ stepAt (now (file .entry)) at ⌝ }
+// Whether the file has block b, and its check is right.
+fn good_at(file: &[u8], b: usize) -> bool
+    ensures { λ r. ⌜ r ≡ goodAt (now (file .entry)) b ⌝ }
 {
-    if file.len() / 512 <= at {
-        return Step::End;
-    }
-    if is_good(file, at) {
-        Step::Good
-    } else {
-        Step::Bad
-    }
+    b < file.len() / BLOCK && is_good(file, b)
 }
 
 // A reader before the first block.
@@ -39,49 +29,31 @@ pub fn new<'a>(file: &'a [u8]) -> Blocks<'a>
     Blocks { file, at: 0 }
 }
 
-// The same blocks, read on from another number.
-pub fn moved<'a>(blocks: Blocks<'a>, at: usize) -> Blocks<'a>
-    ensures { λ r. ⌜ (r .file ≡ blocks .entry .file) × (r .at ≡ at) ⌝ }
+// Whether there is a next block, and its check is right.
+pub fn next_is_good<'a>(blocks: Blocks<'a>) -> bool
+    ensures { λ r. ⌜ r ≡ goodAt (now (blocks .entry .file)) (blocks .entry .at) ⌝ }
+{
+    good_at(blocks.file, blocks.at)
+}
+
+// The same blocks, past the next one.
+pub fn past<'a>(blocks: Blocks<'a>) -> Blocks<'a>
+    requires { ⌜ blocks .at + 1 < 2 ^ 64 ⌝ }
+    ensures { λ r. ⌜ (r .file ≡ blocks .entry .file) × (r .at ≡ blocks .entry .at + 1) ⌝ }
 {
     Blocks {
         file: blocks.file,
-        at,
-    }
-}
-
-// What stands at the next block.
-pub fn next<'a>(blocks: Blocks<'a>) -> Step
-    ensures { λ r. ⌜ r ≡ stepAt (now (blocks .entry .file)) (blocks .entry .at) ⌝ }
-{
-    step_at(blocks.file, blocks.at)
-}
-
-// What a reader of the file finds at block b.
-pub fn read(file: &[u8], b: usize) -> Step
-    ensures { λ r. ⌜ r ≡ stepAt (now (file .entry)) b ⌝ }
-{
-    next(moved(new(file), b))
-}
-
-fn is_bad(step: Step) -> bool
-    ensures { λ r. ⌜ r ≡ isBad step ⌝ }
-{
-    match step {
-        Step::Good => false,
-        Step::Bad => true,
-        Step::End => false,
+        at: blocks.at + 1,
     }
 }
 
 // The first block whose check is wrong, or the number of blocks.
 pub fn first_bad_sum(file: &[u8]) -> usize
-    ensures { λ r. ⌜ r ≡ first (length (now (file .entry)) / 512) (bad (now (file .entry))) ⌝ }
+    ensures { λ r. ⌜ r ≡ first (length (now (file .entry)) / blockSize) (bad (now (file .entry))) ⌝ }
 {
-    let n = file.len() / 512;
-    for b in 0..n {
-        if is_bad(read(file, b)) {
-            return b;
-        }
+    let mut blocks = new(file);
+    while next_is_good(blocks) {
+        blocks = past(blocks);
     }
-    n
+    blocks.at
 }

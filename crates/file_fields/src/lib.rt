@@ -4,7 +4,12 @@
 pub mod fields;
 pub mod sum;
 
-// The bytes of a block, and those that its check is over: specs/Block.antt.
+// A block: its size, the bytes before its entries, those that entries may take, and those that its check is
+// over: specs/Block.antt.
 pub const BLOCK: usize = 512;
 
-pub const SUMMED: usize = 508;
+pub const HEAD: usize = 8;
+
+pub const ENTRIES: usize = 500;
+
+pub const SUMMED: usize = HEAD + ENTRIES;

@@ -1,9 +1,13 @@
-// A block's check over a slice of exactly 508 bytes, and the check of a block of a file, whose part is lent to the sum.
-// The definition in specs/Sum.antt reduces at each word; the code adds plain numbers and reduces once.
+// A block's check over a slice of exactly the bytes that it is over, and the check of a block of a file,
+// whose part is lent to the sum. The definition in specs/Sum.antt reduces at each word; the code adds plain
+// numbers and reduces once.
+use crate::BLOCK;
+use crate::SUMMED;
 use crate::fields::le16;
 ghost use mathlib.Core.Path.{_≡_};
 ghost use Prim.Native.Nat.{_+_, _*_, _≤_};
 ghost use lib.ListN.{length};
+ghost use Rattle.file_fields.specs.Block.{blockSize, summedSize, summedWords};
 ghost use Rattle.file_fields.specs.Sum.{sums, good};
 
 pub struct Sums {
@@ -11,11 +15,11 @@ pub struct Sums {
     pub b: u16,
 }
 
-// A and B over the 254 words of 508 bytes. Four columns of words are added up side by side, which a processor does at once, and joined at the
-// end with the last two words. All sums stay below 2^32.
+// A and B over the 254 words of 508 bytes. Four columns of 63 words are added up side by side, which a
+// processor does at once, and joined at the end with the last two words. All sums stay below 2^32.
 pub fn sums_of(s: &[u8]) -> Sums
-    requires { ⌜ length (now s) ≡ 508 ⌝ }
-    ensures { λ r. ⌜ r ≡ sums (now (s .entry)) 254 ⌝ }
+    requires { ⌜ length (now s) ≡ summedSize ⌝ }
+    ensures { λ r. ⌜ r ≡ sums (now (s .entry)) summedWords ⌝ }
 {
     let mut a0: u32 = 0;
     let mut a1: u32 = 0;
@@ -47,11 +51,11 @@ pub fn sums_of(s: &[u8]) -> Sums
 
 // Is block b's check right?
 pub fn is_good(file: &[u8], b: usize) -> bool
-    requires { ⌜ 512 * b + 512 ≤ length (now file) ⌝ }
+    requires { ⌜ blockSize * b + blockSize ≤ length (now file) ⌝ }
     ensures { λ r. ⌜ r ≡ good (now (file .entry)) b ⌝ }
 {
-    let start = 512 * b;
-    let end = start + 508;
+    let start = BLOCK * b;
+    let end = start + SUMMED;
     let r = sums_of(&file[start..end]);
     r.a == le16(file, end) && r.b == le16(file, end + 2)
 }

@@ -10,7 +10,8 @@ module _ {A : Type 0} (R : Refusal → A) (low high : ℕ) where
   abbrev pub Numbered : A → Type 0
   Numbered a = (r : Refusal) → a ≡ R r → (low ≤ r .number) × (r .number ≤ high)
 
-  pub numbered : ((q r : Refusal) → R q ≡ R r → q ≡ r) → (q : Refusal) → low ≤ q .number → q .number ≤ high → Numbered (R q)
+  pub numbered : ((q r : Refusal) → R q ≡ R r → q ≡ r) → (q : Refusal) → low ≤ q .number → q .number ≤ high
+      → Numbered (R q)
   numbered same q l h r e =
       let z : q .number ≡ r .number = ap (λ (k : Refusal). k .number) (same q r e) in
       (omega arith, omega arith)

@@ -1,5 +1,6 @@
--- What an answer says, in document 01's terms: the number of its refusal, or 0, the three places, and the values that it gives.
--- Beside each enum of answers stands the definition that gives this for every case; replies, promises and the worked example use it.
+-- What an answer says, in document 01's terms: the number of its refusal, or 0, the three places, and the
+-- values that it gives. Beside each enum of answers stands the definition that gives this for every case;
+-- replies, promises and the worked example use it.
 use mathlib.Core.List.{List, [], _∷_, _++_}
 use Prim.Native.Nat.{ℕ}
 use lib.ListN.{replicate}
@@ -18,7 +19,14 @@ gives values = record { number = 0; first = 0; second = 0; third = 0; values = v
 
 -- a refusal, where an answer would give so many values: they are 0
 abbrev pub refuses : ℕ → Refusal → Says
-refuses count r = record { number = r .number; first = r .first; second = r .second; third = r .third; values = replicate count 0 }
+refuses count r =
+    record {
+      number = r .number;
+      first = r .first;
+      second = r .second;
+      third = r .third;
+      values = replicate count 0;
+    }
 
 -- in lent numbers: the three places, then the values
 abbrev pub numbersOf : Says → List ℕ

@@ -1,4 +1,5 @@
-// file_refusals: what every operation refuses with: a number of document 01 and three places. It calls nothing.
+// file_refusals: what every operation refuses with: a number of document 01 and three places. It calls
+// nothing.
 //   number   the numbers, by name
 pub mod number;
 

@@ -1,4 +1,5 @@
-// The numbers of document 01's refusals, by the names that include/varnwalnut.h gives them. Specs cite the numbers themselves, as the paper does.
+// The numbers of document 01's refusals, by the names that include/varnwalnut.h gives them. Specs cite the
+// numbers themselves, as the paper does.
 
 // The network file.
 pub const NETWORK_LENGTH: u32 = 1;

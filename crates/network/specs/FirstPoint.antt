@@ -1,4 +1,5 @@
--- The first point of all arcs at which a test holds: the first arc that has such a point, and its first. The laws lead from the arcs to `firstPoint`.
+-- The first point of all arcs at which a test holds: the first arc that has such a point, and its first. The
+-- laws lead from the arcs to `firstPoint`.
 use mathlib.Core.Path.{_≡_}
 use mathlib.Core.Bool.{Bool}
 use Prim.Native.Nat.{ℕ, _+_, _≤_, _<_}
@@ -28,6 +29,7 @@ module _ (n : Network) (test : ℕ → ℕ → Bool) where
   unfolding firstPoint
   none-first k e = rw (e, le-ltb k k (omega arith))
 
-  pub at-first : (k a : ℕ) → a ≡ first k (anyOf n test) → a < k → start n a + first (count n a) (test a) ≡ firstPoint n test k
+  pub at-first : (k a : ℕ) → a ≡ first k (anyOf n test) → a < k
+      → start n a + first (count n a) (test a) ≡ firstPoint n test k
   unfolding firstPoint
   at-first k a e l = rw (← e, lt-ltb a k l)

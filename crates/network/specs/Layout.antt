@@ -1,19 +1,34 @@
--- Where the tables of a network stand in its file: the header in block 0, then the cells of the nodes (kind 2), the arcs (kind 3) and
--- the points (kind 4), each a run of blocks of its own.
-use Prim.Native.Nat.{ℕ, _+_}
+-- Where the tables of a network stand in its file: the header in block 0, then the cells of the nodes (kind
+-- 2), the arcs (kind 3) and the points (kind 4), each a run of blocks of its own.
+use mathlib.Core.Path.{_≡_, refl}
+use Prim.Native.Nat.{ℕ, _+_, _*_}
+use Rattle.file_fields.specs.Block.{blockSize}
 use Rattle.file_blocks.specs.Place.{blocks}
+use Rattle.network.specs.Limits.{mostNodes, mostArcs, mostPoints}
 use Rattle.network.specs.declared.header.Header.{Header}
 use Rattle.network.specs.declared.header.Layout.{Layout}
+use Rattle.file_blocks.specs.Kind.{cellPer, arcPer, pointPer}
 
 -- the first block of the arcs and of the points, and how many blocks there are
 abbrev pub arcBlock : Header → ℕ
-arcBlock h = 1 + blocks 250 (h .nodes)
+arcBlock h = 1 + blocks cellPer (h .nodes)
 
 abbrev pub pointBlock : Header → ℕ
-pointBlock h = arcBlock h + blocks 83 (h .arcs)
+pointBlock h = arcBlock h + blocks arcPer (h .arcs)
 
 abbrev pub allBlocks : Header → ℕ
-allBlocks h = pointBlock h + blocks 125 (h .points)
+allBlocks h = pointBlock h + blocks pointPer (h .points)
+
+-- the blocks and bytes of a file of a network within the limits, at most
+abbrev pub mostBlocks : ℕ
+mostBlocks = 1 + blocks cellPer mostNodes + blocks arcPer mostArcs + blocks pointPer mostPoints
+
+abbrev pub mostBytes : ℕ
+mostBytes = blockSize * mostBlocks
+
+-- which is the number of document 01
+pub most-blocks : mostBlocks ≡ 554
+most-blocks = refl
 
 unfoldable pub layoutOf : Header → Layout
 layoutOf h = record {
@@ -26,3 +41,21 @@ layoutOf h = record {
   pointblock = pointBlock h;
   blocks = allBlocks h;
 }
+
+-- FOR THE CODE, which has counted the blocks of each run
+pub layout-told : (h : Header) (a b c : ℕ) → a ≡ blocks cellPer (h .nodes) → b ≡ blocks arcPer (h .arcs)
+    → c ≡ blocks pointPer (h .points)
+    → _≡_ {A = Layout}
+    (record {
+      period = h .period;
+      nodes = h .nodes;
+      arcs = h .arcs;
+      cells = h .cells;
+      points = h .points;
+      arcblock = 1 + a;
+      pointblock = 1 + a + b;
+      blocks = 1 + a + b + c;
+    })
+    (layoutOf h)
+unfolding layoutOf
+layout-told h a b c e f g = rw (e, f, g)

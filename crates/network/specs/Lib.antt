@@ -3,6 +3,7 @@ pub mod Answer
 pub mod Limits
 pub mod Layout
 pub mod Network
+pub mod Tables
 pub mod Decode
 pub mod Rules
 pub mod FirstPoint

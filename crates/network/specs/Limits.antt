@@ -1,7 +1,7 @@
 -- The limits of a network's numbers, and the header that numbers within them make.
 use mathlib.Core.Path.{_≡_, refl, sym}
 use mathlib.Core.Bool.{Bool, true, false, cond}
-use Prim.Native.Nat.{ℕ, _≤_}
+use Prim.Native.Nat.{ℕ, _-_, _≤_}
 use native.Mathlib.Omega.{arith}
 use lib.Dec.{ltb}
 use borrow.Author.Tests.{ltb-false, le-ltb}
@@ -24,6 +24,10 @@ mostCells = 64
 abbrev pub mostPoints : ℕ
 mostPoints = 65535
 
+-- the most arcs of a path that comes to no node twice
+abbrev pub mostRoads : ℕ
+mostRoads = mostNodes - 1
+
 -- a period, nodes and cells are 1 or more
 unfoldable pub made : ℕ → ℕ → ℕ → ℕ → ℕ → ℕ → Made
 made number period nodes arcs cells points =
@@ -35,10 +39,17 @@ made number period nodes arcs cells points =
     (cond (ltb cells 1) Outside
     (cond (ltb mostCells cells) Outside
     (cond (ltb mostPoints points) Outside
-    (Inside (record { number = number; period = period; nodes = nodes; arcs = arcs; cells = cells; points = points })))))))))
+    (Inside (record {
+      number = number;
+      period = period;
+      nodes = nodes;
+      arcs = arcs;
+      cells = cells;
+      points = points;
+    })))))))))
 
 -- a header within the limits
-pub record Within (h : Header) : Type 0 where
+pub record WithinLimits (h : Header) : Type 0 where
   pub period-some : 1 ≤ h .period
   pub period-most : h .period ≤ mostPeriod
   pub nodes-some : 1 ≤ h .nodes
@@ -48,10 +59,10 @@ pub record Within (h : Header) : Type 0 where
   pub cells-most : h .cells ≤ mostCells
   pub points-most : h .points ≤ mostPoints
 
--- a limit that is kept where a header is made
-kept : (t : Bool) (m : Made) (h : Header) → cond t Outside m ≡ Inside h → (t ≡ false) × (m ≡ Inside h)
-kept true m h e = let z : _≡_ {A = ℕ} 0 1 = cc in absurd (omega arith)
-kept false m h e = (refl, e)
+-- a limit that is passed where a header is made
+limit-passed : (t : Bool) (m : Made) (h : Header) → cond t Outside m ≡ Inside h → (t ≡ false) × (m ≡ Inside h)
+limit-passed true m h e = let z : _≡_ {A = ℕ} 0 1 = cc in absurd (omega arith)
+limit-passed false m h e = (refl, e)
 
 one-header : (a b : Header) → Inside a ≡ Inside b → a ≡ b
 one-header a b e = cc
@@ -59,21 +70,29 @@ one-header a b e = cc
 -- a header that is made is within the limits, and holds the numbers
 module _ (number period nodes arcs cells points : ℕ) where
   abbrev these : Header
-  these = record { number = number; period = period; nodes = nodes; arcs = arcs; cells = cells; points = points }
+  these = record {
+    number = number;
+    period = period;
+    nodes = nodes;
+    arcs = arcs;
+    cells = cells;
+    points = points;
+  }
 
   pub made-within : (h : Header) → made number period nodes arcs cells points ≡ Inside h
-      → Within h × (h ≡ record { number = number; period = period; nodes = nodes; arcs = arcs; cells = cells; points = points })
+      → WithinLimits h × (h ≡ record
+      { number = number; period = period; nodes = nodes; arcs = arcs; cells = cells; points = points })
   unfolding made
   made-within h e =
-      let (p₁, e₁) = kept _ _ h e in
-      let (p₂, e₂) = kept _ _ h e₁ in
-      let (n₁, e₃) = kept _ _ h e₂ in
-      let (n₂, e₄) = kept _ _ h e₃ in
-      let (a, e₅) = kept _ _ h e₄ in
-      let (c₁, e₆) = kept _ _ h e₅ in
-      let (c₂, e₇) = kept _ _ h e₆ in
-      let (q, e₈) = kept _ _ h e₇ in
-      let w : Within these = record {
+      let (p₁, e₁) = limit-passed _ _ h e in
+      let (p₂, e₂) = limit-passed _ _ h e₁ in
+      let (n₁, e₃) = limit-passed _ _ h e₂ in
+      let (n₂, e₄) = limit-passed _ _ h e₃ in
+      let (a, e₅) = limit-passed _ _ h e₄ in
+      let (c₁, e₆) = limit-passed _ _ h e₅ in
+      let (c₂, e₇) = limit-passed _ _ h e₆ in
+      let (q, e₈) = limit-passed _ _ h e₇ in
+      let w : WithinLimits these = record {
         period-some = ltb-false _ _ p₁;
         period-most = ltb-false _ _ p₂;
         nodes-some = ltb-false _ _ n₁;
@@ -87,8 +106,24 @@ module _ (number period nodes arcs cells points : ℕ) where
       (rw f at w, sym f)
 
   -- and numbers within the limits make one
-  pub within-made : Within (record { number = number; period = period; nodes = nodes; arcs = arcs; cells = cells; points = points })
-      → made number period nodes arcs cells points ≡ Inside (record { number = number; period = period; nodes = nodes; arcs = arcs; cells = cells; points = points })
+  pub within-made : WithinLimits
+      (record {
+        number = number;
+        period = period;
+        nodes = nodes;
+        arcs = arcs;
+        cells = cells;
+        points = points;
+      })
+      → made number period nodes arcs cells points ≡ Inside
+      (record {
+        number = number;
+        period = period;
+        nodes = nodes;
+        arcs = arcs;
+        cells = cells;
+        points = points;
+      })
   unfolding made
   within-made w = rw (
     le-ltb _ _ (w .period-some),

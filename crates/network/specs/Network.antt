@@ -1,5 +1,6 @@
 -- What a network is: a number, a period, a count of cells, and the six tables that Open fills and Pack reads.
--- A node is document 01's place, an arc its road; the points of all arcs stand one behind the other, in the order of the arcs.
+-- A node is document 01's place, an arc its road; the points of all arcs stand one behind the other, in the
+-- order of the arcs.
 use mathlib.Core.List.{List}
 use Prim.Native.Nat.{ℕ}
 use lib.ListN.{length, getD}

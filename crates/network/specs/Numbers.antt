@@ -1,7 +1,8 @@
--- The numbers of refusals: those of a network file lie between 1 and 10, and those of its rules between 7 and 10.
-use mathlib.Core.Path.{_≡_, refl, ap}
+-- The numbers of refusals: those of a network file lie between 1 and 10, and those of its rules between 7 and
+-- 10.
+use mathlib.Core.Path.{_≡_, refl}
 use mathlib.Core.List.{List}
-use Prim.Native.Nat.{ℕ, _*_, _≤_}
+use Prim.Native.Nat.{ℕ, _+_, _*_, _≤_}
 use native.Mathlib.Omega.{arith}
 use lib.ListN.{length}
 use lib.Dec.{eqb, ltb}
@@ -20,10 +21,14 @@ use Rattle.network.specs.Network.{Network, arcs, points, start}
 use Rattle.network.specs.Decode.{decode}
 use Rattle.file_refusals.specs.Refusal.{refusal}
 use Rattle.file_refusals.specs.Numbered.{Numbered, numbered, same-faulty}
-use Rattle.network.specs.Rules.{firstPoint, badPointOf, overtakenOf, judgedPoints, judgedSum, judgedArcs, judged}
-use Rattle.network.specs.Validate.{badLength, firstUnformed, madeAt, validatedRules, validatedForm, validatedLength, validatedHeader, validatedFirst, validated}
+use Rattle.network.specs.Rules.{firstPoint, badPointOf, overtakenOf, judgedPoints, judgedSum}
+use Rattle.network.specs.Rules.{judgedArcs, judged}
+use Rattle.network.specs.Validate.{badLength, firstUnformed, madeAt, validatedRules, validatedForm}
+use Rattle.network.specs.Validate.{validatedLength, validatedHeader, validatedFirst, validated}
+use Rattle.file_fields.specs.Block.{blockSize, headSize}
+use Rattle.file_blocks.specs.Kind.{networkKind, networkSize}
 
-same-refused : (q r : Refusal) → Refused q ≡ Refused r → q ≡ r
+pub same-refused : (q r : Refusal) → Refused q ≡ Refused r → q ≡ r
 same-refused q r e = cc
 
 abbrev Judges : Judged → Type 0
@@ -62,7 +67,8 @@ unfolding validated validatedFirst validatedLength validatedForm
 validated-numbers file =
     cond-holds Opens (badLength (length file)) _ _ (is-numbered 1 0 (omega arith) (omega arith))
     (rung-holds Opens _ _ _ _ (λ i. is-numbered 2 i (omega arith) (omega arith))
-    (cond-holds Opens (formed file 0 1 1 24) _ _ (by-header (madeAt file)) (is-numbered 3 0 (omega arith) (omega arith))))
+    (cond-holds Opens (formed file 0 networkKind 1 (headSize + networkSize)) _ _ (by-header (madeAt file))
+    (is-numbered 3 0 (omega arith) (omega arith))))
   where
     by-rules : (h : Header) (j : Judged) → Judges j → Opens (validatedRules h j)
     by-rules h Sound n = λ r e. let z : _≡_ {A = ℕ} 0 1 = cc in absurd (omega arith)
@@ -72,8 +78,9 @@ validated-numbers file =
 
     by-header : (m : Made) → Opens (validatedHeader file m)
     by-header (Inside h) =
-        cond-holds Opens (eqb (length file) (512 * allBlocks h)) _ _
-        (cond-holds Opens (ltb (firstUnformed file h) (allBlocks h)) _ _ (is-numbered 6 (firstUnformed file h) (omega arith) (omega arith))
+        cond-holds Opens (eqb (length file) (blockSize * allBlocks h)) _ _
+        (cond-holds Opens (ltb (firstUnformed file h) (allBlocks h)) _ _
+        (is-numbered 6 (firstUnformed file h) (omega arith) (omega arith))
         (by-rules h (judged (decode file)) (judged-numbers (decode file))))
         (is-numbered 5 0 (omega arith) (omega arith))
     by-header Outside = is-numbered 4 0 (omega arith) (omega arith)

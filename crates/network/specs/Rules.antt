@@ -1,12 +1,14 @@
--- The rules 7 to 10 that a network's tables keep, as tests and as one ladder: the lowest number that fails anywhere, then its lowest place.
--- Points are numbered through all arcs, so the lowest point is the lowest of the first arc that has one.
+-- The rules 7 to 10 that a network's tables keep, as tests and as one ladder: the lowest number that fails
+-- anywhere, then its lowest place. Points are numbered through all arcs, so the lowest point is the lowest of
+-- the first arc that has one.
 use mathlib.Core.Path.{_≡_}
-use mathlib.Core.Bool.{Bool, cond, not, _||_}
+use mathlib.Core.Bool.{Bool, cond, _||_}
 use mathlib.Core.List.{List}
-use Prim.Native.Nat.{ℕ, suc, _+_, _-_}
+use Prim.Native.Nat.{ℕ, suc, _+_}
 use lib.Dec.{leb, ltb, eqb}
 use Rattle.theory_loops.specs.First.{first, any}
 use Rattle.theory_loops.specs.Pick.{firstRung}
+use Rattle.theory_travel.specs.Ticks.{badTick}
 use Rattle.theory_travel.specs.Day.{closed}
 use Rattle.theory_travel.specs.Table.{entryAt}
 use Rattle.file_refusals.specs.declared.Judged.{Judged}
@@ -22,7 +24,8 @@ badCell n v = leb (n .cells) (cell n v)
 
 -- 8: an end that is no node, two ends that are one, no point, or more points than ticks
 unfoldable pub badEnds : ℕ → ℕ → ℕ → ℕ → ℕ → Bool
-badEnds nodes period tail head count = leb nodes tail || (leb nodes head || (eqb tail head || (ltb count 1 || ltb period count)))
+badEnds nodes period tail head count =
+    leb nodes tail || (leb nodes head || (eqb tail head || (ltb count 1 || ltb period count)))
 
 abbrev pub badArc : Network → ℕ → Bool
 badArc n a = badEnds (nodes n) (n .period) (tail n a) (head n a) (count n a)
@@ -34,18 +37,12 @@ ticksOf n a = entryAt (n .ticks) (start n a)
 abbrev pub travelsOf : Network → ℕ → ℕ → ℕ
 travelsOf n a = entryAt (n .travels) (start n a)
 
--- 9: of point i, whose tick is t and travel v, after a point with tick p: the first tick is not 0, a later one does not rise, a tick is not
--- below the period, or a travel is not 1 to the period
-unfoldable pub misplaced : ℕ → ℕ → ℕ → Bool
-misplaced i p t = cond (eqb i 0) (not (eqb t 0)) (leb t p)
-
-unfoldable pub badPointBy : ℕ → ℕ → ℕ → ℕ → ℕ → Bool
-badPointBy period i p t v = misplaced i p t || (leb period t || (ltb v 1 || ltb period v))
-
+-- 9: a bad tick (`badTick` of the crate `theory_travel`), or a travel that is not 1 to the period
 unfoldable pub badPoint : ℕ → (ℕ → ℕ) → (ℕ → ℕ) → ℕ → Bool
-badPoint period t v i = badPointBy period i (t (i - 1)) (t i) (v i)
+badPoint period t v i = badTick period t i || (ltb (v i) 1 || ltb period (v i))
 
--- 10: a van that leaves at the next of m points, the next day's first after the last, arrives before one that leaves at point i
+-- 10: a van that leaves at the next of m points, the next day's first after the last, arrives before one that
+-- leaves at point i
 unfoldable pub overtaken : ℕ → (ℕ → ℕ) → (ℕ → ℕ) → ℕ → ℕ → Bool
 overtaken period t v m i = ltb (closed m t period (suc i) + closed m v (v 0) (suc i)) (t i + v i)
 
@@ -64,8 +61,10 @@ firstPoint n test k =
 -- The ladder, rung by rung from its end: the points, the counts' sum, the arcs, the nodes.
 unfoldable pub judgedPoints : Network → Judged
 judgedPoints n =
-    cond (ltb (firstPoint n (badPointOf n) (arcs n)) (points n)) (faulty 9 (firstPoint n (badPointOf n) (arcs n)))
-    (cond (ltb (firstPoint n (overtakenOf n) (arcs n)) (points n)) (faulty 10 (firstPoint n (overtakenOf n) (arcs n)))
+    cond (ltb (firstPoint n (badPointOf n) (arcs n)) (points n))
+    (faulty 9 (firstPoint n (badPointOf n) (arcs n)))
+    (cond (ltb (firstPoint n (overtakenOf n) (arcs n)) (points n))
+    (faulty 10 (firstPoint n (overtakenOf n) (arcs n)))
     Sound)
 
 unfoldable pub judgedSum : Network → Judged
@@ -82,7 +81,8 @@ module _ {file : List ℕ} {l : Layout} (s : Laid file l) where
   pub cell-judged : (v : ℕ) {r : ℕ} → r ≡ cell (decode file) v → leb (l .cells) r ≡ badCell (decode file) v
   cell-judged v e = rw (laid-sizes s .cells, e)
 
-  pub arc-judged : (a : ℕ) {t h c : ℕ} {r : Bool} → t ≡ tail (decode file) a → h ≡ head (decode file) a → c ≡ count (decode file) a
+  pub arc-judged : (a : ℕ) {t h c : ℕ} {r : Bool} → t ≡ tail (decode file) a → h ≡ head (decode file) a
+      → c ≡ count (decode file) a
       → r ≡ badEnds (l .nodes) (l .period) t h c → r ≡ badArc (decode file) a
   arc-judged a e f g q = rw (laid-sizes s .nodes, laid-sizes s .period, e, f, g) at q
 

@@ -1,20 +1,36 @@
--- What the rules 7 to 10 ask of a network, said of its nodes, arcs and points (`SoundNetwork`). The ladder of tests judges a network sound
--- exactly when this holds (`sound-exactly`).
+-- What the rules 7 to 10 ask of a network, said of its nodes, arcs and points (`SoundNetwork`). The ladder of
+-- tests judges a network sound exactly when this holds (`sound-exactly`).
 use mathlib.Core.Path.{_≡_, refl, _∙_}
 use mathlib.Core.Logic.{_≢_, _↔_}
 use mathlib.Core.Bool.{Bool, false}
-use Prim.Native.Nat.{ℕ, zero, suc, _-_, _≤_, _<_}
+use Prim.Native.Nat.{ℕ, _≤_, _<_}
 use native.Mathlib.Omega.{arith}
 use native.Mathlib.Decide.{decLt}
-use borrow.Author.Tests.{ltb-true, ltb-false, leb-false, eqb-true, eqb-false, not-false, lt-leb, le-ltb, eq-eqb, ne-eqb}
+use borrow.Author.Tests.{ltb-true, ltb-false, leb-false, eqb-true, eqb-false, lt-leb, le-ltb, eq-eqb, ne-eqb}
 use Rattle.theory_loops.specs.First.{first, first-le, clear, all-clear, found}
 use Rattle.theory_loops.specs.Pick.{or-passed, passed-by, reached-by, rung-passed, rung-clear}
 use Rattle.theory_travel.specs.Points.{Fifo}
 use Rattle.theory_travel.specs.Day.{Day, closed, closed-in}
+use Rattle.theory_travel.specs.Ticks.{badTick, ticks-day}
 use Rattle.file_refusals.specs.declared.Judged.the-variants.{Sound}
 use Rattle.network.specs.Network.{Network, nodes, arcs, points, cell, tail, head, count, start}
 use Rattle.file_refusals.specs.Refusal.{faulty}
-use Rattle.network.specs.Rules.{badCell, badEnds, badArc, misplaced, badPointBy, badPoint, overtaken, ticksOf, travelsOf, badPointOf, overtakenOf, firstPoint, judgedPoints, judgedSum, judgedArcs, judged}
+use Rattle.network.specs.Rules.{
+  badCell,
+  badEnds,
+  badArc,
+  badPoint,
+  overtaken,
+  ticksOf,
+  travelsOf,
+  badPointOf,
+  overtakenOf,
+  firstPoint,
+  judgedPoints,
+  judgedSum,
+  judgedArcs,
+  judged,
+}
 use Rattle.network.specs.FirstPoint.{Counted, anyOf, points-in, none-first, at-first}
 
 -- 8, of arc a
@@ -30,7 +46,8 @@ pub record SoundPoints (n : Network) (a : ℕ) : Type 0 where
   pub day : Day (ticksOf n a) (count n a) (n .period)
   pub travel-some : (i : ℕ) → i < count n a → 1 ≤ travelsOf n a i
   pub travel-most : (i : ℕ) → i < count n a → travelsOf n a i ≤ n .period
-  pub fifo : Fifo (closed (count n a) (ticksOf n a) (n .period)) (closed (count n a) (travelsOf n a) (travelsOf n a 0)) (count n a)
+  pub fifo : Fifo (closed (count n a) (ticksOf n a) (n .period))
+      (closed (count n a) (travelsOf n a) (travelsOf n a 0)) (count n a)
 
 pub record SoundNetwork (n : Network) : Type 0 where
   pub cells-below : (v : ℕ) → v < nodes n → cell n v < n .cells
@@ -47,47 +64,28 @@ module _ (n : Network) (a : ℕ) where
       let (h, e₂) = or-passed _ _ e₁ in
       let (d, e₃) = or-passed _ _ e₂ in
       let (s, m) = or-passed _ _ e₃ in
-      record { tail-node = leb-false _ _ t; head-node = leb-false _ _ h; apart = eqb-false _ _ d; some = ltb-false _ _ s; most = ltb-false _ _ m }
+      record {
+        tail-node = leb-false _ _ t;
+        head-node = leb-false _ _ h;
+        apart = eqb-false _ _ d;
+        some = ltb-false _ _ s;
+        most = ltb-false _ _ m;
+      }
 
   sound-arc : SoundArc n a → badArc n a ≡ false
   unfolding badEnds
-  sound-arc s = rw (lt-leb _ _ (s .tail-node), lt-leb _ _ (s .head-node), ne-eqb _ _ (s .apart), le-ltb _ _ (s .some), le-ltb _ _ (s .most))
-
--- point i of m, ticks t and travels v, by rule 9
-record FinePoint (period : ℕ) (t v : ℕ → ℕ) (i : ℕ) : Type 0 where
-  first : i ≡ 0 → t i ≡ 0
-  rises : 0 < i → t (i - 1) < t i
-  below : t i < period
-  some : 1 ≤ v i
-  most : v i ≤ period
-
-placed : (i p t : ℕ) → misplaced i p t ≡ false → (i ≡ 0 → t ≡ 0) × (0 < i → p < t)
-unfolding misplaced
-placed zero p t e = (λ _. eqb-true t 0 (not-false _ e), λ h. absurd (omega arith))
-placed (suc k) p t e = (λ h. absurd (omega arith), λ _. leb-false _ _ (rw (ne-eqb (suc k) 0 (omega arith)) at e))
-
-in-place : (i p t : ℕ) → (i ≡ 0 → t ≡ 0) → (0 < i → p < t) → misplaced i p t ≡ false
-unfolding misplaced
-in-place zero p t f g = rw (eq-eqb t 0 (f refl))
-in-place (suc k) p t f g = rw (ne-eqb (suc k) 0 (omega arith)) (lt-leb t p (g (omega arith)))
-
-module _ (period : ℕ) (t v : ℕ → ℕ) (i : ℕ) where
-  point-fine : badPoint period t v i ≡ false → FinePoint period t v i
-  unfolding badPoint badPointBy
-  point-fine e =
-      let (p, e₁) = or-passed _ _ e in
-      let (b, e₂) = or-passed _ _ e₁ in
-      let (s, m) = or-passed _ _ e₂ in
-      let (f, g) = placed i (t (i - 1)) (t i) p in
-      record { first = f; rises = g; below = leb-false _ _ b; some = ltb-false _ _ s; most = ltb-false _ _ m }
-
-  fine-point : FinePoint period t v i → badPoint period t v i ≡ false
-  unfolding badPoint badPointBy
-  fine-point p = rw (in-place i (t (i - 1)) (t i) (p .first) (p .rises), lt-leb _ _ (p .below), le-ltb _ _ (p .some), le-ltb _ _ (p .most))
+  sound-arc s = rw (
+    lt-leb _ _ (s .tail-node),
+    lt-leb _ _ (s .head-node),
+    ne-eqb _ _ (s .apart),
+    le-ltb _ _ (s .some),
+    le-ltb _ _ (s .most),
+  )
 
 -- a test that holds at no point of any arc
 module _ (n : Network) (test : ℕ → ℕ → Bool) where
-  clear-points : Counted n → points n ≤ firstPoint n test (arcs n) → (a i : ℕ) → a < arcs n → i < count n a → test a i ≡ false
+  clear-points : Counted n → points n ≤ firstPoint n test (arcs n) → (a i : ℕ) → a < arcs n → i < count n a
+      → test a i ≡ false
   clear-points c h a i l m = clear (test a) (count n a) (all-clear a l) i m
     where
       R : ℕ
@@ -96,44 +94,67 @@ module _ (n : Network) (test : ℕ → ℕ → Bool) where
       -- were there a first such point, it would stand before the end
       passed : R ≡ arcs n
       passed = elim (decLt R (arcs n)) [
-        | yes k ↦ absurd (omega (arith, at-first n test (arcs n) R refl k, points-in c R k, ltb-true (first (count n R) (test R)) (count n R) (found (anyOf n test) (arcs n) k)))
+        | yes k ↦ absurd (omega (
+          arith,
+          at-first n test (arcs n) R refl k,
+          points-in c R k,
+          ltb-true (first (count n R) (test R)) (count n R) (found (anyOf n test) (arcs n) k),
+        ))
         | no k ↦ omega (arith, first-le (anyOf n test) (arcs n))
       ]
 
       all-clear : (a : ℕ) → a < arcs n → first (count n a) (test a) ≡ count n a
-      all-clear a l = omega (arith, ltb-false (first (count n a) (test a)) (count n a) (clear (anyOf n test) (arcs n) passed a l), first-le (test a) (count n a))
+      all-clear a l = omega (
+        arith,
+        ltb-false (first (count n a) (test a)) (count n a)
+            (clear (anyOf n test) (arcs n) passed a l),
+        first-le (test a) (count n a),
+      )
 
-  none-points : ((a i : ℕ) → a < arcs n → i < count n a → test a i ≡ false) → firstPoint n test (arcs n) ≡ points n
-  none-points h = none-first n test (arcs n) (all-clear (anyOf n test) (arcs n) (λ a l. le-ltb (first (count n a) (test a)) (count n a) (omega (arith, all-clear (test a) (count n a) (λ i m. h a i l m)))))
+  none-points : ((a i : ℕ) → a < arcs n → i < count n a → test a i ≡ false)
+      → firstPoint n test (arcs n) ≡ points n
+  none-points h = none-first n test (arcs n)
+      (all-clear (anyOf n test) (arcs n)
+      (λ a l. le-ltb (first (count n a) (test a)) (count n a)
+      (omega (arith, all-clear (test a) (count n a) (λ i m. h a i l m)))))
 
 module _ (n : Network) (a : ℕ) where
-  points-sound : 0 < count n a → ((i : ℕ) → i < count n a → FinePoint (n .period) (ticksOf n a) (travelsOf n a) i)
+  -- what rule 9 says of a point that keeps it
+  point-fine : (i : ℕ) → badPointOf n a i ≡ false
+      → (badTick (n .period) (ticksOf n a) i ≡ false) × (1 ≤ travelsOf n a i) × (travelsOf n a i ≤ n .period)
+  unfolding badPoint
+  point-fine i e =
+      let (b, w) = or-passed _ _ e in
+      let (s, m) = or-passed _ _ w in
+      (b, ltb-false _ _ s, ltb-false _ _ m)
+
+  points-sound : 0 < count n a → ((i : ℕ) → i < count n a → badPointOf n a i ≡ false)
       → ((i : ℕ) → i < count n a → overtakenOf n a i ≡ false) → SoundPoints n a
   unfolding overtaken
   points-sound h f g = record {
-    day = record {
-      some = h;
-      start = f 0 h .first refl;
-      rise = λ i l. let q : suc i - 1 ≡ i = omega arith in rw q at (f (suc i) l .rises (omega arith));
-      below = λ i l. f i l .below;
+    day = ticks-day (n .period) (ticksOf n a) (count n a) h .0 (λ i l. point-fine i (f i l) .0);
+    travel-some = λ i l. point-fine i (f i l) .1;
+    travel-most = λ i l. point-fine i (f i l) .2;
+    fifo = record {
+      kept = λ i l.
+          rw (closed-in _ (ticksOf n a) (n .period) i l, closed-in _ (travelsOf n a) (travelsOf n a 0) i l)
+          (ltb-false _ _ (g i l));
     };
-    travel-some = λ i l. f i l .some;
-    travel-most = λ i l. f i l .most;
-    fifo = record { kept = λ i l. rw (closed-in _ (ticksOf n a) (n .period) i l, closed-in _ (travelsOf n a) (travelsOf n a 0) i l) (ltb-false _ _ (g i l)) };
   }
 
-  sound-fine : SoundPoints n a → (i : ℕ) → i < count n a → FinePoint (n .period) (ticksOf n a) (travelsOf n a) i
-  sound-fine s i l = record {
-    first = λ e. rw e (s .day .start);
-    rises = λ h. let q : suc (i - 1) ≡ i = omega arith in rw q at (s .day .rise (i - 1) (omega arith));
-    below = s .day .below i l;
-    some = s .travel-some i l;
-    most = s .travel-most i l;
-  }
+  sound-fine : SoundPoints n a → (i : ℕ) → i < count n a → badPointOf n a i ≡ false
+  unfolding badPoint
+  sound-fine s i l = rw (
+    ticks-day (n .period) (ticksOf n a) (count n a) (s .day .some) .1 (s .day) i l,
+    le-ltb _ _ (s .travel-some i l),
+    le-ltb _ _ (s .travel-most i l),
+  )
 
   sound-kept : SoundPoints n a → (i : ℕ) → i < count n a → overtakenOf n a i ≡ false
   unfolding overtaken
-  sound-kept s i l = le-ltb _ _ (rw (closed-in _ (ticksOf n a) (n .period) i l, closed-in _ (travelsOf n a) (travelsOf n a 0) i l) at (s .fifo .kept i l))
+  sound-kept s i l = le-ltb _ _
+      (rw (closed-in _ (ticksOf n a) (n .period) i l, closed-in _ (travelsOf n a) (travelsOf n a 0) i l) at
+      (s .fifo .kept i l))
 
 -- no fault is sound
 not-sound : (number place : ℕ) → faulty number place ≡ Sound → ⊥
@@ -155,7 +176,7 @@ judged-sound n e =
       arc = λ a l. arc-sound n a (r a l);
       sum = sum;
       points-of = λ a l. points-sound n a (counted .some a l)
-          (λ i m. point-fine (n .period) (ticksOf n a) (travelsOf n a) i (clear-points n (badPointOf n) counted (ltb-false _ _ p) a i l m))
+          (λ i m. clear-points n (badPointOf n) counted (ltb-false _ _ p) a i l m)
           (λ i m. clear-points n (overtakenOf n) counted (ltb-false _ _ q) a i l m);
     }
 
@@ -166,7 +187,7 @@ sound-judged n s =
     ∙ rung-clear (faulty 8) (arcs n) (badArc n) _ (λ a l. sound-arc n a (s .arc a l))
     ∙ rw (
       eq-eqb (start n (arcs n)) (points n) (s .sum),
-      none-points n (badPointOf n) (λ a i l m. fine-point (n .period) (ticksOf n a) (travelsOf n a) i (sound-fine n a (s .points-of a l) i m)),
+      none-points n (badPointOf n) (λ a i l m. sound-fine n a (s .points-of a l) i m),
       none-points n (overtakenOf n) (λ a i l m. sound-kept n a (s .points-of a l) i m),
       le-ltb (points n) (points n) (omega arith),
     )

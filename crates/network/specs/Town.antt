@@ -1,5 +1,5 @@
--- The graph of a network: its arcs, and their travel on the straight line. The graph of a sound network is lawful, so that all that the
--- theory of paths proves holds of it.
+-- The graph of a network: its arcs, and their travel on the straight line. The graph of a sound network is
+-- lawful, so that all that the theory of paths proves holds of it.
 use Prim.Native.Nat.{ℕ, _≤_}
 use Rattle.theory_paths.specs.Graph.{Graph, Lawful, Bounded, ends}
 use Rattle.theory_paths.specs.Partition.{Partition}
@@ -13,7 +13,14 @@ unfoldable pub travelAt : Network → ℕ → ℕ → ℕ
 travelAt n a x = dayValue (ticksOf n a) (travelsOf n a) (count n a) (n .period) x
 
 abbrev pub graphOf : Network → Graph
-graphOf n = record { period = n .period; nodes = nodes n; arcs = arcs n; tail = tail n; head = head n; travel = travelAt n }
+graphOf n = record {
+  period = n .period;
+  nodes = nodes n;
+  arcs = arcs n;
+  tail = tail n;
+  head = head n;
+  travel = travelAt n;
+}
 
 -- the same with the cells of its nodes
 abbrev pub partitionOf : Network → Partition
@@ -30,6 +37,7 @@ module _ {n : Network} (s : SoundNetwork n) where
     fifo = λ a {x} {y} l m. let p = s .points-of a l in day-fifo (p .day) (travelsOf n a) (p .fifo) x y m;
   }
 
-  pub town-bounded : Bounded (graphOf n)
+  pub town-bounded : Bounded (graphOf n) (n .period)
   unfolding travelAt
-  town-bounded a x l m = let p = s .points-of a l in day-most (p .day) (travelsOf n a) (n .period) x (p .travel-most) m
+  town-bounded a x l m =
+      let p = s .points-of a l in day-most (p .day) (travelsOf n a) (n .period) x (p .travel-most) m

@@ -1,5 +1,6 @@
--- What a file that validation lets pass is, block by block and rule by rule: `ValidFile`, and that this is exactly what is let pass
--- (`valid-exactly`). Nothing of the file is left out: its length, every sum, every block's form, the header and the tables.
+-- What a file that validation lets pass is, block by block and rule by rule: `ValidFile`, and that this is
+-- exactly what is let pass (`valid-exactly`). Nothing of the file is left out: its length, every sum, every
+-- block's form, the header and the tables.
 use mathlib.Core.Path.{_≡_, refl, _∙_, ap, subst}
 use mathlib.Core.Logic.{_↔_}
 use mathlib.Core.Bool.{true, false, not}
@@ -20,88 +21,112 @@ use Rattle.network.specs.declared.answer.Opening.the-variants.{Opened}
 use Rattle.network.specs.declared.header.Header.{Header}
 use Rattle.network.specs.declared.header.Made.{Made}
 use Rattle.network.specs.declared.header.Made.the-variants.{Inside, Outside}
-use Rattle.network.specs.Limits.{Within, within-made}
-use Rattle.network.specs.Layout.{arcBlock, pointBlock, allBlocks, layoutOf}
+use Rattle.network.specs.Limits.{WithinLimits, within-made}
+use Rattle.network.specs.Layout.{arcBlock, pointBlock, allBlocks, layoutOf, mostBlocks, mostBytes}
 use Rattle.network.specs.Decode.{headerAt, decode, Laid}
 use Rattle.network.specs.Rules.{judged}
 use Rattle.network.specs.Sound.{SoundNetwork, sound-exactly}
-use Rattle.network.specs.Validate.{refused, badLength, unformedPoints, unformedArcs, firstUnformed, validatedRules, validatedForm, validatedLength, validatedHeader, madeAt, validatedFirst, validated, header-within, header-is}
+use Rattle.network.specs.Validate.{unopened, badLength, unformedPoints, unformedArcs, firstUnformed}
+use Rattle.network.specs.Validate.{validatedRules, validatedForm, validatedLength, validatedHeader}
+use Rattle.network.specs.Validate.{madeAt, validatedFirst, validated, header-within, header-is}
+use Rattle.file_fields.specs.Block.{blockSize, headSize}
+use Rattle.file_blocks.specs.Kind.{networkKind, networkSize, cellKind, cellSize, cellPer, arcKind, arcSize}
+use Rattle.file_blocks.specs.Kind.{arcPer, pointKind, pointSize, pointPer}
 
 -- every block of a run is in its form
 abbrev pub RunFormed : List ℕ → ℕ → ℕ → ℕ → ℕ → ℕ → Type 0
-RunFormed file from kind per size n = (j : ℕ) → j < blocks per n → runFormed file from kind per size n j ≡ true
+RunFormed file from kind per size n =
+    (j : ℕ) → j < blocks per n → runFormed file from kind per size n j ≡ true
 
 pub record ValidFile (file : List ℕ) (h : Header) : Type 0 where
   pub is : h ≡ headerAt file
-  pub within : Within h
-  pub long : length file ≡ 512 * allBlocks h
+  pub within : WithinLimits h
+  pub long : length file ≡ blockSize * allBlocks h
   pub sums : (b : ℕ) → b < allBlocks h → good file b ≡ true
-  pub first-formed : formed file 0 1 1 24 ≡ true
-  pub nodes-formed : RunFormed file 1 2 250 2 (h .nodes)
-  pub arcs-formed : RunFormed file (arcBlock h) 3 83 6 (h .arcs)
-  pub points-formed : RunFormed file (pointBlock h) 4 125 4 (h .points)
+  pub first-formed : formed file 0 networkKind 1 (headSize + networkSize) ≡ true
+  pub nodes-formed : RunFormed file 1 cellKind cellPer cellSize (h .nodes)
+  pub arcs-formed : RunFormed file (arcBlock h) arcKind arcPer arcSize (h .arcs)
+  pub points-formed : RunFormed file (pointBlock h) pointKind pointPer pointSize (h .points)
   pub sound : SoundNetwork (decode file)
 
 -- such a file is laid out as its header says
 pub valid-laid : {file : List ℕ} {h : Header} → ValidFile file h → Laid file (layoutOf h)
-valid-laid v = record { is = ap layoutOf (v .is); within = rw (v .is) at (v .within); long = rw (v .is) at (v .long) }
+valid-laid v = record
+    { is = ap layoutOf (v .is); within = rw (v .is) at (v .within); long = rw (v .is) at (v .long) }
 
 -- no refusal opens
-not-opened : (number place : ℕ) (h : Header) → refused number place ≡ Opened h → ⊥
+not-opened : (number place : ℕ) (h : Header) → unopened number place ≡ Opened h → ⊥
 not-opened number place h e = let z : _≡_ {A = ℕ} 0 1 = cc in omega arith
 
 rules-passed : (h k : Header) (j : Judged) → validatedRules k j ≡ Opened h → (j ≡ Sound) × (k ≡ h)
 rules-passed h k Sound e = (refl, (cc))
 rules-passed h k (Faulty r) e = let z : _≡_ {A = ℕ} 0 1 = cc in absurd (omega arith)
 
-header-passed : (file : List ℕ) (h : Header) (m : Made) → validatedHeader file m ≡ Opened h → (k : Header) × (m ≡ Inside k) × (validatedLength file k ≡ Opened h)
+header-passed : (file : List ℕ) (h : Header) (m : Made) → validatedHeader file m ≡ Opened h
+    → (k : Header) × (m ≡ Inside k) × (validatedLength file k ≡ Opened h)
 header-passed file h (Inside k) e = (k, refl, e)
 header-passed file h Outside e = absurd (not-opened 4 0 h e)
 
 -- the runs are in their form where no block out of it is found before the end
 module _ (file : List ℕ) (h : Header) where
-  record Formed : Type 0 where
-    nodes-formed : RunFormed file 1 2 250 2 (h .nodes)
-    arcs-formed : RunFormed file (arcBlock h) 3 83 6 (h .arcs)
-    points-formed : RunFormed file (pointBlock h) 4 125 4 (h .points)
+  record RunsFormed : Type 0 where
+    nodes-formed : RunFormed file 1 cellKind cellPer cellSize (h .nodes)
+    arcs-formed : RunFormed file (arcBlock h) arcKind arcPer arcSize (h .arcs)
+    points-formed : RunFormed file (pointBlock h) pointKind pointPer pointSize (h .points)
 
-  all-formed : allBlocks h ≤ firstUnformed file h → Formed
+  all-formed : allBlocks h ≤ firstUnformed file h → RunsFormed
   unfolding firstUnformed unformedArcs unformedPoints
   all-formed l =
       let x = firstUnformed file h in
-      let (n, e) = rung-passed (λ j. 1 + j) (blocks 250 (h .nodes)) (unformed file 1 2 250 2 (h .nodes)) _ x (λ i m q. omega arith) refl in
-      let (a, f) = rung-passed (λ j. arcBlock h + j) (blocks 83 (h .arcs)) (unformed file (arcBlock h) 3 83 6 (h .arcs)) _ x (λ i m q. omega arith) e in
-      let (p, g) = rung-passed (λ j. pointBlock h + j) (blocks 125 (h .points)) (unformed file (pointBlock h) 4 125 4 (h .points)) _ x (λ i m q. omega arith) f in
-      record { nodes-formed = λ j m. not-false _ (n j m); arcs-formed = λ j m. not-false _ (a j m); points-formed = λ j m. not-false _ (p j m) }
+      let (n, e) = rung-passed (λ j. 1 + j) (blocks cellPer (h .nodes))
+      (unformed file 1 cellKind cellPer cellSize (h .nodes)) _ x (λ i m q. omega arith) refl in
+      let (a, f) = rung-passed (λ j. arcBlock h + j) (blocks arcPer (h .arcs))
+      (unformed file (arcBlock h) arcKind arcPer arcSize (h .arcs)) _ x (λ i m q. omega arith) e in
+      let (p, g) = rung-passed (λ j. pointBlock h + j) (blocks pointPer (h .points))
+      (unformed file (pointBlock h) pointKind pointPer pointSize (h .points)) _ x (λ i m q. omega arith)
+      f in
+      record {
+        nodes-formed = λ j m. not-false _ (n j m);
+        arcs-formed = λ j m. not-false _ (a j m);
+        points-formed = λ j m. not-false _ (p j m);
+      }
 
-  formed-all : Formed → firstUnformed file h ≡ allBlocks h
+  formed-all : RunsFormed → firstUnformed file h ≡ allBlocks h
   unfolding firstUnformed unformedArcs unformedPoints
   formed-all f =
-      rung-clear (λ j. 1 + j) (blocks 250 (h .nodes)) _ _ (λ j m. ap not (f .nodes-formed j m))
-      ∙ rung-clear (λ j. arcBlock h + j) (blocks 83 (h .arcs)) _ _ (λ j m. ap not (f .arcs-formed j m))
-      ∙ rung-clear (λ j. pointBlock h + j) (blocks 125 (h .points)) _ _ (λ j m. ap not (f .points-formed j m))
+      rung-clear (λ j. 1 + j) (blocks cellPer (h .nodes)) _ _ (λ j m. ap not (f .nodes-formed j m))
+      ∙ rung-clear (λ j. arcBlock h + j) (blocks arcPer (h .arcs)) _ _ (λ j m. ap not (f .arcs-formed j m))
+      ∙ rung-clear (λ j. pointBlock h + j) (blocks pointPer (h .points)) _ _
+      (λ j m. ap not (f .points-formed j m))
 
-within-file : (b n long : ℕ) → long ≡ 512 * n → b < n → b < long / 512
+within-file : (b n long : ℕ) → long ≡ blockSize * n → b < n → b < long / blockSize
 within-file b n long e l = omega arith
 
 module _ (file : List ℕ) (h : Header) where
   validated-valid : validated file ≡ Opened h → ValidFile file h
   unfolding validated validatedFirst validatedLength validatedForm
   validated-valid e =
-      let (_, e₁) = passed-by (badLength (length file)) (refused 1 0) (firstRung (refused 2) (length file / 512) (bad file) (validatedFirst file)) (Opened h) (not-opened 1 0 h) e in
-      let (s, e₂) = rung-passed (refused 2) (length file / 512) (bad file) (validatedFirst file) (Opened h) (λ i _. not-opened 2 i h) e₁ in
-      let (f, e₃) = reached-by (formed file 0 1 1 24) (validatedHeader file (madeAt file)) (refused 3 0) (Opened h) (not-opened 3 0 h) e₂ in
+      let (_, e₁) = passed-by (badLength (length file)) (unopened 1 0)
+      (firstRung (unopened 2) (length file / blockSize) (bad file) (validatedFirst file)) (Opened h)
+      (not-opened 1 0 h) e in
+      let (s, e₂) = rung-passed (unopened 2) (length file / blockSize) (bad file) (validatedFirst file)
+      (Opened h) (λ i _. not-opened 2 i h) e₁ in
+      let (f, e₃) = reached-by (formed file 0 networkKind 1 (headSize + networkSize))
+      (validatedHeader file (madeAt file)) (unopened 3 0) (Opened h) (not-opened 3 0 h) e₂ in
       let (k, m, e₄) = header-passed file h (madeAt file) e₃ in
-      let (l, e₅) = reached-by (eqb (length file) (512 * allBlocks k)) (validatedForm file k) (refused 5 0) (Opened h) (not-opened 5 0 h) e₄ in
-      let (n, e₆) = passed-by (ltb (firstUnformed file k) (allBlocks k)) (refused 6 (firstUnformed file k)) (validatedRules k (judged (decode file))) (Opened h) (not-opened 6 (firstUnformed file k) h) e₅ in
+      let (l, e₅) = reached-by (eqb (length file) (blockSize * allBlocks k)) (validatedForm file k)
+      (unopened 5 0) (Opened h) (not-opened 5 0 h) e₄ in
+      let (n, e₆) = passed-by (ltb (firstUnformed file k) (allBlocks k)) (unopened 6 (firstUnformed file k))
+      (validatedRules k (judged (decode file))) (Opened h) (not-opened 6 (firstUnformed file k) h) e₅ in
       let (j, q) = rules-passed h k (judged (decode file)) e₆ in
       let g = all-formed file k (ltb-false _ _ n) in
-      let long : length file ≡ 512 * allBlocks k = eqb-true _ _ l in
+      let long : length file ≡ blockSize * allBlocks k = eqb-true _ _ l in
       let v : ValidFile file k = record {
         is = header-is file (madeAt file) k refl m;
         within = header-within file (madeAt file) k refl m;
         long = long;
-        sums = λ b (o : b < allBlocks k). not-false _ (s b (within-file b (allBlocks k) (length file) long o));
+        sums = λ b (o : b < allBlocks k). not-false _
+            (s b (within-file b (allBlocks k) (length file) long o));
         first-formed = f;
         nodes-formed = g .nodes-formed;
         arcs-formed = g .arcs-formed;
@@ -111,15 +136,15 @@ module _ (file : List ℕ) (h : Header) where
       subst (λ (x : Header). ValidFile file x) q v
 
   module _ (v : ValidFile file h) where
-    few : (1 ≤ allBlocks h) × (allBlocks h ≤ 554)
+    few : (1 ≤ allBlocks h) × (allBlocks h ≤ mostBlocks)
     few = (omega arith, omega (arith, v .within))
 
     length-passed : badLength (length file) ≡ false
     unfolding badLength
     length-passed = rw (
       ne-eqb (length file) 0 (omega (arith, v .long, few)),
-      eq-eqb (length file % 512) 0 (omega (arith, v .long)),
-      le-ltb 283648 (length file) (omega (arith, v .long, few)),
+      eq-eqb (length file % blockSize) 0 (omega (arith, v .long)),
+      le-ltb mostBytes (length file) (omega (arith, v .long, few)),
     )
 
     made-inside : madeAt file ≡ Inside h
@@ -128,15 +153,26 @@ module _ (file : List ℕ) (h : Header) where
     form-passed : validatedForm file h ≡ Opened h
     unfolding validatedForm
     form-passed =
-        let f : Formed file h = record { nodes-formed = v .nodes-formed; arcs-formed = v .arcs-formed; points-formed = v .points-formed } in
-        rw (formed-all file h f, le-ltb (allBlocks h) (allBlocks h) (omega arith), sound-exactly (decode file) .1 (v .sound))
+        let f : RunsFormed file h =
+        record {
+          nodes-formed = v .nodes-formed;
+          arcs-formed = v .arcs-formed;
+          points-formed = v .points-formed;
+        } in
+        rw (
+          formed-all file h f,
+          le-ltb (allBlocks h) (allBlocks h) (omega arith),
+          sound-exactly (decode file) .1 (v .sound),
+        )
 
     valid-validated : validated file ≡ Opened h
     unfolding validated validatedFirst validatedLength
     valid-validated =
         rw (length-passed)
-        (rung-clear (refused 2) (length file / 512) (bad file) _ (λ b l. ap not (v .sums b (omega (arith, v .long))))
-        ∙ rw (v .first-formed, made-inside, eq-eqb (length file) (512 * allBlocks h) (v .long)) form-passed)
+        (rung-clear (unopened 2) (length file / blockSize) (bad file) _
+        (λ b l. ap not (v .sums b (omega (arith, v .long))))
+        ∙ rw (v .first-formed, made-inside, eq-eqb (length file) (blockSize * allBlocks h) (v .long))
+        form-passed)
 
 pub valid-exactly : (file : List ℕ) (h : Header) → (validated file ≡ Opened h) ↔ ValidFile file h
 valid-exactly file h = (validated-valid file h, valid-validated file h)

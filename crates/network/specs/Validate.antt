@@ -1,5 +1,6 @@
--- Validation of a network file, refusals 1 to 10 in the order of document 01: the length, every block's check, the first block's form, the
--- header's limits, the length again, the later blocks' forms, and the rules of the tables. Every whole block is summed before the header is looked at.
+-- Validation of a network file, refusals 1 to 10 in the order of document 01: the length, every block's
+-- check, the first block's form, the header's limits, the length again, the later blocks' forms, and the
+-- rules of the tables. Every whole block is summed before the header is looked at.
 use mathlib.Core.Path.{_≡_, sym, _∙_, ap}
 use mathlib.Core.Bool.{Bool, false, cond, not, _||_}
 use mathlib.Core.List.{List}
@@ -12,7 +13,7 @@ use borrow.Author.Tests.{lt-ltb, le-ltb, eq-eqb, ne-eqb, eqb-true, eqb-false, lt
 use Rattle.theory_loops.specs.First.{first, first-le}
 use Rattle.theory_loops.specs.Pick.{firstRung, at-first, past-first, or-passed}
 use Rattle.file_fields.specs.Fields.{le16, le32}
-use Rattle.file_blocks.specs.Place.{blocks, Stored}
+use Rattle.file_blocks.specs.Place.{blocks, RunInFile}
 use Rattle.file_blocks.specs.Form.{formed, unformed}
 use Rattle.file_blocks.specs.Read.{bad}
 use Rattle.file_refusals.specs.declared.Refusal.{Refusal}
@@ -23,115 +24,145 @@ use Rattle.network.specs.declared.answer.Opening.the-variants.{Opened, R
 use Rattle.network.specs.declared.header.Header.{Header}
 use Rattle.network.specs.declared.header.Made.{Made}
 use Rattle.network.specs.declared.header.Made.the-variants.{Inside, Outside}
-use Rattle.network.specs.Limits.{made, Within, made-within}
-use Rattle.network.specs.Layout.{arcBlock, pointBlock, allBlocks, layoutOf}
+use Rattle.network.specs.Limits.{made, WithinLimits, made-within}
+use Rattle.network.specs.Layout.{arcBlock, pointBlock, allBlocks, layoutOf, mostBlocks, mostBytes}
 use Rattle.network.specs.declared.header.Layout.{Layout}
 use Rattle.network.specs.Decode.{headerAt, decode, Laid, laid-blocks}
 use Rattle.file_refusals.specs.Refusal.{refusal}
 use Rattle.network.specs.Rules.{judged}
+use Rattle.file_fields.specs.Block.{blockSize, headSize}
+use Rattle.file_blocks.specs.Kind.{networkKind, networkSize, cellKind, cellSize, cellPer, arcKind, arcSize}
+use Rattle.file_blocks.specs.Kind.{arcPer, pointKind, pointSize, pointPer}
 
-abbrev pub refused : ℕ → ℕ → Opening
-refused number place = Refused (refusal number place)
+abbrev pub unopened : ℕ → ℕ → Opening
+unopened number place = Refused (refusal number place)
 
--- 1: no block, a part of a block, or more than 554 blocks
+-- 1: no block, a part of a block, or more blocks than any network has
 unfoldable pub badLength : ℕ → Bool
-badLength long = eqb long 0 || (not (eqb (long % 512) 0) || ltb 283648 long)
+badLength long = eqb long 0 || (not (eqb (long % blockSize) 0) || ltb mostBytes long)
 
 -- 7 to 10
 abbrev pub validatedRules : Header → Judged → Opening
 validatedRules h Sound = Opened h
 validatedRules h (Faulty r) = Refused r
 
--- the first block after the header that is out of its form, by its number, or the count of blocks: of the points' blocks, then of the arcs' and
--- the points', then of all
+-- the first block after the header that is out of its form, by its number, or the count of blocks: of the
+-- points' blocks, then of the arcs' and the points', then of all
 unfoldable pub unformedPoints : List ℕ → Header → ℕ
 unformedPoints file h =
-    firstRung (λ j. pointBlock h + j) (blocks 125 (h .points)) (unformed file (pointBlock h) 4 125 4 (h .points)) (allBlocks h)
+    firstRung (λ j. pointBlock h + j) (blocks pointPer (h .points))
+    (unformed file (pointBlock h) pointKind pointPer pointSize (h .points)) (allBlocks h)
 
 unfoldable pub unformedArcs : List ℕ → Header → ℕ
 unformedArcs file h =
-    firstRung (λ j. arcBlock h + j) (blocks 83 (h .arcs)) (unformed file (arcBlock h) 3 83 6 (h .arcs)) (unformedPoints file h)
+    firstRung (λ j. arcBlock h + j) (blocks arcPer (h .arcs))
+    (unformed file (arcBlock h) arcKind arcPer arcSize (h .arcs)) (unformedPoints file h)
 
 unfoldable pub firstUnformed : List ℕ → Header → ℕ
-firstUnformed file h = firstRung (λ j. 1 + j) (blocks 250 (h .nodes)) (unformed file 1 2 250 2 (h .nodes)) (unformedArcs file h)
+firstUnformed file h =
+    firstRung (λ j. 1 + j) (blocks cellPer (h .nodes)) (unformed file 1 cellKind cellPer cellSize (h .nodes))
+    (unformedArcs file h)
 
 -- 6: that block
 unfoldable pub validatedForm : List ℕ → Header → Opening
 validatedForm file h =
-    cond (ltb (firstUnformed file h) (allBlocks h)) (refused 6 (firstUnformed file h))
+    cond (ltb (firstUnformed file h) (allBlocks h)) (unopened 6 (firstUnformed file h))
     (validatedRules h (judged (decode file)))
 
 -- 5: another length than the header calls for
 unfoldable pub validatedLength : List ℕ → Header → Opening
-validatedLength file h = cond (eqb (length file) (512 * allBlocks h)) (validatedForm file h) (refused 5 0)
+validatedLength file h =
+    cond (eqb (length file) (blockSize * allBlocks h)) (validatedForm file h) (unopened 5 0)
 
 -- 4: a header outside the limits
 abbrev pub validatedHeader : List ℕ → Made → Opening
 validatedHeader file (Inside h) = validatedLength file h
-validatedHeader file Outside = refused 4 0
+validatedHeader file Outside = unopened 4 0
 
 abbrev pub madeAt : List ℕ → Made
 madeAt file = made (le32 file 8) (le16 file 12) (le16 file 14) (le16 file 16) (le16 file 18) (le32 file 20)
 
 -- 3: the first block is of kind 1, with one entry of 16 bytes
 unfoldable pub validatedFirst : List ℕ → Opening
-validatedFirst file = cond (formed file 0 1 1 24) (validatedHeader file (madeAt file)) (refused 3 0)
+validatedFirst file =
+    cond (formed file 0 networkKind 1 (headSize + networkSize)) (validatedHeader file (madeAt file))
+    (unopened 3 0)
 
 -- 2: a block's check is wrong
 unfoldable pub validated : List ℕ → Opening
 validated file =
-    cond (badLength (length file)) (refused 1 0)
-    (firstRung (refused 2) (length file / 512) (bad file)
+    cond (badLength (length file)) (unopened 1 0)
+    (firstRung (unopened 2) (length file / blockSize) (bad file)
     (validatedFirst file))
 
 -- FOR CODE on a file that is laid out as its header says: the first block out of its form
 module _ {file : List ℕ} {l : Layout} (s : Laid file l) (j r : ℕ) where
-  pub nodes-taken : j ≡ first (blocks 250 (l .nodes)) (unformed file 1 2 250 2 (l .nodes)) → 1 + j < l .arcblock → r ≡ 1 + j
+  pub nodes-taken : j ≡ first (blocks cellPer (l .nodes))
+      (unformed file 1 cellKind cellPer cellSize (l .nodes)) → 1 + j < l .arcblock → r ≡ 1 + j
       → r ≡ firstUnformed file (headerAt file)
   unfolding firstUnformed
-  nodes-taken e m f = let q = laid-blocks s in at-first r _ (λ j. 1 + j) _ j _ (rw (q .nodes) at e) (omega arith) f
+  nodes-taken e m f =
+      let q = laid-blocks s in
+      at-first r _ (λ j. 1 + j) _ j _ (rw (q .nodes) at e) (omega arith) f
 
-  pub nodes-passed : j ≡ first (blocks 250 (l .nodes)) (unformed file 1 2 250 2 (l .nodes)) → l .arcblock ≤ 1 + j → r ≡ unformedArcs file (headerAt file)
+  pub nodes-passed : j ≡ first (blocks cellPer (l .nodes))
+      (unformed file 1 cellKind cellPer cellSize (l .nodes)) → l .arcblock ≤ 1 + j
+      → r ≡ unformedArcs file (headerAt file)
       → r ≡ firstUnformed file (headerAt file)
   unfolding firstUnformed
-  nodes-passed e m f = let q = laid-blocks s in past-first r _ (λ j. 1 + j) _ j _ (rw (q .nodes) at e) (omega arith) f
+  nodes-passed e m f =
+      let q = laid-blocks s in past-first r _ (λ j. 1 + j) _ j _ (rw (q .nodes) at e) (omega arith) f
 
-  pub arcs-taken : j ≡ first (blocks 83 (l .arcs)) (unformed file (l .arcblock) 3 83 6 (l .arcs)) → l .arcblock + j < l .pointblock → r ≡ l .arcblock + j
+  pub arcs-taken : j ≡ first (blocks arcPer (l .arcs))
+      (unformed file (l .arcblock) arcKind arcPer arcSize (l .arcs)) → l .arcblock + j < l .pointblock
+      → r ≡ l .arcblock + j
       → r ≡ unformedArcs file (headerAt file)
   unfolding unformedArcs
   arcs-taken e m f =
       let q = laid-blocks s in
-      at-first r _ (λ j. arcBlock (headerAt file) + j) _ j _ (rw (q .arcs, q .arcblock) at e) (omega arith) (rw (q .arcblock) at f)
+      at-first r _ (λ j. arcBlock (headerAt file) + j) _ j _ (rw (q .arcs, q .arcblock) at e) (omega arith)
+      (rw (q .arcblock) at f)
 
-  pub arcs-passed : j ≡ first (blocks 83 (l .arcs)) (unformed file (l .arcblock) 3 83 6 (l .arcs)) → l .pointblock ≤ l .arcblock + j
+  pub arcs-passed : j ≡ first (blocks arcPer (l .arcs))
+      (unformed file (l .arcblock) arcKind arcPer arcSize (l .arcs)) → l .pointblock ≤ l .arcblock + j
       → r ≡ unformedPoints file (headerAt file) → r ≡ unformedArcs file (headerAt file)
   unfolding unformedArcs
   arcs-passed e m f =
       let q = laid-blocks s in
-      past-first r _ (λ j. arcBlock (headerAt file) + j) _ j _ (rw (q .arcs, q .arcblock) at e) (omega arith) f
+      past-first r _ (λ j. arcBlock (headerAt file) + j) _ j _ (rw (q .arcs, q .arcblock) at e) (omega arith)
+      f
 
   -- the last run's first, or its end, which is the file's
-  pub points-told : j ≡ first (blocks 125 (l .points)) (unformed file (l .pointblock) 4 125 4 (l .points)) → r ≡ l .pointblock + j
+  pub points-told : j ≡ first (blocks pointPer (l .points))
+      (unformed file (l .pointblock) pointKind pointPer pointSize (l .points)) → r ≡ l .pointblock + j
       → r ≡ unformedPoints file (headerAt file)
   unfolding unformedPoints
   points-told e f =
       let q = laid-blocks s in
       let h = headerAt file in
-      let d : j ≡ first (blocks 125 (h .points)) (unformed file (pointBlock h) 4 125 4 (h .points)) = rw (q .points, q .pointblock) at e in
-      elim (decLt j (blocks 125 (h .points))) [
+      let d : j ≡ first (blocks pointPer (h .points))
+      (unformed file (pointBlock h) pointKind pointPer pointSize (h .points)) =
+      rw (q .points, q .pointblock) at e in
+      elim (decLt j (blocks pointPer (h .points))) [
         | yes m ↦ at-first r (allBlocks h) (λ j. pointBlock h + j) _ j _ d m (rw (q .pointblock) at f)
-        | no m ↦ past-first r (allBlocks h) (λ j. pointBlock h + j) _ j _ d (omega arith) (omega (arith, q .pointblock, first-le (unformed file (pointBlock h) 4 125 4 (h .points)) (blocks 125 (h .points))))
+        | no m ↦ past-first r (allBlocks h) (λ j. pointBlock h + j) _ j _ d (omega arith)
+            (omega (
+              arith,
+              q .pointblock,
+              first-le (unformed file (pointBlock h) pointKind pointPer pointSize (h .points))
+                  (blocks pointPer (h .points)),
+            ))
       ]
 
 -- what the scan of a run's blocks requires
 module _ {file : List ℕ} {l : Layout} (s : Laid file l) where
-  pub nodes-stored : Stored 1 250 2 (l .nodes) file
+  pub nodes-stored : RunInFile 1 cellPer cellSize (l .nodes) file
   nodes-stored = record { pos = lit< tt; fit = lit≤ tt; room = omega (arith, s .long, laid-blocks s) }
 
-  pub arcs-stored : Stored (l .arcblock) 83 6 (l .arcs) file
+  pub arcs-stored : RunInFile (l .arcblock) arcPer arcSize (l .arcs) file
   arcs-stored = record { pos = lit< tt; fit = lit≤ tt; room = omega (arith, s .long, laid-blocks s) }
 
-  pub points-stored : Stored (l .pointblock) 125 4 (l .points) file
+  pub points-stored : RunInFile (l .pointblock) pointPer pointSize (l .points) file
   points-stored = record { pos = lit< tt; fit = lit≤ tt; room = omega (arith, s .long, laid-blocks s) }
 
 -- what is found is no later than the run's end
@@ -139,62 +170,80 @@ pub found-few : (p : ℕ → Bool) (n j : ℕ) → j ≡ first n p → j ≤ n
 found-few p n j e = omega (arith, first-le p n)
 
 -- for `search forms` where that block is looked for
-pub ruleset forms = (nodes-stored, arcs-stored, points-stored, nodes-taken, nodes-passed, arcs-taken, arcs-passed, points-told)
+pub ruleset forms = (
+  nodes-stored,
+  arcs-stored,
+  points-stored,
+  nodes-taken,
+  nodes-passed,
+  arcs-taken,
+  arcs-passed,
+  points-told,
+)
 
 -- FOR THE LADDER
-module _ {file : List ℕ} {l : Layout} (s : Laid file l) (h : Header) (e : h ≡ headerAt file) (b : ℕ) (r : Opening) (f : b ≡ firstUnformed file (headerAt file)) where
-  pub form-taken : b < l .blocks → r ≡ refused 6 b → r ≡ validatedForm file h
+module _ {file : List ℕ} {l : Layout} (s : Laid file l) (h : Header) (e : h ≡ headerAt file) (b : ℕ)
+    (r : Opening) (f : b ≡ firstUnformed file (headerAt file)) where
+  pub form-taken : b < l .blocks → r ≡ unopened 6 b → r ≡ validatedForm file h
   unfolding validatedForm
   form-taken m g = rw (e, ← f, lt-ltb b (allBlocks (headerAt file)) (rw (laid-blocks s .all) at m)) g
 
   pub form-passed : l .blocks ≤ b → r ≡ validatedRules h (judged (decode file)) → r ≡ validatedForm file h
   unfolding validatedForm
-  form-passed m g = rw (e, ← f, le-ltb b (allBlocks (headerAt file)) (rw (laid-blocks s .all) at m)) (rw e at g)
+  form-passed m g = rw (e, ← f, le-ltb b (allBlocks (headerAt file)) (rw (laid-blocks s .all) at m))
+      (rw e at g)
 
 pub rules-sound : (h : Header) (j k : Judged) → j ≡ k → j ≡ Sound → Opened h ≡ validatedRules h k
 rules-sound h j k e f = rw (← e, f)
 
-pub rules-faulty : (h : Header) (j k : Judged) (r : Refusal) → j ≡ k → j ≡ Faulty r → Refused r ≡ validatedRules h k
+pub rules-faulty : (h : Header) (j k : Judged) (r : Refusal) → j ≡ k → j ≡ Faulty r
+    → Refused r ≡ validatedRules h k
 rules-faulty h j k r e f = rw (← e, f)
 
 -- a file of the length that its header calls for is laid out
-pub length-passed : (file : List ℕ) (h : Header) (l : Layout) (r : Opening) → l ≡ layoutOf h → length file ≡ 512 * l .blocks
+pub length-passed : (file : List ℕ) (h : Header) (l : Layout) (r : Opening) → l ≡ layoutOf h
+    → length file ≡ blockSize * l .blocks
     → r ≡ validatedForm file h → r ≡ validatedLength file h
 unfolding validatedLength layoutOf
-length-passed file h l r e f g = rw (eq-eqb (length file) (512 * allBlocks h) (rw e at f)) g
+length-passed file h l r e f g = rw (eq-eqb (length file) (blockSize * allBlocks h) (rw e at f)) g
 
-pub length-taken : (file : List ℕ) (h : Header) (l : Layout) (r : Opening) → l ≡ layoutOf h → (length file ≡ 512 * l .blocks → ⊥)
-    → r ≡ refused 5 0 → r ≡ validatedLength file h
+pub length-taken : (file : List ℕ) (h : Header) (l : Layout) (r : Opening) → l ≡ layoutOf h
+    → (length file ≡ blockSize * l .blocks → ⊥)
+    → r ≡ unopened 5 0 → r ≡ validatedLength file h
 unfolding validatedLength layoutOf
-length-taken file h l r e f g = rw (ne-eqb (length file) (512 * allBlocks h) (rw e at f)) g
+length-taken file h l r e f g = rw (ne-eqb (length file) (blockSize * allBlocks h) (rw e at f)) g
 
-pub now-laid : (file : List ℕ) (h : Header) (l : Layout) → Within h → h ≡ headerAt file → l ≡ layoutOf h → length file ≡ 512 * l .blocks → Laid file l
+pub now-laid : (file : List ℕ) (h : Header) (l : Layout) → WithinLimits h → h ≡ headerAt file → l ≡ layoutOf h
+    → length file ≡ blockSize * l .blocks → Laid file l
 unfolding layoutOf
 now-laid file h l w d e f = record { is = e ∙ ap layoutOf d; within = rw d at w; long = rw (e, d) at f }
 
 -- the header that is made of the first block's numbers
-pub header-within : (file : List ℕ) (m : Made) (h : Header) → m ≡ madeAt file → m ≡ Inside h → Within h
+pub header-within : (file : List ℕ) (m : Made) (h : Header) → m ≡ madeAt file → m ≡ Inside h → WithinLimits h
 header-within file m h e f = made-within _ _ _ _ _ _ h (sym e ∙ f) .0
 
 pub header-is : (file : List ℕ) (m : Made) (h : Header) → m ≡ madeAt file → m ≡ Inside h → h ≡ headerAt file
 header-is file m h e f = made-within _ _ _ _ _ _ h (sym e ∙ f) .1
 
-pub header-inside : (file : List ℕ) (m k : Made) (h : Header) (r : Opening) → m ≡ k → m ≡ Inside h → r ≡ validatedLength file h → r ≡ validatedHeader file k
+pub header-inside : (file : List ℕ) (m k : Made) (h : Header) (r : Opening) → m ≡ k → m ≡ Inside h
+    → r ≡ validatedLength file h → r ≡ validatedHeader file k
 header-inside file m k h r e f g = rw (← e, f) g
 
-pub header-outside : (file : List ℕ) (m k : Made) (r : Opening) → m ≡ k → m ≡ Outside → r ≡ refused 4 0 → r ≡ validatedHeader file k
+pub header-outside : (file : List ℕ) (m k : Made) (r : Opening) → m ≡ k → m ≡ Outside → r ≡ unopened 4 0
+    → r ≡ validatedHeader file k
 header-outside file m k r e f g = rw (← e, f) g
 
--- what the lengths that are passed say: a block at least, and no more than 554
-pub length-fine : (long : ℕ) (t : Bool) → t ≡ badLength long → t ≡ false → (512 ≤ long) × (long ≤ 283648)
+-- what the lengths that are passed say: a block at least, and no more than any network has
+pub length-fine : (long : ℕ) (t : Bool) → t ≡ badLength long → t ≡ false
+    → (blockSize ≤ long) × (long ≤ mostBytes)
 unfolding badLength
 length-fine long t e f =
     let (z, g) = or-passed _ _ (sym e ∙ f) in
     let (m, h) = or-passed _ _ g in
     let n : (long ≡ 0) → ⊥ = eqb-false long 0 z in
-    let k : long % 512 ≡ 0 = eqb-true (long % 512) 0 (not-false _ m) in
-    (omega arith, ltb-false 283648 long h)
+    let k : long % blockSize ≡ 0 = eqb-true (long % blockSize) 0 (not-false _ m) in
+    (omega arith, ltb-false mostBytes long h)
 
-pub blocks-few : (h : Header) (l : Layout) → Within h → l ≡ layoutOf h → l .blocks ≤ 554
+pub blocks-few : (h : Header) (l : Layout) → WithinLimits h → l ≡ layoutOf h → l .blocks ≤ mostBlocks
 unfolding layoutOf
 blocks-few h l w e = rw e (omega (arith, w))

@@ -12,7 +12,7 @@ pub enum Opening {
 
 // A file that is refused at one place.
 pub fn refused(number: u32, place: u32) -> Opening
-    ensures { λ r. ⌜ r ≡ Validate.refused number place ⌝ }
+    ensures { λ r. ⌜ r ≡ Validate.unopened number place ⌝ }
 {
     Opening::Refused(refuse(number, place))
 }

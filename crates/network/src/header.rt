@@ -1,7 +1,9 @@
 // The header of a network with its limits, and where the tables of such a network stand in its file.
 use crate::limits;
+use file_blocks::kind;
+use file_blocks::place::blocks;
 ghost use mathlib.Core.Path.{_≡_};
-ghost use Rattle.network.specs.Limits.{made, Within};
+ghost use Rattle.network.specs.Limits.{made, WithinLimits};
 ghost use Rattle.network.specs.Layout.{layoutOf};
 
 pub struct Header {
@@ -82,14 +84,14 @@ impl Header {
 
     // Where the tables stand.
     pub fn layout(self) -> Layout
-        requires { ⌜ Within self ⌝ }
+        requires { ⌜ WithinLimits self ⌝ }
         ensures { λ r. ⌜ r ≡ layoutOf self ⌝ }
     {
         let nodes = self.nodes as usize;
         let arcs = self.arcs as usize;
         let points = self.points as usize;
-        let arcblock = 1 + (nodes + 249) / 250;
-        let pointblock = arcblock + (arcs + 82) / 83;
+        let arcblock = 1 + blocks(kind::CELL_PER, nodes);
+        let pointblock = arcblock + blocks(kind::ARC_PER, arcs);
         Layout {
             period: self.period as usize,
             nodes,
@@ -98,7 +100,7 @@ impl Header {
             points,
             arcblock,
             pointblock,
-            blocks: pointblock + (points + 124) / 125,
+            blocks: pointblock + blocks(kind::POINT_PER, points),
         }
     }
 }

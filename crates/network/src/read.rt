@@ -1,6 +1,8 @@
 // The entries of a network file, read in place: one function for each of the six tables.
-// Each contract equates the answer with the entry of the network that the file decodes to; callers see no bytes.
+// Each contract equates the answer with the entry of the network that the file decodes to; callers see no
+// bytes.
 use crate::header::Layout;
+use file_blocks::kind;
 ghost use mathlib.Core.Path.{_≡_};
 ghost use Prim.Native.Nat.{_+_, _<_};
 ghost use Rattle.network.specs.Network;
@@ -21,7 +23,7 @@ pub fn cell(file: &[u8], l: Layout, v: usize) -> usize
     requires { ⌜ v < l .nodes ⌝ }
     ensures { λ r. ⌜ (r ≡ Network.cell (decode (now (file .entry))) v) × (r < 65536) ⌝ }
 {
-    field(file, 1, 250, 2, 0, v)
+    field(file, 1, kind::CELL_PER, kind::CELL_SIZE, 0, v)
 }
 
 // The tail of arc a.
@@ -30,7 +32,7 @@ pub fn tail(file: &[u8], l: Layout, a: usize) -> usize
     requires { ⌜ a < l .arcs ⌝ }
     ensures { λ r. ⌜ (r ≡ Network.tail (decode (now (file .entry))) a) × (r < 65536) ⌝ }
 {
-    field(file, l.arcblock, 83, 6, 0, a)
+    field(file, l.arcblock, kind::ARC_PER, kind::ARC_SIZE, 0, a)
 }
 
 // The head of arc a.
@@ -39,7 +41,7 @@ pub fn head(file: &[u8], l: Layout, a: usize) -> usize
     requires { ⌜ a < l .arcs ⌝ }
     ensures { λ r. ⌜ (r ≡ Network.head (decode (now (file .entry))) a) × (r < 65536) ⌝ }
 {
-    field(file, l.arcblock, 83, 6, 2, a)
+    field(file, l.arcblock, kind::ARC_PER, kind::ARC_SIZE, 2, a)
 }
 
 // How many points arc a has.
@@ -48,7 +50,7 @@ pub fn count(file: &[u8], l: Layout, a: usize) -> usize
     requires { ⌜ a < l .arcs ⌝ }
     ensures { λ r. ⌜ (r ≡ Network.count (decode (now (file .entry))) a) × (r < 65536) ⌝ }
 {
-    field(file, l.arcblock, 83, 6, 4, a)
+    field(file, l.arcblock, kind::ARC_PER, kind::ARC_SIZE, 4, a)
 }
 
 // The tick of point q.
@@ -57,7 +59,7 @@ pub fn tick(file: &[u8], l: Layout, q: usize) -> usize
     requires { ⌜ q < l .points ⌝ }
     ensures { λ r. ⌜ (r ≡ Network.tick (decode (now (file .entry))) q) × (r < 65536) ⌝ }
 {
-    field(file, l.pointblock, 125, 4, 0, q)
+    field(file, l.pointblock, kind::POINT_PER, kind::POINT_SIZE, 0, q)
 }
 
 // The travel of point q.
@@ -66,5 +68,5 @@ pub fn travel(file: &[u8], l: Layout, q: usize) -> usize
     requires { ⌜ q < l .points ⌝ }
     ensures { λ r. ⌜ (r ≡ Network.travel (decode (now (file .entry))) q) × (r < 65536) ⌝ }
 {
-    field(file, l.pointblock, 125, 4, 2, q)
+    field(file, l.pointblock, kind::POINT_PER, kind::POINT_SIZE, 2, q)
 }

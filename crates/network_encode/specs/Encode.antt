@@ -1,5 +1,6 @@
--- The bytes of a network: block 0 for its header, then a run of blocks for the cells, one for the arcs and one for the points, each with its check.
--- An entry is one number, its fields one behind the other, low byte first. `Proper` says which networks fit into these fields.
+-- The bytes of a network: block 0 for its header, then a run of blocks for the cells, one for the arcs and
+-- one for the points, each with its check. An entry is one number, its fields one behind the other, low byte
+-- first. `Proper` says which networks fit into these fields.
 use mathlib.Core.Path.{_≡_, _∙_}
 use mathlib.Core.Bool.{cond}
 use mathlib.Core.List.{List}
@@ -12,22 +13,34 @@ use Rattle.file_fields.specs.Fields.{byteOf, byteOf-low, byteOf-high}
 use Rattle.file_blocks.specs.Bytes.{fileOf}
 use Rattle.file_blocks.specs.Run.{runBody, headerBody}
 use Rattle.network.specs.declared.header.Header.{Header}
-use Rattle.network.specs.Limits.{Within}
+use Rattle.network.specs.Limits.{WithinLimits}
 use Rattle.network.specs.Layout.{arcBlock, pointBlock, allBlocks}
 use Rattle.network.specs.Network.{Network, nodes, arcs, points}
+use Rattle.file_blocks.specs.Kind.{networkKind, networkSize, cellKind, cellSize, cellPer, arcKind, arcSize}
+use Rattle.file_blocks.specs.Kind.{arcPer, pointKind, pointSize, pointPer}
 
 abbrev pub headerOf : Network → Header
-headerOf n = record { number = n .number; period = n .period; nodes = nodes n; arcs = arcs n; cells = n .cells; points = points n }
+headerOf n = record {
+  number = n .number;
+  period = n .period;
+  nodes = nodes n;
+  arcs = arcs n;
+  cells = n .cells;
+  points = points n;
+}
 
 -- byte r of the header, of the cell of node v, of arc a and of point q
 unfoldable pub headerByte : Header → ℕ → ℕ
-headerByte h r = byteOf (h .number + 2 ^ 32 * (h .period + 65536 * (h .nodes + 65536 * (h .arcs + 65536 * (h .cells + 65536 * h .points))))) r
+headerByte h r = byteOf
+    (h .number + 2 ^ 32
+    * (h .period + 65536 * (h .nodes + 65536 * (h .arcs + 65536 * (h .cells + 65536 * h .points))))) r
 
 unfoldable pub cellByte : List ℕ → ℕ → ℕ → ℕ
 cellByte cells v r = byteOf (getD cells v 0) r
 
 unfoldable pub arcByte : List ℕ → List ℕ → List ℕ → ℕ → ℕ → ℕ
-arcByte tails heads counts a r = byteOf (getD tails a 0 + 65536 * (getD heads a 0 + 65536 * getD counts a 0)) r
+arcByte tails heads counts a r =
+    byteOf (getD tails a 0 + 65536 * (getD heads a 0 + 65536 * getD counts a 0)) r
 
 unfoldable pub pointByte : List ℕ → List ℕ → ℕ → ℕ → ℕ
 pointByte ticks travels q r = byteOf (getD ticks q 0 + 65536 * getD travels q 0) r
@@ -35,10 +48,11 @@ pointByte ticks travels q r = byteOf (getD ticks q 0 + 65536 * getD travels q 0)
 -- the bytes of block b but its check, by the run that it belongs to
 unfoldable pub bodyBy : Header → Network → ℕ → ℕ → ℕ
 bodyBy h n b =
-    cond (ltb b 1) (headerBody 1 16 (headerByte h) b)
-    (cond (ltb b (arcBlock h)) (runBody 2 250 2 (h .nodes) (cellByte (n .cellOf)) 1 b)
-    (cond (ltb b (pointBlock h)) (runBody 3 83 6 (h .arcs) (arcByte (n .tails) (n .heads) (n .counts)) (arcBlock h) b)
-    (runBody 4 125 4 (h .points) (pointByte (n .ticks) (n .travels)) (pointBlock h) b)))
+    cond (ltb b 1) (headerBody networkKind networkSize (headerByte h) b)
+    (cond (ltb b (arcBlock h)) (runBody cellKind cellPer cellSize (h .nodes) (cellByte (n .cellOf)) 1 b)
+    (cond (ltb b (pointBlock h))
+    (runBody arcKind arcPer arcSize (h .arcs) (arcByte (n .tails) (n .heads) (n .counts)) (arcBlock h) b)
+    (runBody pointKind pointPer pointSize (h .points) (pointByte (n .ticks) (n .travels)) (pointBlock h) b)))
 
 -- the file of the tables of n under a header, and the file of n
 abbrev pub encodeBy : Header → Network → List ℕ
@@ -53,7 +67,7 @@ pub record Words (s : List ℕ) : Type 0 where
 
 -- a network within the limits, whose tables agree in their lengths and whose numbers fit their fields
 pub record Proper (n : Network) : Type 0 where
-  pub within : Within (headerOf n)
+  pub within : WithinLimits (headerOf n)
   pub number-fits : n .number < 2 ^ 32
   pub heads-long : length (n .heads) ≡ arcs n
   pub counts-long : length (n .counts) ≡ arcs n
@@ -67,21 +81,30 @@ pub record Proper (n : Network) : Type 0 where
 
 -- WHICH RUN a block belongs to
 module _ (h : Header) (n : Network) (b : ℕ) where
-  pub header-body : b < 1 → bodyBy h n b ≡ headerBody 1 16 (headerByte h) b
+  pub header-body : b < 1 → bodyBy h n b ≡ headerBody networkKind networkSize (headerByte h) b
   unfolding bodyBy
   header-body l = rw (lt-ltb b 1 l)
 
-  pub cells-body : 1 ≤ b → b < arcBlock h → bodyBy h n b ≡ runBody 2 250 2 (h .nodes) (cellByte (n .cellOf)) 1 b
+  pub cells-body : 1 ≤ b → b < arcBlock h
+      → bodyBy h n b ≡ runBody cellKind cellPer cellSize (h .nodes) (cellByte (n .cellOf)) 1 b
   unfolding bodyBy
   cells-body l m = rw (le-ltb b 1 l, lt-ltb b (arcBlock h) m)
 
-  pub arcs-body : arcBlock h ≤ b → b < pointBlock h → bodyBy h n b ≡ runBody 3 83 6 (h .arcs) (arcByte (n .tails) (n .heads) (n .counts)) (arcBlock h) b
+  pub arcs-body : arcBlock h ≤ b → b < pointBlock h
+      → bodyBy h n b ≡ runBody arcKind arcPer arcSize (h .arcs) (arcByte (n .tails) (n .heads) (n .counts))
+      (arcBlock h) b
   unfolding bodyBy
   arcs-body l m = rw (le-ltb b 1 (omega arith), le-ltb b (arcBlock h) l, lt-ltb b (pointBlock h) m)
 
-  pub points-body : pointBlock h ≤ b → bodyBy h n b ≡ runBody 4 125 4 (h .points) (pointByte (n .ticks) (n .travels)) (pointBlock h) b
+  pub points-body : pointBlock h ≤ b
+      → bodyBy h n b ≡ runBody pointKind pointPer pointSize (h .points) (pointByte (n .ticks) (n .travels))
+      (pointBlock h) b
   unfolding bodyBy
-  points-body l = rw (le-ltb b 1 (omega arith), le-ltb b (arcBlock h) (omega arith), le-ltb b (pointBlock h) l)
+  points-body l = rw (
+    le-ltb b 1 (omega arith),
+    le-ltb b (arcBlock h) (omega arith),
+    le-ltb b (pointBlock h) l,
+  )
 
 -- WHICH BYTES a field has: those of the first field of two bytes, and those after it
 here : (x y k : ℕ) → k < 2 → byteOf (x + 65536 * y) (0 + k) ≡ byteOf x k
@@ -122,8 +145,9 @@ module _ (s t u : List ℕ) (i k : ℕ) where
       rw z (after _ _ (2 + k) m ∙ after _ _ k n)
 
 -- the same of a header's fields
-module _ (h : Header) (w : Within h) (l : h .number < 2 ^ 32) (k : ℕ) where
-  rest : (m : ℕ) → headerByte h (4 + m) ≡ byteOf (h .period + 65536 * (h .nodes + 65536 * (h .arcs + 65536 * (h .cells + 65536 * h .points)))) m
+module _ (h : Header) (w : WithinLimits h) (l : h .number < 2 ^ 32) (k : ℕ) where
+  rest : (m : ℕ) → headerByte h (4 + m) ≡ byteOf
+      (h .period + 65536 * (h .nodes + 65536 * (h .arcs + 65536 * (h .cells + 65536 * h .points)))) m
   unfolding headerByte
   rest m = byteOf-high 4 (h .number) _ m l
 
@@ -142,7 +166,8 @@ module _ (h : Header) (w : Within h) (l : h .number < 2 ^ 32) (k : ℕ) where
   pub arcs-byte : k < 2 → headerByte h (8 + k) ≡ byteOf (h .arcs) k
   arcs-byte q =
       let z : 8 + k ≡ 4 + (2 + (2 + (0 + k))) = omega arith in
-      rw z (rest (2 + (2 + (0 + k))) ∙ after _ _ (2 + (0 + k)) (omega (arith, w)) ∙ after _ _ (0 + k) (omega (arith, w)) ∙ here _ _ k q)
+      rw z (rest (2 + (2 + (0 + k))) ∙ after _ _ (2 + (0 + k)) (omega (arith, w))
+      ∙ after _ _ (0 + k) (omega (arith, w)) ∙ here _ _ k q)
 
   pub cells-byte : k < 2 → headerByte h (10 + k) ≡ byteOf (h .cells) k
   cells-byte q =

@@ -1,5 +1,7 @@
--- The file of a network (Encode), the network of six tables (Tables), and the laws for the code: a block (Block), and the file written block by block (Written).
+-- The file of a network (Encode), what the writing of it requires (Packable), and the laws for the code: a
+-- block (Entries, BlockWritten), and the file written block by block (Written).
 pub mod Encode
-pub mod Tables
-pub mod Block
+pub mod Packable
+pub mod Entries
+pub mod BlockWritten
 pub mod Written

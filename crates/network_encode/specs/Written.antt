@@ -1,5 +1,6 @@
--- A network's file as it is written from lent tables: an entry is put as one number, a block of a run is a block of the file, and the file stands
--- once all blocks do. The tables may be longer than their counts; the file is that of their first entries.
+-- A network's file as it is written from lent tables: an entry is put as one number, a block of a run is a
+-- block of the file, and the file stands once all blocks do. The tables may be longer than their counts; the
+-- file is that of their first entries.
 use mathlib.Core.Path.{_≡_, refl, sym, _∙_, ap, subst⁻¹}
 use mathlib.Core.List.{List}
 use Prim.Native.Nat.{ℕ, _+_, _*_, _^_, _≤_, _<_}
@@ -13,45 +14,70 @@ use Rattle.file_blocks.specs.Run.{runBody, headerBody}
 use Rattle.file_fields.specs.Put.{put, fill-join}
 use Rattle.network.specs.declared.header.Header.{Header}
 use Rattle.network.specs.declared.header.Layout.{Layout}
-use Rattle.network.specs.Limits.{Within}
-use Rattle.network.specs.Layout.{layoutOf, arcBlock, pointBlock, allBlocks}
+use Rattle.network.specs.Limits.{WithinLimits}
+use Rattle.network.specs.Layout.{layoutOf, arcBlock, pointBlock, allBlocks, mostBlocks}
 use Rattle.network.specs.Network.{Network}
+use Rattle.network.specs.Tables.{Tables, networkOf}
 use Rattle.network.specs.Decode.{LaidBlocks}
-use Rattle.network_encode.specs.Encode.{headerOf, encodeBy, encode, headerByte, cellByte, arcByte, pointByte, bodyBy, header-body, cells-body, arcs-body, points-body, number-byte, period-byte, nodes-byte, arcs-byte, cells-byte, points-byte}
-use Rattle.network_encode.specs.Block.{partByte, InRun, entry-none, entry-first, entry-field, entry-put, same-body, same-block}
-use Rattle.network_encode.specs.Tables.{networkOf, Packable}
+use Rattle.network_encode.specs.Encode.{headerOf, encodeBy, encode, headerByte, cellByte, arcByte}
+use Rattle.network_encode.specs.Encode.{pointByte, bodyBy, header-body, cells-body, arcs-body}
+use Rattle.network_encode.specs.Encode.{points-body, number-byte, period-byte, nodes-byte, arcs-byte}
+use Rattle.network_encode.specs.Encode.{cells-byte, points-byte}
+use Rattle.network_encode.specs.Entries.{partByte, InRun, entry-none, entry-first, entry-field}
+use Rattle.network_encode.specs.Entries.{entry-put}
+use Rattle.network_encode.specs.BlockWritten.{same-body, same-block}
+use Rattle.network_encode.specs.Packable.{Packable}
+use Rattle.file_fields.specs.Block.{blockSize, headSize}
+use Rattle.file_blocks.specs.Kind.{networkKind, networkSize, cellKind, cellSize, cellPer, arcKind, arcSize}
+use Rattle.file_blocks.specs.Kind.{arcPer, pointKind, pointSize, pointPer}
 
 -- AN ENTRY is put as one number
 module _ (base first m e : ℕ) (old s₀ s₁ : List ℕ) (l : e < m) where
-  pub cell-put : (c : List ℕ) → Filled base (base + 2 * e) (partByte 2 (cellByte c) base first) old s₀ → base + 2 * m ≤ length old
-      → s₁ ≡ put 2 s₀ (base + 2 * e) (getD c (first + e) 0) → Filled base (base + 2 * (e + 1)) (partByte 2 (cellByte c) base first) old s₁
+  pub cell-put : (c : List ℕ)
+      → Filled base (base + cellSize * e) (partByte cellSize (cellByte c) base first) old s₀
+      → base + cellSize * m ≤ length old
+      → s₁ ≡ put 2 s₀ (base + cellSize * e) (getD c (first + e) 0)
+      → Filled base (base + cellSize * (e + 1)) (partByte cellSize (cellByte c) base first) old s₁
   unfolding cellByte
-  cell-put c h r p = entry-put 2 (cellByte c) base first m e _ old s₀ s₁ h l r (λ k. refl) p
+  cell-put c h r p = entry-put cellSize (cellByte c) base first m e _ old s₀ s₁ h l r (λ k. refl) p
 
-  pub arc-put : (t h k : List ℕ) → Filled base (base + 6 * e) (partByte 6 (arcByte t h k) base first) old s₀ → base + 6 * m ≤ length old
-      → s₁ ≡ put 6 s₀ (base + 6 * e) (getD t (first + e) 0 + 65536 * (getD h (first + e) 0 + 65536 * getD k (first + e) 0))
-      → Filled base (base + 6 * (e + 1)) (partByte 6 (arcByte t h k) base first) old s₁
+  pub arc-put : (t h k : List ℕ)
+      → Filled base (base + arcSize * e) (partByte arcSize (arcByte t h k) base first) old s₀
+      → base + arcSize * m ≤ length old
+      → s₁ ≡ put 6 s₀ (base + arcSize * e)
+      (getD t (first + e) 0 + 65536 * (getD h (first + e) 0 + 65536 * getD k (first + e) 0))
+      → Filled base (base + arcSize * (e + 1)) (partByte arcSize (arcByte t h k) base first) old s₁
   unfolding arcByte
-  arc-put t h k d r p = entry-put 6 (arcByte t h k) base first m e _ old s₀ s₁ d l r (λ i. refl) p
+  arc-put t h k d r p = entry-put arcSize (arcByte t h k) base first m e _ old s₀ s₁ d l r (λ i. refl) p
 
-  pub point-put : (t v : List ℕ) → Filled base (base + 4 * e) (partByte 4 (pointByte t v) base first) old s₀ → base + 4 * m ≤ length old
-      → s₁ ≡ put 4 s₀ (base + 4 * e) (getD t (first + e) 0 + 65536 * getD v (first + e) 0)
-      → Filled base (base + 4 * (e + 1)) (partByte 4 (pointByte t v) base first) old s₁
+  pub point-put : (t v : List ℕ)
+      → Filled base (base + pointSize * e) (partByte pointSize (pointByte t v) base first) old s₀
+      → base + pointSize * m ≤ length old
+      → s₁ ≡ put 4 s₀ (base + pointSize * e) (getD t (first + e) 0 + 65536 * getD v (first + e) 0)
+      → Filled base (base + pointSize * (e + 1)) (partByte pointSize (pointByte t v) base first) old s₁
   unfolding pointByte
-  point-put t v h r p = entry-put 4 (pointByte t v) base first m e _ old s₀ s₁ h l r (λ k. refl) p
+  point-put t v h r p = entry-put pointSize (pointByte t v) base first m e _ old s₀ s₁ h l r (λ k. refl) p
 
 -- the header's one entry
-pub header-put : (h : Header) → Within h → h .number < 2 ^ 32 → (old s₁ s₂ s₃ s₄ s₅ s₆ : List ℕ) → 24 ≤ length old → s₁ ≡ put 4 old 8 (h .number)
-    → s₂ ≡ put 2 s₁ 12 (h .period) → s₃ ≡ put 2 s₂ 14 (h .nodes) → s₄ ≡ put 2 s₃ 16 (h .arcs) → s₅ ≡ put 2 s₄ 18 (h .cells) → s₆ ≡ put 4 s₅ 20 (h .points)
-    → Filled 8 24 (partByte 16 (λ _. headerByte h) 8 0) old s₆
+pub header-put : (h : Header) → WithinLimits h → h .number < 2 ^ 32 → (old s₁ s₂ s₃ s₄ s₅ s₆ : List ℕ)
+    → headSize + networkSize ≤ length old → s₁ ≡ put 4 old 8 (h .number)
+    → s₂ ≡ put 2 s₁ 12 (h .period) → s₃ ≡ put 2 s₂ 14 (h .nodes) → s₄ ≡ put 2 s₃ 16 (h .arcs)
+    → s₅ ≡ put 2 s₄ 18 (h .cells) → s₆ ≡ put 4 s₅ 20 (h .points)
+    → Filled headSize (headSize + networkSize) (partByte networkSize (λ _. headerByte h) headSize 0) old s₆
 header-put h w l old s₁ s₂ s₃ s₄ s₅ s₆ r e₁ e₂ e₃ e₄ e₅ e₆ =
     let f : ℕ → ℕ → ℕ = λ _. headerByte h in
-    let number = entry-first 16 f 8 0 4 0 _ old old s₁ (entry-none 16 f 8 0 old) (lit≤ tt) (omega arith) (number-byte h w l) e₁ in
-    let period = entry-field 16 f 8 0 2 0 4 _ old s₁ s₂ number (lit≤ tt) (omega arith) (period-byte h w l) e₂ in
-    let nodes = entry-field 16 f 8 0 2 0 6 _ old s₂ s₃ period (lit≤ tt) (omega arith) (nodes-byte h w l) e₃ in
-    let arcs = entry-field 16 f 8 0 2 0 8 _ old s₃ s₄ nodes (lit≤ tt) (omega arith) (arcs-byte h w l) e₄ in
-    let cells = entry-field 16 f 8 0 2 0 10 _ old s₄ s₅ arcs (lit≤ tt) (omega arith) (cells-byte h w l) e₅ in
-    entry-field 16 f 8 0 4 0 12 _ old s₅ s₆ cells (lit≤ tt) (omega arith) (λ k n. points-byte h w l k) e₆
+    let number = entry-first networkSize f headSize 0 4 0 _ old old s₁
+    (entry-none networkSize f headSize 0 old) (lit≤ tt) (omega arith) (number-byte h w l) e₁ in
+    let period = entry-field networkSize f headSize 0 2 0 4 _ old s₁ s₂ number (lit≤ tt) (omega arith)
+    (period-byte h w l) e₂ in
+    let nodes = entry-field networkSize f headSize 0 2 0 6 _ old s₂ s₃ period (lit≤ tt) (omega arith)
+    (nodes-byte h w l) e₃ in
+    let arcs = entry-field networkSize f headSize 0 2 0 8 _ old s₃ s₄ nodes (lit≤ tt) (omega arith)
+    (arcs-byte h w l) e₄ in
+    let cells = entry-field networkSize f headSize 0 2 0 10 _ old s₄ s₅ arcs (lit≤ tt) (omega arith)
+    (cells-byte h w l) e₅ in
+    entry-field networkSize f headSize 0 4 0 12 _ old s₅ s₆ cells (lit≤ tt) (omega arith)
+    (λ k n. points-byte h w l k) e₆
 
 -- the layout's counts and blocks, by the header
 pub layout-blocks : (h : Header) (l : Layout) → l ≡ layoutOf h → LaidBlocks h l
@@ -66,94 +92,121 @@ layout-blocks h l e = record {
 }
 
 -- A BLOCK stands in its run
-module _ {h : Header} {l : Layout} {c t d k x v : ℕ} (p : Packable h l c t d k x v) (b room : ℕ) (m : b < l .blocks) (r : 512 * l .blocks ≤ room) where
+module _ {h : Header} {l : Layout} {t : Tables} (p : Packable h l t) (b room : ℕ)
+    (m : b < l .blocks) (r : blockSize * l .blocks ≤ room) where
   abbrev at : LaidBlocks h l
   at = layout-blocks h l (p .is)
 
-  near : b < 1024
+  near : b < mostBlocks
   near = omega (arith, at, p .within)
 
-  pub cells-in : 1 ≤ b → b < l .arcblock → InRun 1 250 (l .nodes) b room
+  pub cells-in : 1 ≤ b → b < l .arcblock → InRun 1 cellPer (l .nodes) b room
   cells-in y z = record { after = y; before = omega (arith, at); near = near; whole = omega arith }
 
-  pub arcs-in : l .arcblock ≤ b → b < l .pointblock → InRun (l .arcblock) 83 (l .arcs) b room
+  pub arcs-in : l .arcblock ≤ b → b < l .pointblock → InRun (l .arcblock) arcPer (l .arcs) b room
   arcs-in y z = record { after = y; before = omega (arith, at); near = near; whole = omega arith }
 
-  pub points-in : l .pointblock ≤ b → InRun (l .pointblock) 125 (l .points) b room
+  pub points-in : l .pointblock ≤ b → InRun (l .pointblock) pointPer (l .points) b room
   points-in y = record { after = y; before = omega (arith, at); near = near; whole = omega arith }
 
 -- and is the file's
-module _ {h : Header} {l : Layout} (c t d k x v : List ℕ) (p : Packable h l (length c) (length t) (length d) (length k) (length x) (length v)) (b : ℕ) (old new : List ℕ) where
+module _ {h : Header} {l : Layout} (t : Tables) (p : Packable h l t) (b : ℕ)
+    (old new : List ℕ) where
   abbrev n : Network
-  n = networkOf h c t d k x v
+  n = networkOf h t
 
   abbrev q : LaidBlocks h l
   q = layout-blocks h l (p .is)
 
   -- a run written from whole tables is that of their first entries
-  told : (kind per size m : ℕ) (f g : ℕ → ℕ → ℕ) (from : ℕ) → 0 < per → ((i r : ℕ) → i < m → f i r ≡ g i r) → bodyBy h n b ≡ runBody kind per size m g from b
-      → Filled (512 * b) (512 * (b + 1)) (fileByte (runBody kind per size m f from)) old new → Filled (512 * b) (512 * (b + 1)) (fileByte (bodyBy h n)) old new
+  told : (kind per size m : ℕ) (f g : ℕ → ℕ → ℕ) (from : ℕ) → 0 < per → ((i r : ℕ) → i < m → f i r ≡ g i r)
+      → bodyBy h n b ≡ runBody kind per size m g from b
+      → Filled (blockSize * b) (blockSize * (b + 1)) (fileByte (runBody kind per size m f from)) old new
+      → Filled (blockSize * b) (blockSize * (b + 1)) (fileByte (bodyBy h n)) old new
   told kind per size m f g from pos s e w =
       same-block (runBody kind per size m f from) (bodyBy h n) b
       (λ o. same-body kind per size m f g pos s from b o ∙ sym (ap (λ (y : ℕ → ℕ). y o) e)) old new w
 
-  pub header-told : b < 1 → Filled 0 512 (fileByte (headerBody 1 16 (headerByte h))) old new
-      → Filled (512 * b) (512 * (b + 1)) (fileByte (bodyBy h (networkOf h c t d k x v))) old new
+  pub header-told : b < 1
+      → Filled 0 blockSize (fileByte (headerBody networkKind networkSize (headerByte h))) old new
+      → Filled (blockSize * b) (blockSize * (b + 1)) (fileByte (bodyBy h (networkOf h t))) old new
   header-told m w =
       let z : b ≡ 0 = omega arith in
-      told 1 1 16 1 (λ _. headerByte h) (λ _. headerByte h) 0 (lit< tt) (λ i r a. refl) (header-body h n b m) (rw z w)
+      told networkKind 1 networkSize 1 (λ _. headerByte h) (λ _. headerByte h) 0 (lit< tt) (λ i r a. refl)
+      (header-body h n b m) (rw z w)
 
-  pub cells-told : 1 ≤ b → b < l .arcblock → Filled (512 * b) (512 * (b + 1)) (fileByte (runBody 2 250 2 (l .nodes) (cellByte c) 1)) old new
-      → Filled (512 * b) (512 * (b + 1)) (fileByte (bodyBy h (networkOf h c t d k x v))) old new
+  pub cells-told : 1 ≤ b → b < l .arcblock
+      → Filled (blockSize * b) (blockSize * (b + 1))
+      (fileByte (runBody cellKind cellPer cellSize (l .nodes) (cellByte (t .cells)) 1)) old new
+      → Filled (blockSize * b) (blockSize * (b + 1)) (fileByte (bodyBy h (networkOf h t))) old new
   unfolding cellByte
   cells-told m a w =
-      told 2 250 2 (h .nodes) (cellByte c) (cellByte (take (h .nodes) c)) 1 (lit< tt)
-      (λ i r o. rw (getD-take (h .nodes) c i 0 o))
+      told cellKind cellPer cellSize (h .nodes) (cellByte (t .cells)) (cellByte (take (h .nodes) (t .cells)))
+      1 (lit< tt)
+      (λ i r o. rw (getD-take (h .nodes) (t .cells) i 0 o))
       (cells-body h n b m (rw (q .arcblock) at a))
       (rw (q .nodes) at w)
 
-  pub arcs-told : l .arcblock ≤ b → b < l .pointblock → Filled (512 * b) (512 * (b + 1)) (fileByte (runBody 3 83 6 (l .arcs) (arcByte t d k) (l .arcblock))) old new
-      → Filled (512 * b) (512 * (b + 1)) (fileByte (bodyBy h (networkOf h c t d k x v))) old new
+  pub arcs-told : l .arcblock ≤ b → b < l .pointblock
+      → Filled (blockSize * b) (blockSize * (b + 1))
+      (fileByte (runBody arcKind arcPer arcSize (l .arcs) (arcByte (t .tails) (t .heads) (t .counts))
+      (l .arcblock))) old new
+      → Filled (blockSize * b) (blockSize * (b + 1)) (fileByte (bodyBy h (networkOf h t))) old new
   unfolding arcByte
   arcs-told m a w =
-      told 3 83 6 (h .arcs) (arcByte t d k) (arcByte (take (h .arcs) t) (take (h .arcs) d) (take (h .arcs) k)) (arcBlock h) (lit< tt)
-      (λ i r o. rw (getD-take (h .arcs) t i 0 o, getD-take (h .arcs) d i 0 o, getD-take (h .arcs) k i 0 o))
+      told arcKind arcPer arcSize (h .arcs) (arcByte (t .tails) (t .heads) (t .counts))
+      (arcByte (take (h .arcs) (t .tails)) (take (h .arcs) (t .heads)) (take (h .arcs) (t .counts)))
+      (arcBlock h) (lit< tt)
+      (λ i r o. rw (
+        getD-take (h .arcs) (t .tails) i 0 o,
+        getD-take (h .arcs) (t .heads) i 0 o,
+        getD-take (h .arcs) (t .counts) i 0 o,
+      ))
       (arcs-body h n b (rw (q .arcblock) at m) (rw (q .pointblock) at a))
       (rw (q .arcs, q .arcblock) at w)
 
-  pub points-told : l .pointblock ≤ b → Filled (512 * b) (512 * (b + 1)) (fileByte (runBody 4 125 4 (l .points) (pointByte x v) (l .pointblock))) old new
-      → Filled (512 * b) (512 * (b + 1)) (fileByte (bodyBy h (networkOf h c t d k x v))) old new
+  pub points-told : l .pointblock ≤ b
+      → Filled (blockSize * b) (blockSize * (b + 1))
+      (fileByte (runBody pointKind pointPer pointSize (l .points) (pointByte (t .ticks) (t .travels))
+      (l .pointblock))) old new
+      → Filled (blockSize * b) (blockSize * (b + 1)) (fileByte (bodyBy h (networkOf h t))) old new
   unfolding pointByte
   points-told m w =
-      told 4 125 4 (h .points) (pointByte x v) (pointByte (take (h .points) x) (take (h .points) v)) (pointBlock h) (lit< tt)
-      (λ i r o. rw (getD-take (h .points) x i 0 o, getD-take (h .points) v i 0 o))
+      told pointKind pointPer pointSize (h .points) (pointByte (t .ticks) (t .travels))
+      (pointByte (take (h .points) (t .ticks)) (take (h .points) (t .travels))) (pointBlock h) (lit< tt)
+      (λ i r o. rw (getD-take (h .points) (t .ticks) i 0 o, getD-take (h .points) (t .travels) i 0 o))
       (points-body h n b (rw (q .pointblock) at m))
       (rw (q .points, q .pointblock) at w)
 
 -- THE FILE, block after block
-pub file-more : (f : ℕ → ℕ) (b : ℕ) (old mid new : List ℕ) → Filled 0 (512 * b) f old mid → Filled (512 * b) (512 * (b + 1)) f mid new → Filled 0 (512 * (b + 1)) f old new
-file-more f b old mid new g h = fill-join f 0 (512 * b) (512 * (b + 1)) old mid new (omega arith) (omega arith) g h
+pub file-more : (f : ℕ → ℕ) (b : ℕ) (old mid new : List ℕ) → Filled 0 (blockSize * b) f old mid
+    → Filled (blockSize * b) (blockSize * (b + 1)) f mid new → Filled 0 (blockSize * (b + 1)) f old new
+file-more f b old mid new g h =
+    fill-join f 0 (blockSize * b) (blockSize * (b + 1)) old mid new (omega arith) (omega arith) g h
 
-module _ {h : Header} {l : Layout} (c t d k x v : List ℕ) (p : Packable h l (length c) (length t) (length d) (length k) (length x) (length v)) where
-  pub packed-header : headerOf (networkOf h c t d k x v) ≡ h
+module _ {h : Header} {l : Layout} (t : Tables) (p : Packable h l t) where
+  pub packed-header : headerOf (networkOf h t) ≡ h
   packed-header =
       let q = layout-blocks h l (p .is) in
       λ i. record {
         number = h .number;
         period = h .period;
-        nodes = length-take-le (h .nodes) c (rw (q .nodes) at (p .room .cells-room)) i;
-        arcs = length-take-le (h .arcs) t (rw (q .arcs) at (p .room .tails-room)) i;
+        nodes = length-take-le (h .nodes) (t .cells) (rw (q .nodes) at (p .room .cells-room)) i;
+        arcs = length-take-le (h .arcs) (t .tails) (rw (q .arcs) at (p .room .tails-room)) i;
         cells = h .cells;
-        points = length-take-le (h .points) x (rw (q .points) at (p .room .ticks-room)) i;
+        points = length-take-le (h .points) (t .ticks) (rw (q .points) at (p .room .ticks-room)) i;
       }
 
-  pub file-whole : (b : ℕ) (old new : List ℕ) → 512 * l .blocks ≤ length old → Filled 0 (512 * b) (fileByte (bodyBy h (networkOf h c t d k x v))) old new
-      → b ≤ l .blocks → l .blocks ≤ b → new ≡ overwritten (encode (networkOf h c t d k x v)) old
+  pub file-whole : (b : ℕ) (old new : List ℕ) → blockSize * l .blocks ≤ length old
+      → Filled 0 (blockSize * b) (fileByte (bodyBy h (networkOf h t))) old new
+      → b ≤ l .blocks → l .blocks ≤ b → new ≡ overwritten (encode (networkOf h t)) old
   unfolding encode
   file-whole b old new r w y z =
-      let n = networkOf h c t d k x v in
+      let n = networkOf h t in
       let e : b ≡ allBlocks h = omega (arith, layout-blocks h l (p .is) .all) in
-      let f : new ≡ overwritten (encodeBy h n) old = rw length-tab (filled-list (fileByte (bodyBy h n)) (512 * allBlocks h) old new (omega arith) (rw e at w)) in
+      let f : new ≡ overwritten (encodeBy h n) old =
+      rw length-tab (filled-list (fileByte (bodyBy h n)) (blockSize * allBlocks h) old new (omega arith)
+      (rw e at w)) in
       subst⁻¹ (λ (y : Header). new ≡ overwritten (encodeBy y n) old) packed-header f
 
 -- for `search blockwise` where a block is written

@@ -1,9 +1,14 @@
-// The file of a network, written block by block from its start on. specs/Encode.antt says which bytes these are, and specs/Block.antt that a head,
-// entries, zeros and a check make a block of them.
+// The file of a network, written block by block from its start on. specs/Encode.antt says which bytes these
+// are, and specs/BlockWritten.antt that a head, entries, zeros and a check make a block of them.
+use file_blocks::kind;
 use file_blocks::place::entries_in;
 use file_blocks::write::write_check;
 use file_blocks::write::write_head;
 use file_blocks::write::write_zeros;
+use file_fields::BLOCK;
+use file_fields::ENTRIES;
+use file_fields::HEAD;
+use file_fields::SUMMED;
 use file_fields::fields::put16;
 use file_fields::fields::put32;
 use network::header::Header;
@@ -12,13 +17,20 @@ ghost use mathlib.Core.Path.{_≡_};
 ghost use Prim.Native.Nat.{_+_, _*_, _^_, _≤_, _<_};
 ghost use lib.ListN.{length};
 ghost use Rattle.theory_loops.specs.Fill.{Filled, overwritten};
+ghost use Rattle.file_fields.specs.Block.{blockSize, headSize};
+ghost use Rattle.file_blocks.specs.Kind.{networkKind, networkSize, cellKind, cellSize, cellPer};
+ghost use Rattle.file_blocks.specs.Kind.{arcKind, arcSize, arcPer, pointKind, pointSize, pointPer};
 ghost use Rattle.file_blocks.specs.Bytes.{fileByte};
 ghost use Rattle.file_fields.specs.Put.{put};
 ghost use Rattle.file_blocks.specs.Run.{runBody, headerBody};
-ghost use Rattle.network.specs.Limits.{Within};
+ghost use Rattle.network.specs.Limits.{WithinLimits};
+ghost use Rattle.network.specs.Tables.{tables, networkOf};
 ghost use Rattle.network_encode.specs.Encode.{headerByte, cellByte, arcByte, pointByte, bodyBy, encode};
-ghost use Rattle.network_encode.specs.Block.{partByte, InRun};
-ghost use Rattle.network_encode.specs.Tables.{networkOf, Packable};
+ghost use Rattle.network_encode.specs.Entries.{partByte, InRun};
+ghost use Rattle.network_encode.specs.Packable.{Packable};
+
+// The bytes of block 0 that its head and its one entry take.
+const USED: usize = HEAD + kind::NETWORK_SIZE;
 
 // Two fields of two bytes, one behind the other.
 fn put_two(out: &mut [u8], o: usize, x: u16, y: u16)
@@ -40,9 +52,11 @@ fn put_three(out: &mut [u8], o: usize, x: u16, y: u16, z: u16)
 
 // The header's fields, as the one entry of block 0.
 fn put_header(out: &mut [u8], h: Header)
-    requires { ⌜ Within h ⌝ }
-    requires { ⌜ (h .number < 2 ^ 32) × (24 ≤ length (now out)) ⌝ }
-    ensures { λ _. ⌜ Filled 8 24 (partByte 16 (λ _. headerByte h) 8 0) (now (out .entry)) (now (out .exit)) ⌝ }
+    requires { ⌜ WithinLimits h ⌝ }
+    requires { ⌜ (h .number < 2 ^ 32) × (headSize + networkSize ≤ length (now out)) ⌝ }
+    ensures { λ _. ⌜ Filled headSize (headSize + networkSize)
+        (partByte networkSize (λ _. headerByte h) headSize 0)
+        (now (out .entry)) (now (out .exit)) ⌝ }
 {
     put32(out, 8, h.number);
     put16(out, 12, h.period);
@@ -54,11 +68,13 @@ fn put_header(out: &mut [u8], h: Header)
 
 // The m cells from node `first` on, written from byte `base` on.
 fn put_cells(out: &mut [u8], base: usize, first: usize, m: usize, cells: &[u16])
-    requires { ⌜ (base + 2 * m ≤ length (now out)) × (first + m ≤ length (now cells)) ⌝ }
-    ensures { λ _. ⌜ Filled base (base + 2 * m) (partByte 2 (cellByte (now (cells .entry))) base first) (now (out .entry)) (now (out .exit)) ⌝ }
+    requires { ⌜ (base + cellSize * m ≤ length (now out)) × (first + m ≤ length (now cells)) ⌝ }
+    ensures { λ _. ⌜ Filled base (base + cellSize * m)
+        (partByte cellSize (cellByte (now (cells .entry))) base first) (now (out .entry))
+        (now (out .exit)) ⌝ }
 {
     for e in 0..m {
-        put16(out, base + 2 * e, cells[first + e]);
+        put16(out, base + kind::CELL_SIZE * e, cells[first + e]);
     }
 }
 
@@ -72,51 +88,65 @@ fn put_arcs(
     heads: &[u16],
     counts: &[u16],
 )
-    requires { ⌜ base + 6 * m ≤ length (now out) ⌝ }
-    requires { ⌜ (first + m ≤ length (now tails)) × (first + m ≤ length (now heads)) × (first + m ≤ length (now counts)) ⌝ }
-    ensures { λ _. ⌜ Filled base (base + 6 * m) (partByte 6 (arcByte (now (tails .entry)) (now (heads .entry)) (now (counts .entry))) base first) (now (out .entry)) (now (out .exit)) ⌝ }
+    requires { ⌜ base + arcSize * m ≤ length (now out) ⌝ }
+    requires { ⌜ (first + m ≤ length (now tails)) × (first + m ≤ length (now heads))
+        × (first + m ≤ length (now counts)) ⌝ }
+    ensures { λ _. ⌜ Filled base (base + arcSize * m)
+        (partByte arcSize (arcByte (now (tails .entry)) (now (heads .entry)) (now (counts .entry))) base
+        first) (now (out .entry)) (now (out .exit)) ⌝ }
 {
     for e in 0..m {
         let a = first + e;
-        put_three(out, base + 6 * e, tails[a], heads[a], counts[a]);
+        put_three(
+            out,
+            base + kind::ARC_SIZE * e,
+            tails[a],
+            heads[a],
+            counts[a],
+        );
     }
 }
 
 // The m points from point `first` on.
 fn put_points(out: &mut [u8], base: usize, first: usize, m: usize, ticks: &[u16], travels: &[u16])
-    requires { ⌜ base + 4 * m ≤ length (now out) ⌝ }
+    requires { ⌜ base + pointSize * m ≤ length (now out) ⌝ }
     requires { ⌜ (first + m ≤ length (now ticks)) × (first + m ≤ length (now travels)) ⌝ }
-    ensures { λ _. ⌜ Filled base (base + 4 * m) (partByte 4 (pointByte (now (ticks .entry)) (now (travels .entry))) base first) (now (out .entry)) (now (out .exit)) ⌝ }
+    ensures { λ _. ⌜ Filled base (base + pointSize * m)
+        (partByte pointSize (pointByte (now (ticks .entry)) (now (travels .entry))) base first)
+        (now (out .entry)) (now (out .exit)) ⌝ }
 {
     for e in 0..m {
         let q = first + e;
-        put_two(out, base + 4 * e, ticks[q], travels[q]);
+        put_two(out, base + kind::POINT_SIZE * e, ticks[q], travels[q]);
     }
 }
 
 // Block 0.
 fn header_block(out: &mut [u8], h: Header)
-    requires { ⌜ Within h ⌝ }
-    requires { ⌜ (h .number < 2 ^ 32) × (512 ≤ length (now out)) ⌝ }
-    ensures { λ _. ⌜ Filled 0 512 (fileByte (headerBody 1 16 (headerByte h))) (now (out .entry)) (now (out .exit)) ⌝ }
+    requires { ⌜ WithinLimits h ⌝ }
+    requires { ⌜ (h .number < 2 ^ 32) × (blockSize ≤ length (now out)) ⌝ }
+    ensures { λ _. ⌜ Filled 0 blockSize (fileByte (headerBody networkKind networkSize (headerByte h)))
+        (now (out .entry)) (now (out .exit)) ⌝ }
 {
-    write_head(out, 0, 1, 1);
+    write_head(out, 0, kind::NETWORK, 1);
     put_header(out, h);
-    write_zeros(out, 24, 508);
+    write_zeros(out, USED, SUMMED);
     write_check(out, 0);
 }
 
 // Block b, one of the cells' run.
 fn cells_block(out: &mut [u8], b: usize, nodes: usize, cells: &[u16])
-    requires { ⌜ InRun 1 250 nodes b (length (now out)) ⌝ }
+    requires { ⌜ InRun 1 cellPer nodes b (length (now out)) ⌝ }
     requires { ⌜ nodes ≤ length (now cells) ⌝ }
-    ensures { λ _. ⌜ Filled (512 * b) (512 * (b + 1)) (fileByte (runBody 2 250 2 nodes (cellByte (now (cells .entry))) 1)) (now (out .entry)) (now (out .exit)) ⌝ }
+    ensures { λ _. ⌜ Filled (blockSize * b) (blockSize * (b + 1))
+        (fileByte (runBody cellKind cellPer cellSize nodes (cellByte (now (cells .entry))) 1))
+        (now (out .entry)) (now (out .exit)) ⌝ }
 {
-    let at = 512 * b + 8;
-    let m = entries_in(250, nodes, b - 1);
-    write_head(out, b, 2, m);
-    put_cells(out, at, 250 * (b - 1), m, cells);
-    write_zeros(out, at + 2 * m, at + 500);
+    let at = BLOCK * b + HEAD;
+    let m = entries_in(kind::CELL_PER, nodes, b - 1);
+    write_head(out, b, kind::CELL, m);
+    put_cells(out, at, kind::CELL_PER * (b - 1), m, cells);
+    write_zeros(out, at + kind::CELL_SIZE * m, at + ENTRIES);
     write_check(out, b);
 }
 
@@ -130,15 +160,18 @@ fn arcs_block(
     heads: &[u16],
     counts: &[u16],
 )
-    requires { ⌜ InRun from 83 arcs b (length (now out)) ⌝ }
+    requires { ⌜ InRun from arcPer arcs b (length (now out)) ⌝ }
     requires { ⌜ (arcs ≤ length (now tails)) × (arcs ≤ length (now heads)) × (arcs ≤ length (now counts)) ⌝ }
-    ensures { λ _. ⌜ Filled (512 * b) (512 * (b + 1)) (fileByte (runBody 3 83 6 arcs (arcByte (now (tails .entry)) (now (heads .entry)) (now (counts .entry))) from)) (now (out .entry)) (now (out .exit)) ⌝ }
+    ensures { λ _. ⌜ Filled (blockSize * b) (blockSize * (b + 1))
+        (fileByte (runBody arcKind arcPer arcSize arcs
+        (arcByte (now (tails .entry)) (now (heads .entry)) (now (counts .entry))) from))
+        (now (out .entry)) (now (out .exit)) ⌝ }
 {
-    let at = 512 * b + 8;
-    let m = entries_in(83, arcs, b - from);
-    write_head(out, b, 3, m);
-    put_arcs(out, at, 83 * (b - from), m, tails, heads, counts);
-    write_zeros(out, at + 6 * m, at + 500);
+    let at = BLOCK * b + HEAD;
+    let m = entries_in(kind::ARC_PER, arcs, b - from);
+    write_head(out, b, kind::ARC, m);
+    put_arcs(out, at, kind::ARC_PER * (b - from), m, tails, heads, counts);
+    write_zeros(out, at + kind::ARC_SIZE * m, at + ENTRIES);
     write_check(out, b);
 }
 
@@ -151,15 +184,18 @@ fn points_block(
     ticks: &[u16],
     travels: &[u16],
 )
-    requires { ⌜ InRun from 125 points b (length (now out)) ⌝ }
+    requires { ⌜ InRun from pointPer points b (length (now out)) ⌝ }
     requires { ⌜ (points ≤ length (now ticks)) × (points ≤ length (now travels)) ⌝ }
-    ensures { λ _. ⌜ Filled (512 * b) (512 * (b + 1)) (fileByte (runBody 4 125 4 points (pointByte (now (ticks .entry)) (now (travels .entry))) from)) (now (out .entry)) (now (out .exit)) ⌝ }
+    ensures { λ _. ⌜ Filled (blockSize * b) (blockSize * (b + 1))
+        (fileByte (runBody pointKind pointPer pointSize points
+        (pointByte (now (ticks .entry)) (now (travels .entry))) from)) (now (out .entry))
+        (now (out .exit)) ⌝ }
 {
-    let at = 512 * b + 8;
-    let m = entries_in(125, points, b - from);
-    write_head(out, b, 4, m);
-    put_points(out, at, 125 * (b - from), m, ticks, travels);
-    write_zeros(out, at + 4 * m, at + 500);
+    let at = BLOCK * b + HEAD;
+    let m = entries_in(kind::POINT_PER, points, b - from);
+    write_head(out, b, kind::POINT, m);
+    put_points(out, at, kind::POINT_PER * (b - from), m, ticks, travels);
+    write_zeros(out, at + kind::POINT_SIZE * m, at + ENTRIES);
     write_check(out, b);
 }
 
@@ -176,9 +212,14 @@ fn write_block(
     ticks: &[u16],
     travels: &[u16],
 )
-    requires { ⌜ Packable h l (length (now cells)) (length (now tails)) (length (now heads)) (length (now counts)) (length (now ticks)) (length (now travels)) ⌝ }
-    requires { ⌜ (b < l .blocks) × (512 * l .blocks ≤ length (now out)) ⌝ }
-    ensures { λ _. ⌜ Filled (512 * b) (512 * (b + 1)) (fileByte (bodyBy h (networkOf h (now (cells .entry)) (now (tails .entry)) (now (heads .entry)) (now (counts .entry)) (now (ticks .entry)) (now (travels .entry))))) (now (out .entry)) (now (out .exit)) ⌝ }
+    requires { ⌜ Packable h l
+        (tables (now cells) (now tails) (now heads) (now counts) (now ticks) (now travels)) ⌝ }
+    requires { ⌜ (b < l .blocks) × (blockSize * l .blocks ≤ length (now out)) ⌝ }
+    ensures { λ _. ⌜ Filled (blockSize * b) (blockSize * (b + 1))
+        (fileByte (bodyBy h (networkOf h
+        (tables (now (cells .entry)) (now (tails .entry)) (now (heads .entry)) (now (counts .entry))
+        (now (ticks .entry)) (now (travels .entry)))))) (now (out .entry))
+        (now (out .exit)) ⌝ }
 {
     if b < 1 {
         header_block(out, h);
@@ -207,9 +248,13 @@ pub fn encode_network(
     ticks: &[u16],
     travels: &[u16],
 )
-    requires { ⌜ Packable h l (length (now cells)) (length (now tails)) (length (now heads)) (length (now counts)) (length (now ticks)) (length (now travels)) ⌝ }
-    requires { ⌜ 512 * l .blocks ≤ length (now out) ⌝ }
-    ensures { λ _. ⌜ now (out .exit) ≡ overwritten (encode (networkOf h (now (cells .entry)) (now (tails .entry)) (now (heads .entry)) (now (counts .entry)) (now (ticks .entry)) (now (travels .entry)))) (now (out .entry)) ⌝ }
+    requires { ⌜ Packable h l
+        (tables (now cells) (now tails) (now heads) (now counts) (now ticks) (now travels)) ⌝ }
+    requires { ⌜ blockSize * l .blocks ≤ length (now out) ⌝ }
+    ensures { λ _. ⌜ now (out .exit) ≡ overwritten
+        (encode (networkOf h
+        (tables (now (cells .entry)) (now (tails .entry)) (now (heads .entry)) (now (counts .entry))
+        (now (ticks .entry)) (now (travels .entry))))) (now (out .entry)) ⌝ }
 {
     for b in 0..l.blocks {
         write_block(out, h, l, b, cells, tails, heads, counts, ticks, travels);

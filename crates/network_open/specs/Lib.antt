@@ -1,2 +1,3 @@
--- What Open answers, and what it leaves in the lent tables.
+-- Opening a network: the answer and the lent tables (Open), and which numbers its refusals have (Numbers).
 pub mod Open
+pub mod Numbers

@@ -1,6 +1,8 @@
 // Open: the tables of a network file, written into lent tables once nothing is refused.
 use crate::validate::validate;
+use file_blocks::kind;
 use file_blocks::place::decode16;
+use file_refusals::number;
 use network::answer::Opening;
 use network::answer::refused;
 use network::header::Header;
@@ -8,9 +10,10 @@ use network::header::Layout;
 ghost use mathlib.Core.Path.{_≡_};
 ghost use Prim.Native.Nat.{_≤_};
 ghost use lib.ListN.{length};
+ghost use Rattle.network.specs.Tables.{tables, each};
 ghost use Rattle.network.specs.Decode.{decode, Laid};
 ghost use Rattle.theory_loops.specs.Fill.{overwritten};
-ghost use Rattle.network_open.specs.Open.{tooShort, opening, Room, tableAfter};
+ghost use Rattle.network_open.specs.Open.{tooShortBy, Room, OpenCall};
 
 // Refusal 30: has a table of these lengths no room for the header's counts?
 pub fn is_short(
@@ -22,7 +25,7 @@ pub fn is_short(
     ticks: usize,
     travels: usize,
 ) -> bool
-    ensures { λ r. ⌜ r ≡ tooShort h cells tails heads counts ticks travels ⌝ }
+    ensures { λ r. ⌜ r ≡ tooShortBy h cells tails heads counts ticks travels ⌝ }
 {
     let nodes = h.nodes as usize;
     let arcs = h.arcs as usize;
@@ -49,30 +52,78 @@ pub fn is_short(
 fn write_cells(file: &[u8], l: Layout, cells: &mut [u16])
     requires { ⌜ Laid (now file) l ⌝ }
     requires { ⌜ l .nodes ≤ length (now cells) ⌝ }
-    ensures { λ _. ⌜ now (cells .exit) ≡ overwritten (decode (now (file .entry)) .cellOf) (now (cells .entry)) ⌝ }
+    ensures { λ _. ⌜ now (cells .exit) ≡ overwritten (decode (now (file .entry)) .cellOf) (now (cells .entry))
+        ⌝ }
 {
-    decode16(file, 1, 250, 2, 0, l.nodes, cells);
+    decode16(file, 1, kind::CELL_PER, kind::CELL_SIZE, 0, l.nodes, cells);
 }
 
 // The tails, heads and counts of the arcs.
 fn write_arcs(file: &[u8], l: Layout, tails: &mut [u16], heads: &mut [u16], counts: &mut [u16])
     requires { ⌜ Laid (now file) l ⌝ }
-    requires { ⌜ (l .arcs ≤ length (now tails)) × (l .arcs ≤ length (now heads)) × (l .arcs ≤ length (now counts)) ⌝ }
-    ensures { λ _. ⌜ (now (tails .exit) ≡ overwritten (decode (now (file .entry)) .tails) (now (tails .entry))) × (now (heads .exit) ≡ overwritten (decode (now (file .entry)) .heads) (now (heads .entry))) × (now (counts .exit) ≡ overwritten (decode (now (file .entry)) .counts) (now (counts .entry))) ⌝ }
+    requires { ⌜ (l .arcs ≤ length (now tails)) × (l .arcs ≤ length (now heads))
+        × (l .arcs ≤ length (now counts)) ⌝ }
+    ensures { λ _. ⌜ (now (tails .exit) ≡ overwritten (decode (now (file .entry)) .tails)
+        (now (tails .entry)))
+        × (now (heads .exit) ≡ overwritten (decode (now (file .entry)) .heads) (now (heads .entry)))
+        × (now (counts .exit) ≡ overwritten (decode (now (file .entry)) .counts) (now (counts .entry))) ⌝ }
 {
-    decode16(file, l.arcblock, 83, 6, 0, l.arcs, tails);
-    decode16(file, l.arcblock, 83, 6, 2, l.arcs, heads);
-    decode16(file, l.arcblock, 83, 6, 4, l.arcs, counts);
+    decode16(
+        file,
+        l.arcblock,
+        kind::ARC_PER,
+        kind::ARC_SIZE,
+        0,
+        l.arcs,
+        tails,
+    );
+    decode16(
+        file,
+        l.arcblock,
+        kind::ARC_PER,
+        kind::ARC_SIZE,
+        2,
+        l.arcs,
+        heads,
+    );
+    decode16(
+        file,
+        l.arcblock,
+        kind::ARC_PER,
+        kind::ARC_SIZE,
+        4,
+        l.arcs,
+        counts,
+    );
 }
 
 // The ticks and travels of the points.
 fn write_points(file: &[u8], l: Layout, ticks: &mut [u16], travels: &mut [u16])
     requires { ⌜ Laid (now file) l ⌝ }
     requires { ⌜ (l .points ≤ length (now ticks)) × (l .points ≤ length (now travels)) ⌝ }
-    ensures { λ _. ⌜ (now (ticks .exit) ≡ overwritten (decode (now (file .entry)) .ticks) (now (ticks .entry))) × (now (travels .exit) ≡ overwritten (decode (now (file .entry)) .travels) (now (travels .entry))) ⌝ }
+    ensures { λ _. ⌜ (now (ticks .exit) ≡ overwritten (decode (now (file .entry)) .ticks)
+        (now (ticks .entry)))
+        × (now (travels .exit) ≡ overwritten (decode (now (file .entry)) .travels) (now (travels .entry)))
+        ⌝ }
 {
-    decode16(file, l.pointblock, 125, 4, 0, l.points, ticks);
-    decode16(file, l.pointblock, 125, 4, 2, l.points, travels);
+    decode16(
+        file,
+        l.pointblock,
+        kind::POINT_PER,
+        kind::POINT_SIZE,
+        0,
+        l.points,
+        ticks,
+    );
+    decode16(
+        file,
+        l.pointblock,
+        kind::POINT_PER,
+        kind::POINT_SIZE,
+        2,
+        l.points,
+        travels,
+    );
 }
 
 // All six tables.
@@ -87,17 +138,21 @@ fn write_tables(
     travels: &mut [u16],
 )
     requires { ⌜ Laid (now file) l ⌝ }
-    requires { ⌜ Room l (length (now cells)) (length (now tails)) (length (now heads)) (length (now counts)) (length (now ticks)) (length (now travels)) ⌝ }
-    ensures nodes { λ _. ⌜ now (cells .exit) ≡ overwritten (decode (now (file .entry)) .cellOf) (now (cells .entry)) ⌝ }
-    ensures arcs { λ _. ⌜ (now (tails .exit) ≡ overwritten (decode (now (file .entry)) .tails) (now (tails .entry))) × (now (heads .exit) ≡ overwritten (decode (now (file .entry)) .heads) (now (heads .entry))) × (now (counts .exit) ≡ overwritten (decode (now (file .entry)) .counts) (now (counts .entry))) ⌝ }
-    ensures points { λ _. ⌜ (now (ticks .exit) ≡ overwritten (decode (now (file .entry)) .ticks) (now (ticks .entry))) × (now (travels .exit) ≡ overwritten (decode (now (file .entry)) .travels) (now (travels .entry))) ⌝ }
+    requires { ⌜ Room l
+        (tables (now cells) (now tails) (now heads) (now counts) (now ticks) (now travels)) ⌝ }
+    ensures { λ _. ⌜ tables (now (cells .exit)) (now (tails .exit)) (now (heads .exit)) (now (counts .exit))
+        (now (ticks .exit)) (now (travels .exit))
+        ≡ each overwritten (decode (now (file .entry)))
+        (tables (now (cells .entry)) (now (tails .entry)) (now (heads .entry)) (now (counts .entry))
+        (now (ticks .entry)) (now (travels .entry))) ⌝ }
 {
     write_cells(file, l, cells);
     write_arcs(file, l, tails, heads, counts);
     write_points(file, l, ticks, travels);
 }
 
-// The header's numbers, with the tables' first entries the network's; or a refusal, with every table as it was.
+// The header's numbers, with the tables' first entries the network's; or a refusal, with every table as it
+// was.
 pub fn open_network(
     file: &[u8],
     cells: &mut [u16],
@@ -107,10 +162,12 @@ pub fn open_network(
     ticks: &mut [u16],
     travels: &mut [u16],
 ) -> Opening
-    ensures answer { λ r. ⌜ r ≡ opening (now (file .entry)) (length (now (cells .entry))) (length (now (tails .entry))) (length (now (heads .entry))) (length (now (counts .entry))) (length (now (ticks .entry))) (length (now (travels .entry))) ⌝ }
-    ensures nodes { λ r. ⌜ now (cells .exit) ≡ tableAfter r (decode (now (file .entry)) .cellOf) (now (cells .entry)) ⌝ }
-    ensures arcs { λ r. ⌜ (now (tails .exit) ≡ tableAfter r (decode (now (file .entry)) .tails) (now (tails .entry))) × (now (heads .exit) ≡ tableAfter r (decode (now (file .entry)) .heads) (now (heads .entry))) × (now (counts .exit) ≡ tableAfter r (decode (now (file .entry)) .counts) (now (counts .entry))) ⌝ }
-    ensures points { λ r. ⌜ (now (ticks .exit) ≡ tableAfter r (decode (now (file .entry)) .ticks) (now (ticks .entry))) × (now (travels .exit) ≡ tableAfter r (decode (now (file .entry)) .travels) (now (travels .entry))) ⌝ }
+    ensures { λ r. ⌜ OpenCall (now (file .entry))
+        (tables (now (cells .entry)) (now (tails .entry)) (now (heads .entry)) (now (counts .entry))
+        (now (ticks .entry)) (now (travels .entry)))
+        (tables (now (cells .exit)) (now (tails .exit)) (now (heads .exit)) (now (counts .exit))
+        (now (ticks .exit)) (now (travels .exit)))
+        r ⌝ }
 {
     match validate(file) {
         Opening::Refused(r) => Opening::Refused(r),
@@ -124,7 +181,7 @@ pub fn open_network(
                 ticks.len(),
                 travels.len(),
             ) {
-                return refused(30, 0);
+                return refused(number::TABLE_SHORT, 0);
             }
             write_tables(
                 file,

@@ -1,24 +1,34 @@
-// Validation of a network file: refusals 1 to 10, in place, each fault found as the first in its order. Nothing is copied, and every call ends
-// at the first refusal.
+// Validation of a network file: refusals 1 to 10, in place, each fault found as the first in its order.
+// Nothing is copied, and every call ends at the first refusal.
 use file_blocks::form::first_unformed;
 use file_blocks::form::is_formed;
+use file_blocks::kind;
 use file_blocks::reader::first_bad_sum;
+use file_fields::BLOCK;
+use file_fields::HEAD;
 use file_fields::fields::le16;
 use file_fields::fields::le32;
 use file_refusals::Judged;
+use file_refusals::number;
 use network::answer::Opening;
 use network::answer::refused;
 use network::header::Header;
 use network::header::Layout;
 use network::header::Made;
+use network::limits::MOST_BYTES;
 use network_rules::rules::judge;
 ghost use mathlib.Core.Path.{_≡_};
 ghost use Prim.Native.Nat.{_+_, _*_, _≤_};
 ghost use lib.ListN.{length};
-ghost use Rattle.network.specs.Limits.{Within};
+ghost use Rattle.file_fields.specs.Block.{blockSize};
+ghost use Rattle.network.specs.Limits.{WithinLimits};
 ghost use Rattle.network.specs.Decode.{headerAt, decode, Laid};
-ghost use Rattle.network.specs.Validate.{badLength, madeAt, firstUnformed, validatedRules, validatedForm, validatedLength, validatedHeader, validatedFirst, validated};
+ghost use Rattle.network.specs.Validate.{badLength, madeAt, firstUnformed, validatedRules, validatedForm};
+ghost use Rattle.network.specs.Validate.{validatedLength, validatedHeader, validatedFirst, validated};
 ghost use Rattle.network.specs.Rules.{judged};
+
+// The bytes of the first block that its head and its one entry take.
+const USED: usize = HEAD + kind::NETWORK_SIZE;
 
 // Refusal 1.
 fn is_bad_length(long: usize) -> bool
@@ -27,15 +37,15 @@ fn is_bad_length(long: usize) -> bool
     if long == 0 {
         return true;
     }
-    if long % 512 != 0 {
+    if long % BLOCK != 0 {
         return true;
     }
-    283648 < long
+    MOST_BYTES < long
 }
 
 // The header that the first block's numbers make.
 fn header_at(file: &[u8]) -> Made
-    requires { ⌜ 512 ≤ length (now file) ⌝ }
+    requires { ⌜ blockSize ≤ length (now file) ⌝ }
     ensures { λ r. ⌜ r ≡ madeAt (now (file .entry)) ⌝ }
 {
     Header::new(
@@ -53,15 +63,37 @@ fn first_bad_form(file: &[u8], l: Layout) -> usize
     requires { ⌜ Laid (now file) l ⌝ }
     ensures { λ r. ⌜ r ≡ firstUnformed (now (file .entry)) (headerAt (now (file .entry))) ⌝ }
 {
-    let i = first_unformed(file, 1, 2, 250, 2, l.nodes);
+    let i = first_unformed(
+        file,
+        1,
+        kind::CELL,
+        kind::CELL_PER,
+        kind::CELL_SIZE,
+        l.nodes,
+    );
     if 1 + i < l.arcblock {
         return 1 + i;
     }
-    let j = first_unformed(file, l.arcblock, 3, 83, 6, l.arcs);
+    let j = first_unformed(
+        file,
+        l.arcblock,
+        kind::ARC,
+        kind::ARC_PER,
+        kind::ARC_SIZE,
+        l.arcs,
+    );
     if l.arcblock + j < l.pointblock {
         return l.arcblock + j;
     }
-    l.pointblock + first_unformed(file, l.pointblock, 4, 125, 4, l.points)
+    let k = first_unformed(
+        file,
+        l.pointblock,
+        kind::POINT,
+        kind::POINT_PER,
+        kind::POINT_SIZE,
+        l.points,
+    );
+    l.pointblock + k
 }
 
 // Refusals 7 to 10.
@@ -83,44 +115,44 @@ fn validate_form(file: &[u8], h: Header, l: Layout) -> Opening
 {
     let b = first_bad_form(file, l);
     if b < l.blocks {
-        return refused(6, b as u32);
+        return refused(number::NETWORK_FORM, b as u32);
     }
     validate_rules(file, h, l)
 }
 
 // Refusals 5 to 10.
 fn validate_length(file: &[u8], h: Header) -> Opening
-    requires { ⌜ Within h ⌝ }
+    requires { ⌜ WithinLimits h ⌝ }
     requires { ⌜ h ≡ headerAt (now file) ⌝ }
     ensures { λ r. ⌜ r ≡ validatedLength (now (file .entry)) h ⌝ }
 {
     let l = h.layout();
-    if file.len() != 512 * l.blocks {
-        return refused(5, 0);
+    if file.len() != BLOCK * l.blocks {
+        return refused(number::NETWORK_SIZE, 0);
     }
     validate_form(file, h, l)
 }
 
 // Refusals 4 to 10.
 fn validate_header(file: &[u8]) -> Opening
-    requires { ⌜ 512 ≤ length (now file) ⌝ }
+    requires { ⌜ blockSize ≤ length (now file) ⌝ }
     ensures { λ r. ⌜ r ≡ validatedHeader (now (file .entry)) (madeAt (now (file .entry))) ⌝ }
 {
     match header_at(file) {
         Made::Inside(h) => validate_length(file, h),
-        Made::Outside => refused(4, 0),
+        Made::Outside => refused(number::NETWORK_LIMITS, 0),
     }
 }
 
 // Refusals 3 to 10.
 fn validate_first(file: &[u8]) -> Opening
-    requires { ⌜ 512 ≤ length (now file) ⌝ }
+    requires { ⌜ blockSize ≤ length (now file) ⌝ }
     ensures { λ r. ⌜ r ≡ validatedFirst (now (file .entry)) ⌝ }
 {
-    if is_formed(file, 0, 1, 1, 24) {
+    if is_formed(file, 0, kind::NETWORK, 1, USED) {
         return validate_header(file);
     }
-    refused(3, 0)
+    refused(number::NETWORK_FIRST, 0)
 }
 
 // The header of a network file, or the lowest of the refusals 1 to 10 and its lowest place.
@@ -128,11 +160,11 @@ pub fn validate(file: &[u8]) -> Opening
     ensures { λ r. ⌜ r ≡ validated (now (file .entry)) ⌝ }
 {
     if is_bad_length(file.len()) {
-        return refused(1, 0);
+        return refused(number::NETWORK_LENGTH, 0);
     }
     let b = first_bad_sum(file);
-    if b < file.len() / 512 {
-        return refused(2, b as u32);
+    if b < file.len() / BLOCK {
+        return refused(number::NETWORK_SUM, b as u32);
     }
     validate_first(file)
 }

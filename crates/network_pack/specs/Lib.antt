@@ -1,7 +1,10 @@
--- Packing a network: the answer and the lent bytes (Pack), both round trips (Holds, RoundTrip, Packed), and the laws for the code (Front).
+-- Packing a network: the answer and the lent bytes (Pack), both round trips (Holds, HoldsRead, RoundTrip,
+-- Packed), and the laws for the code (Front).
 pub mod Answer
 pub mod Holds
+pub mod HoldsRead
 pub mod RoundTrip
 pub mod Pack
+pub mod Numbers
 pub mod Front
 pub mod Packed

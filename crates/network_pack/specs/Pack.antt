@@ -1,13 +1,15 @@
--- Packing a network: the answer, and what becomes of the lent bytes. They are written only where nothing is refused,
--- and then in their first bytes alone, which become the network's file.
-use mathlib.Core.Path.{_≡_, sym, _∙_, ap, subst}
+-- Packing a network: the answer, what becomes of the lent bytes, and the call (`PackCall`). The bytes are
+-- written only where nothing is refused, and then the first of them alone, which become the network's file.
+use mathlib.Core.Path.{_≡_, refl, sym, _∙_, ap, subst}
 use mathlib.Core.Bool.{Bool, true, false, cond}
 use mathlib.Core.List.{List}
 use Prim.Native.Nat.{ℕ, _^_, _≤_, _<_}
 use native.Mathlib.Omega.{arith}
-use lib.ListN.{length, take}
+use lib.ListN.{length}
 use lib.Dec.{ltb}
 use borrow.Author.Tests.{lt-ltb, le-ltb}
+use Rattle.theory_loops.specs.Fill.{overwritten}
+use Rattle.file_refusals.specs.Refusal.{refusal}
 use Rattle.file_refusals.specs.declared.Refusal.{Refusal}
 use Rattle.file_refusals.specs.declared.Judged.{Judged}
 use Rattle.file_refusals.specs.declared.Judged.the-variants.{Sound, Faulty}
@@ -15,28 +17,31 @@ use Rattle.network.specs.declared.header.Header.{Header}
 use Rattle.network.specs.declared.header.Made.{Made}
 use Rattle.network.specs.declared.header.Made.the-variants.{Inside, Outside}
 use Rattle.network.specs.declared.header.Layout.{Layout}
-use Rattle.network_pack.specs.declared.pack.Packing.{Packing}
-use Rattle.network_pack.specs.declared.pack.Packing.the-variants.{Packed, Refused}
-use Rattle.network.specs.Limits.{made, Within, made-within}
+use Rattle.network.specs.Limits.{made, WithinLimits, made-within}
 use Rattle.network.specs.Layout.{layoutOf}
 use Rattle.network.specs.Network.{Network}
-use Rattle.file_refusals.specs.Refusal.{refusal}
+use Rattle.network.specs.Tables.{Tables, networkOf}
 use Rattle.network.specs.Rules.{judged}
-use Rattle.theory_loops.specs.Fill.{overwritten}
-use Rattle.network_open.specs.Open.{tooShort, Room, open-room}
+use Rattle.network_open.specs.Open.{tooShort, open-room}
 use Rattle.network_encode.specs.Encode.{encode}
-use Rattle.network_encode.specs.Tables.{networkOf, Packable}
+use Rattle.network_encode.specs.Packable.{Packable}
+use Rattle.network_pack.specs.declared.pack.Packing.{Packing}
+use Rattle.network_pack.specs.declared.pack.Packing.the-variants.{Packed, Refused}
 
--- the header of these numbers
+-- the header of these numbers, within the limits or not, and what they make
 abbrev pub numbers : ℕ → ℕ → ℕ → ℕ → ℕ → ℕ → Header
-numbers number period nodes arcs cells points = record { number = number; period = period; nodes = nodes; arcs = arcs; cells = cells; points = points }
+numbers number period nodes arcs cells points =
+    record { number = number; period = period; nodes = nodes; arcs = arcs; cells = cells; points = points }
 
-abbrev pub refused : ℕ → Packing
-refused number = Refused (refusal number 0)
+abbrev pub madeOf : Header → Made
+madeOf h = made (h .number) (h .period) (h .nodes) (h .arcs) (h .cells) (h .points)
+
+abbrev pub unpacked : ℕ → Packing
+unpacked number = Refused (refusal number 0)
 
 -- 31: fewer lent bytes than the file has; else its length
 unfoldable pub packedInto : ℕ → ℕ → Packing
-packedInto long room = cond (ltb room long) (refused 31) (Packed (record { bytes = long }))
+packedInto long room = cond (ltb room long) (unpacked 31) (Packed (record { bytes = long }))
 
 -- 7 to 10
 abbrev pub packedRules : Judged → ℕ → ℕ → Packing
@@ -44,80 +49,115 @@ packedRules Sound long room = packedInto long room
 packedRules (Faulty r) long room = Refused r
 
 -- 30: a table shorter than its count
-unfoldable pub packedTables : Header → List ℕ → List ℕ → List ℕ → List ℕ → List ℕ → List ℕ → ℕ → Packing
-packedTables h cells tails heads counts ticks travels room =
-    let n = networkOf h cells tails heads counts ticks travels in
-    cond (tooShort h (length cells) (length tails) (length heads) (length counts) (length ticks) (length travels)) (refused 30)
-    (packedRules (judged n) (length (encode n)) room)
+unfoldable pub packedTables : Header → Tables → ℕ → Packing
+packedTables h t room =
+    let n = networkOf h t in
+    cond (tooShort h t) (unpacked 30) (packedRules (judged n) (length (encode n)) room)
 
 -- 4: numbers outside the limits
-abbrev pub packedMade : Made → List ℕ → List ℕ → List ℕ → List ℕ → List ℕ → List ℕ → ℕ → Packing
-packedMade (Inside h) cells tails heads counts ticks travels room = packedTables h cells tails heads counts ticks travels room
-packedMade Outside cells tails heads counts ticks travels room = refused 4
+abbrev pub packedMade : Made → Tables → ℕ → Packing
+packedMade (Inside h) t room = packedTables h t room
+packedMade Outside t room = unpacked 4
 
--- Pack's answer by the numbers, the six tables, and how many bytes are lent
-abbrev pub packing : ℕ → ℕ → ℕ → ℕ → ℕ → ℕ → List ℕ → List ℕ → List ℕ → List ℕ → List ℕ → List ℕ → ℕ → Packing
-packing number period nodes arcs cells points = packedMade (made number period nodes arcs cells points)
+-- Pack's answer by the numbers, the tables, and how many bytes are lent
+abbrev pub packing : Header → Tables → ℕ → Packing
+packing h = packedMade (madeOf h)
 
 -- the lent bytes at exit, by the answer
 abbrev pub bytesAfter : Packing → List ℕ → List ℕ → List ℕ
 bytesAfter (Packed l) file old = overwritten file old
 bytesAfter (Refused r) file old = old
 
--- FOR THE LADDER
-module _ (r : Packing) (long room : ℕ) where
-  pub into-short : room < long → r ≡ refused 31 → r ≡ packedInto long room
+-- an answer with the bytes that it leaves: the first of them the file's, or all as they were
+pub record Packs (told : Packing) (file before after : List ℕ) (r : Packing) : Type 0 where
+  pub answer : r ≡ told
+  pub written : after ≡ bytesAfter r file before
+
+-- the same for a network, and for a header and tables
+abbrev pub PacksNetwork : Network → List ℕ → List ℕ → Packing → Type 0
+PacksNetwork n before after r =
+    Packs (packedRules (judged n) (length (encode n)) (length before)) (encode n) before after r
+
+abbrev pub PacksTables : Header → Tables → List ℕ → List ℕ → Packing → Type 0
+PacksTables h t before after r =
+    Packs (packedTables h t (length before)) (encode (networkOf h t)) before after r
+
+-- THE CALL: what Pack answers for numbers, tables and lent bytes, and the bytes that it leaves
+pub record PackCall (h : Header) (t : Tables) (before after : List ℕ) (r : Packing) : Type 0 where
+  pub answer : r ≡ packing h t (length before)
+  pub written : after ≡ bytesAfter r (encode (networkOf h t)) before
+
+-- FOR THE CODE: a refusal leaves the bytes as they are
+pub packs-refused : (told : Packing) (file old : List ℕ) (number : ℕ) (r : Packing) → r ≡ unpacked number
+    → r ≡ told
+    → Packs told file old old r
+packs-refused told file old number r e f = record { answer = f; written = rw e }
+
+-- 31
+module _ (file before : List ℕ) where
+  pub into-short : (r : Packing) → length before < length file → r ≡ unpacked 31
+      → Packs (packedInto (length file) (length before)) file before before r
   unfolding packedInto
-  into-short l e = rw (lt-ltb room long l) e
+  into-short r l e = packs-refused _ file before 31 r e (rw (lt-ltb (length before) (length file) l) e)
 
-  pub into-whole : long ≤ room → r ≡ Packed (record { bytes = long }) → r ≡ packedInto long room
+  pub into-whole : (after : List ℕ) → length file ≤ length before → after ≡ overwritten file before
+      → Packs (packedInto (length file) (length before)) file before after
+      (Packed (record { bytes = length file }))
   unfolding packedInto
-  into-whole l e = rw (le-ltb room long l) e
+  into-whole after l e = record { answer = rw (le-ltb (length before) (length file) l); written = e }
 
-  pub rules-sound : (j k : Judged) → j ≡ k → j ≡ Sound → r ≡ packedInto long room → r ≡ packedRules k long room
-  rules-sound j k e f g = rw (← e, f) g
+-- 7 to 10
+module _ (file before after : List ℕ) (long room : ℕ) (j k : Judged) (e : j ≡ k) where
+  pub rules-sound : (r : Packing) → j ≡ Sound → Packs (packedInto long room) file before after r
+      → Packs (packedRules k long room) file before after r
+  rules-sound r f p = record { answer = rw (← e, f) (p .answer); written = p .written }
 
-  pub rules-faulty : (j k : Judged) (q : Refusal) → j ≡ k → j ≡ Faulty q → r ≡ Refused q → r ≡ packedRules k long room
-  rules-faulty j k q e f g = rw (← e, f) g
-
--- a refusal leaves the bytes as they are
-pub short-bytes : (number : ℕ) (r : Packing) (file old : List ℕ) → r ≡ refused number → old ≡ bytesAfter r file old
-short-bytes number r file old e = rw e
+  pub rules-faulty : (q : Refusal) → j ≡ Faulty q
+      → Packs (packedRules k long room) file before before (Refused q)
+  rules-faulty q f = record { answer = rw (← e, f); written = refl }
 
 -- 30
-module _ (h : Header) (c t d k x v : List ℕ) (room : ℕ) (y : Bool) (e : y ≡ tooShort h (length c) (length t) (length d) (length k) (length x) (length v)) (r : Packing) where
-  pub tables-short : y ≡ true → r ≡ refused 30 → r ≡ packedTables h c t d k x v room
+module _ (h : Header) (t : Tables) (before : List ℕ) (y : Bool) (e : y ≡ tooShort h t) (r : Packing) where
+  pub tables-short : y ≡ true → r ≡ unpacked 30
+      → PacksTables h t before before r
   unfolding packedTables
-  tables-short f g = rw (← e, f) g
+  tables-short f g = packs-refused _ _ before 30 r g (rw (← e, f) g)
 
-  pub tables-long : y ≡ false → r ≡ packedRules (judged (networkOf h c t d k x v)) (length (encode (networkOf h c t d k x v))) room → r ≡ packedTables h c t d k x v room
+  pub tables-long : (after : List ℕ) → y ≡ false
+      → PacksNetwork (networkOf h t) before after r → PacksTables h t before after r
   unfolding packedTables
-  tables-long f g = rw (← e, f) g
+  tables-long after f p = record { answer = rw (← e, f) (p .answer); written = p .written }
 
 -- tables that are long enough can be written
-pub now-packable : (h : Header) (l : Layout) (c t d k x v : ℕ) (y : Bool) → Within h → h .number < 2 ^ 32 → l ≡ layoutOf h → y ≡ tooShort h c t d k x v → y ≡ false
-    → Packable h l c t d k x v
-now-packable h l c t d k x v y w f i e g = record { within = w; number-fits = f; is = i; room = open-room h l c t d k x v y e g i }
-
--- 4
-module _ (m k : Made) (e : m ≡ k) (c t d q x v : List ℕ) (room : ℕ) (r : Packing) where
-  pub numbers-inside : (h : Header) → m ≡ Inside h → r ≡ packedTables h c t d q x v room → r ≡ packedMade k c t d q x v room
-  numbers-inside h f g = rw (← e, f) g
-
-  pub numbers-outside : m ≡ Outside → r ≡ refused 4 → r ≡ packedMade k c t d q x v room
-  numbers-outside f g = rw (← e, f) g
+pub now-packable : (h : Header) (l : Layout) (t : Tables) (y : Bool) → WithinLimits h → h .number < 2 ^ 32
+    → l ≡ layoutOf h
+    → y ≡ tooShort h t → y ≡ false → Packable h l t
+now-packable h l t y w f i e g =
+    record { within = w; number-fits = f; is = i; room = open-room h l t y e g i }
 
 -- numbers that make a header make theirs
-module _ (number period nodes arcs cells points : ℕ) (m : Made) (e : m ≡ made number period nodes arcs cells points) (h : Header) (f : m ≡ Inside h) where
-  inside : Within h × (h ≡ numbers number period nodes arcs cells points)
+module _ (number period nodes arcs cells points : ℕ) (m : Made)
+    (e : m ≡ made number period nodes arcs cells points) (h : Header) (f : m ≡ Inside h) where
+  inside : WithinLimits h × (h ≡ numbers number period nodes arcs cells points)
   inside = made-within number period nodes arcs cells points h (sym e ∙ f)
 
-  pub inside-within : Within h
+  pub inside-within : WithinLimits h
   inside-within = inside .0
 
   pub inside-number : number < 2 ^ 32 → h .number < 2 ^ 32
   inside-number l = let q : h .number ≡ number = ap (λ (y : Header). y .number) (inside .1) in omega arith
 
-  pub inside-bytes : (c t d k x v : List ℕ) (r : Packing) (old after : List ℕ) → after ≡ bytesAfter r (encode (networkOf h c t d k x v)) old
-      → after ≡ bytesAfter r (encode (networkOf (numbers number period nodes arcs cells points) c t d k x v)) old
-  inside-bytes c t d k x v r old after g = subst (λ (y : Header). after ≡ bytesAfter r (encode (networkOf y c t d k x v)) old) (inside .1) g
+-- 4
+module _ (g : Header) (t : Tables) (before : List ℕ) (m : Made) (e : m ≡ madeOf g) where
+  pub numbers-outside : (r : Packing) → m ≡ Outside → r ≡ unpacked 4 → PackCall g t before before r
+  numbers-outside r f q = record { answer = rw (← e, f) q; written = rw q }
+
+  pub numbers-inside : (h : Header) → m ≡ Inside h → (after : List ℕ) (r : Packing)
+      → PacksTables h t before after r → PackCall g t before after r
+  numbers-inside h f after r p =
+      let q : h ≡ g = made-within (g .number) (g .period) (g .nodes) (g .arcs) (g .cells) (g .points) h
+      (sym e ∙ f) .1 in
+      record {
+        answer = rw (← e, f) (p .answer);
+        written = subst (λ (y : Header). after ≡ bytesAfter r (encode (networkOf y t)) before) q (p .written);
+      }

@@ -1,5 +1,6 @@
--- Both round trips, and what they give together: the files that open are exactly the files of proper, sound networks (`opens-exactly`).
--- They are equations of bytes, so it does no harm that a block's check cannot tell word 0 from word 65,535.
+-- Both round trips, and what they give together: the files that open are exactly the files of proper, sound
+-- networks (`opens-exactly`). They are equations of bytes, so it does no harm that a block's check cannot
+-- tell word 0 from word 65,535.
 use mathlib.Core.Path.{_≡_, sym, _∙_, ap, subst}
 use mathlib.Core.Logic.{_↔_}
 use mathlib.Core.List.{List}
@@ -21,10 +22,14 @@ use Rattle.network.specs.Sound.{SoundNetwork}
 use Rattle.network.specs.Validate.{validated}
 use Rattle.network.specs.Valid.{ValidFile, valid-exactly}
 use Rattle.network_encode.specs.Encode.{headerOf, bodyBy, encodeBy, encode, Words, Proper}
-use Rattle.network_pack.specs.Holds.{encode-holds, holds-encode, header-formed, cells-formed, arcs-formed, points-formed, header-read, tables-read, formed-holds}
+use Rattle.network_pack.specs.Holds.{encode-holds, holds-encode}
+use Rattle.network_pack.specs.HoldsRead.{header-formed, cells-formed, arcs-formed, points-formed}
+use Rattle.network_pack.specs.HoldsRead.{header-read, tables-read, formed-holds}
+use Rattle.file_fields.specs.Block.{blockSize}
+use Rattle.file_blocks.specs.Kind.{cellSize, cellPer, arcSize, arcPer, pointSize, pointPer}
 
 -- THE FILE OF A NETWORK
-pub encode-long : (n : Network) → length (encode n) ≡ 512 * allBlocks (headerOf n)
+pub encode-long : (n : Network) → length (encode n) ≡ blockSize * allBlocks (headerOf n)
 unfolding encode
 encode-long n = length-tab _ _
 
@@ -35,7 +40,8 @@ module _ {n : Network} (p : Proper n) where
 
   pub decode-encode : decode (encode n) ≡ n
   unfolding decode encode
-  decode-encode = ap (λ (h : Header). decodeBy h (encode n)) header-encode ∙ tables-read p (encode-holds (headerOf n) n)
+  decode-encode = ap (λ (h : Header). decodeBy h (encode n)) header-encode
+      ∙ tables-read p (encode-holds (headerOf n) n)
 
   pub encode-valid : SoundNetwork n → ValidFile (encode n) (headerOf n)
   unfolding encode
@@ -59,19 +65,22 @@ unfolding decode
 decoded-header file = λ i. record {
   number = headerAt file .number;
   period = headerAt file .period;
-  nodes = length-tab (headerAt file .nodes) (entry16 file 1 250 2 0) i;
-  arcs = length-tab (headerAt file .arcs) (entry16 file (arcBlock (headerAt file)) 83 6 0) i;
+  nodes = length-tab (headerAt file .nodes) (entry16 file 1 cellPer cellSize 0) i;
+  arcs = length-tab (headerAt file .arcs) (entry16 file (arcBlock (headerAt file)) arcPer arcSize 0) i;
   cells = headerAt file .cells;
-  points = length-tab (headerAt file .points) (entry16 file (pointBlock (headerAt file)) 125 4 0) i;
+  points = length-tab (headerAt file .points) (entry16 file (pointBlock (headerAt file)) pointPer pointSize 0)
+      i;
 }
 
-tab-words : (file : List ℕ) → Bytes file → (m from per size at : ℕ) → Words (tab m (entry16 file from per size at))
+tab-words : (file : List ℕ) → Bytes file → (m from per size at : ℕ)
+    → Words (tab m (entry16 file from per size at))
 tab-words file s m from per size at = record {
   word = λ k. elim (decLt k m) [
     | yes l ↦
         let o = offset from per size k + at in
         rw (getD-tab m (entry16 file from per size at) k l) (omega (arith, s .byte o, s .byte (o + 1)))
-    | no l ↦ rw (List·getD-eq-default (tab m (entry16 file from per size at)) 0 {n = k} (omega (arith, length-tab m (entry16 file from per size at)))) (omega arith)
+    | no l ↦ rw (List·getD-eq-default (tab m (entry16 file from per size at)) 0 {n = k}
+        (omega (arith, length-tab m (entry16 file from per size at)))) (omega arith)
   ];
 }
 
@@ -86,7 +95,8 @@ module _ {file : List ℕ} {h : Header} (s : Bytes file) (v : ValidFile file h) 
       ap (λ (k : Header). encodeBy k (decode file)) (decoded-header file)
       ∙ sym
       (holds-encode (headerAt file) (decode file) file
-      (formed-holds file s (there .first-formed) (there .nodes-formed) (there .arcs-formed) (there .points-formed))
+      (formed-holds file s (there .first-formed) (there .nodes-formed) (there .arcs-formed)
+      (there .points-formed))
       s
       (there .long)
       (there .sums))
@@ -109,8 +119,10 @@ module _ {file : List ℕ} {h : Header} (s : Bytes file) (v : ValidFile file h) 
 
 -- nothing in a file that opens is left unchecked
 pub opens-exactly : (file : List ℕ) → Bytes file
-    → ((h : Header) × (validated file ≡ Opened h)) ↔ ((n : Network) × Proper n × SoundNetwork n × (file ≡ encode n))
+    → ((h : Header) × (validated file ≡ Opened h)) ↔
+    ((n : Network) × Proper n × SoundNetwork n × (file ≡ encode n))
 opens-exactly file s = (
-  λ x. let v = valid-exactly file (x .0) .0 (x .1) in (decode file, decoded-proper s v, v .sound, sym (encode-decode s v)),
+  λ x. let v = valid-exactly file (x .0) .0 (x .1) in
+      (decode file, decoded-proper s v, v .sound, sym (encode-decode s v)),
   λ x. let (n, p, t, e) = x in (headerOf n, valid-exactly file (headerOf n) .1 (rw e (encode-valid p t))),
 )

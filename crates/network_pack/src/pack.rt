@@ -1,25 +1,31 @@
-// Pack: the file of a network whose tables are lent, written into lent bytes once nothing is refused. The file is made in bytes of its own first, so that
-// the rules 7 to 10 are judged by the code that judges them for Open, on the bytes that are then copied.
+// Pack: the file of a network whose tables are lent, written into lent bytes once nothing is refused. The
+// file is made in bytes of its own first, so that the rules 7 to 10 are judged by the code that judges them
+// for Open, on the bytes that are then copied.
+use file_fields::BLOCK;
 use file_refusals::Judged;
 use file_refusals::Refusal;
+use file_refusals::number;
 use file_refusals::refuse;
 use network::header::Header;
 use network::header::Layout;
 use network::header::Made;
+use network::limits::MOST_BYTES;
 use network_encode::encode::encode_network;
 use network_open::open::is_short;
 use network_rules::rules::judge;
 ghost use mathlib.Core.Path.{_≡_};
 ghost use Prim.Native.Nat.{_*_, _^_, _≤_, _<_};
 ghost use lib.ListN.{length};
-ghost use Rattle.network.specs.Limits.{Within};
+ghost use Rattle.file_fields.specs.Block.{blockSize};
+ghost use Rattle.network.specs.Limits.{WithinLimits};
+ghost use Rattle.network.specs.Tables.{tables, networkOf};
 ghost use Rattle.network.specs.Decode.{decode, Laid};
 ghost use Rattle.network.specs.Rules.{judged};
 ghost use Rattle.theory_loops.specs.Fill.{overwritten};
-ghost use Rattle.network_encode.specs.Encode.{encode};
 ghost use Rattle.network_pack.specs.Pack;
-ghost use Rattle.network_encode.specs.Tables.{networkOf, Packable};
-ghost use Rattle.network_pack.specs.Pack.{numbers, packedInto, packedRules, packedTables, packing, bytesAfter};
+ghost use Rattle.network_encode.specs.Packable.{Packable};
+ghost use Rattle.network_pack.specs.Pack.{numbers, packedInto, packedRules, Packs};
+ghost use Rattle.network_pack.specs.Pack.{PacksNetwork, PacksTables, PackCall};
 
 // How many bytes a file that was written has.
 pub struct Length {
@@ -34,7 +40,7 @@ pub enum Packing {
 
 // A network that is not packed, with no place.
 fn refused(number: u32) -> Packing
-    ensures { λ r. ⌜ r ≡ Pack.refused number ⌝ }
+    ensures { λ r. ⌜ r ≡ Pack.unpacked number ⌝ }
 {
     Packing::Refused(refuse(number, 0))
 }
@@ -52,12 +58,12 @@ fn copy(file: &[u8], out: &mut [u8])
 // Refusal 31, or the file copied.
 fn write_out(file: &[u8], out: &mut [u8]) -> Packing
     requires { ⌜ length (now file) < 2 ^ 32 ⌝ }
-    ensures answer { λ r. ⌜ r ≡ packedInto (length (now (file .entry))) (length (now (out .entry))) ⌝ }
-    ensures bytes { λ r. ⌜ now (out .exit) ≡ bytesAfter r (now (file .entry)) (now (out .entry)) ⌝ }
+    ensures { λ r. ⌜ Packs (packedInto (length (now (file .entry))) (length (now (out .entry))))
+        (now (file .entry)) (now (out .entry)) (now (out .exit)) r ⌝ }
 {
     let long = file.len();
     if out.len() < long {
-        return refused(31);
+        return refused(number::ANSWER_SHORT);
     }
     copy(file, out);
     Packing::Packed(Length { bytes: long as u32 })
@@ -66,8 +72,9 @@ fn write_out(file: &[u8], out: &mut [u8]) -> Packing
 // Refusals 7 to 10 and 31, or the file copied.
 fn pack_file(file: &[u8], l: Layout, out: &mut [u8]) -> Packing
     requires { ⌜ Laid (now file) l ⌝ }
-    ensures answer { λ r. ⌜ r ≡ packedRules (judged (decode (now (file .entry)))) (length (now (file .entry))) (length (now (out .entry))) ⌝ }
-    ensures bytes { λ r. ⌜ now (out .exit) ≡ bytesAfter r (now (file .entry)) (now (out .entry)) ⌝ }
+    ensures { λ r. ⌜ Packs (packedRules (judged (decode (now (file .entry)))) (length (now (file .entry)))
+        (length (now (out .entry))))
+        (now (file .entry)) (now (out .entry)) (now (out .exit)) r ⌝ }
 {
     match judge(file, l) {
         Judged::Sound => write_out(file, out),
@@ -88,13 +95,16 @@ fn pack_tables(
     scratch: &mut [u8],
     out: &mut [u8],
 ) -> Packing
-    requires { ⌜ Packable h l (length (now cellof)) (length (now tails)) (length (now heads)) (length (now counts)) (length (now ticks)) (length (now travels)) ⌝ }
-    requires { ⌜ 512 * l .blocks ≤ length (now scratch) ⌝ }
-    ensures answer { λ r. ⌜ r ≡ packedRules (judged (networkOf h (now (cellof .entry)) (now (tails .entry)) (now (heads .entry)) (now (counts .entry)) (now (ticks .entry)) (now (travels .entry)))) (length (encode (networkOf h (now (cellof .entry)) (now (tails .entry)) (now (heads .entry)) (now (counts .entry)) (now (ticks .entry)) (now (travels .entry))))) (length (now (out .entry))) ⌝ }
-    ensures bytes { λ r. ⌜ now (out .exit) ≡ bytesAfter r (encode (networkOf h (now (cellof .entry)) (now (tails .entry)) (now (heads .entry)) (now (counts .entry)) (now (ticks .entry)) (now (travels .entry)))) (now (out .entry)) ⌝ }
+    requires { ⌜ Packable h l
+        (tables (now cellof) (now tails) (now heads) (now counts) (now ticks) (now travels)) ⌝ }
+    requires { ⌜ blockSize * l .blocks ≤ length (now scratch) ⌝ }
+    ensures { λ r. ⌜ PacksNetwork (networkOf h
+        (tables (now (cellof .entry)) (now (tails .entry)) (now (heads .entry)) (now (counts .entry))
+        (now (ticks .entry)) (now (travels .entry))))
+        (now (out .entry)) (now (out .exit)) r ⌝ }
 {
     encode_network(scratch, h, l, cellof, tails, heads, counts, ticks, travels);
-    let long = 512 * l.blocks;
+    let long = BLOCK * l.blocks;
     pack_file(&scratch[..long], l, out)
 }
 
@@ -107,12 +117,14 @@ fn pack_within(
     counts: &[u16],
     ticks: &[u16],
     travels: &[u16],
-    scratch: &mut [u8; 283648],
+    scratch: &mut [u8; MOST_BYTES],
     out: &mut [u8],
 ) -> Packing
-    requires { ⌜ Within h × (h .number < 2 ^ 32) ⌝ }
-    ensures answer { λ r. ⌜ r ≡ packedTables h (now (cellof .entry)) (now (tails .entry)) (now (heads .entry)) (now (counts .entry)) (now (ticks .entry)) (now (travels .entry)) (length (now (out .entry))) ⌝ }
-    ensures bytes { λ r. ⌜ now (out .exit) ≡ bytesAfter r (encode (networkOf h (now (cellof .entry)) (now (tails .entry)) (now (heads .entry)) (now (counts .entry)) (now (ticks .entry)) (now (travels .entry)))) (now (out .entry)) ⌝ }
+    requires { ⌜ WithinLimits h × (h .number < 2 ^ 32) ⌝ }
+    ensures { λ r. ⌜ PacksTables h
+        (tables (now (cellof .entry)) (now (tails .entry)) (now (heads .entry)) (now (counts .entry))
+        (now (ticks .entry)) (now (travels .entry)))
+        (now (out .entry)) (now (out .exit)) r ⌝ }
 {
     if is_short(
         h,
@@ -123,7 +135,7 @@ fn pack_within(
         ticks.len(),
         travels.len(),
     ) {
-        return refused(30);
+        return refused(number::TABLE_SHORT);
     }
     pack_tables(
         h,
@@ -139,7 +151,8 @@ fn pack_within(
     )
 }
 
-// The length of the network's file, with the first lent bytes that file; or a refusal, with every lent byte as it was.
+// The length of the network's file, with the first lent bytes that file; or a refusal, with every lent byte
+// as it was.
 pub fn pack_network(
     number: u32,
     period: u32,
@@ -155,12 +168,14 @@ pub fn pack_network(
     travels: &[u16],
     out: &mut [u8],
 ) -> Packing
-    ensures answer { λ r. ⌜ r ≡ packing number period nodes arcs cells points (now (cellof .entry)) (now (tails .entry)) (now (heads .entry)) (now (counts .entry)) (now (ticks .entry)) (now (travels .entry)) (length (now (out .entry))) ⌝ }
-    ensures bytes { λ r. ⌜ now (out .exit) ≡ bytesAfter r (encode (networkOf (numbers number period nodes arcs cells points) (now (cellof .entry)) (now (tails .entry)) (now (heads .entry)) (now (counts .entry)) (now (ticks .entry)) (now (travels .entry)))) (now (out .entry)) ⌝ }
+    ensures { λ r. ⌜ PackCall (numbers number period nodes arcs cells points)
+        (tables (now (cellof .entry)) (now (tails .entry)) (now (heads .entry)) (now (counts .entry))
+        (now (ticks .entry)) (now (travels .entry)))
+        (now (out .entry)) (now (out .exit)) r ⌝ }
 {
     match Header::new(number, period, nodes, arcs, cells, points) {
         Made::Inside(h) => {
-            let mut scratch = [0u8; 283648];
+            let mut scratch = [0u8; MOST_BYTES];
             pack_within(
                 h,
                 cellof,
@@ -173,6 +188,6 @@ pub fn pack_network(
                 out,
             )
         }
-        Made::Outside => refused(4),
+        Made::Outside => refused(number::NETWORK_LIMITS),
     }
 }

@@ -26,21 +26,29 @@ module _ {file : List ℕ} {l : Layout} (s : Laid file l) where
   module _ (v : ℕ) (r : Judged) (e : v ≡ first (l .nodes) (badCell (decode file))) where
     pub cell-taken : v < l .nodes → r ≡ faulty 7 v → r ≡ judged (decode file)
     unfolding judged
-    cell-taken h f = let q = laid-sizes s .nodes in at-first r _ (faulty 7) (nodes n) v (badCell n) (rw q at e) (rw q at h) f
+    cell-taken h f =
+        let q = laid-sizes s .nodes in
+        at-first r _ (faulty 7) (nodes n) v (badCell n) (rw q at e) (rw q at h) f
 
     pub cells-passed : l .nodes ≤ v → r ≡ judgedArcs (decode file) → r ≡ judged (decode file)
     unfolding judged
-    cells-passed h f = let q = laid-sizes s .nodes in past-first r _ (faulty 7) (nodes n) v (badCell n) (rw q at e) (rw q at h) f
+    cells-passed h f =
+        let q = laid-sizes s .nodes in
+        past-first r _ (faulty 7) (nodes n) v (badCell n) (rw q at e) (rw q at h) f
 
   -- 8
   module _ (a : ℕ) (r : Judged) (e : a ≡ first (l .arcs) (badArc (decode file))) where
     pub arc-taken : a < l .arcs → r ≡ faulty 8 a → r ≡ judgedArcs (decode file)
     unfolding judgedArcs
-    arc-taken h f = let q = laid-sizes s .arcs in at-first r _ (faulty 8) (arcs n) a (badArc n) (rw q at e) (rw q at h) f
+    arc-taken h f =
+        let q = laid-sizes s .arcs in
+        at-first r _ (faulty 8) (arcs n) a (badArc n) (rw q at e) (rw q at h) f
 
     pub arcs-passed : l .arcs ≤ a → r ≡ judgedSum (decode file) → r ≡ judgedArcs (decode file)
     unfolding judgedArcs
-    arcs-passed h f = let q = laid-sizes s .arcs in past-first r _ (faulty 8) (arcs n) a (badArc n) (rw q at e) (rw q at h) f
+    arcs-passed h f =
+        let q = laid-sizes s .arcs in
+        past-first r _ (faulty 8) (arcs n) a (badArc n) (rw q at e) (rw q at h) f
 
   -- 8, the sum
   module _ (k : ℕ) (r : Judged) (e : k ≡ start (decode file) (l .arcs)) where
@@ -55,20 +63,28 @@ module _ {file : List ℕ} {l : Layout} (s : Laid file l) where
 
     pub sum-passed : k ≡ l .points → r ≡ judgedPoints (decode file) → r ≡ judgedSum (decode file)
     unfolding judgedSum
-    sum-passed h f = let q = laid-sizes s .points in rw (eq-eqb (start n (arcs n)) (points n) (sym sum-is ∙ h ∙ q)) f
+    sum-passed h f =
+        let q = laid-sizes s .points in
+        rw (eq-eqb (start n (arcs n)) (points n) (sym sum-is ∙ h ∙ q)) f
 
   -- what the scan of the points requires
-  pub counted : (a k : ℕ) → a ≡ first (l .arcs) (badArc (decode file)) → l .arcs ≤ a → k ≡ start (decode file) (l .arcs) → k ≡ l .points → Counted (decode file)
+  pub counted : (a k : ℕ) → a ≡ first (l .arcs) (badArc (decode file)) → l .arcs ≤ a
+      → k ≡ start (decode file) (l .arcs) → k ≡ l .points → Counted (decode file)
   counted a k f g e h =
       let q = laid-sizes s .arcs in
       let c : first (arcs n) (badArc n) ≡ arcs n = omega (arith, rw q at f, first-le (badArc n) (arcs n)) in
-      record { some = λ b m. arc-sound n b (clear (badArc n) (arcs n) c b m) .some; sum = sym (rw q at e) ∙ h ∙ laid-sizes s .points }
+      record {
+        some = λ b m. arc-sound n b (clear (badArc n) (arcs n) c b m) .some;
+        sum = sym (rw q at e) ∙ h ∙ laid-sizes s .points;
+      }
 
   -- 9 and 10
   module _ (t : Scan) (r : Judged) (e : ScannedAll (decode file) t) where
     pub point-taken : t .bad < l .points → r ≡ faulty 9 (t .bad) → r ≡ judgedPoints (decode file)
     unfolding judgedPoints
-    point-taken h f = let q = laid-sizes s .points in rw (← (e .bad), lt-ltb (t .bad) (points n) (rw q at h)) f
+    point-taken h f =
+        let q = laid-sizes s .points in
+        rw (← (e .bad), lt-ltb (t .bad) (points n) (rw q at h)) f
 
     -- where rule 9 holds everywhere, what is left is rule 10
     module _ (b : l .points ≤ t .bad) where
@@ -78,12 +94,32 @@ module _ {file : List ℕ} {l : Layout} (s : Laid file l) where
       pub late-taken : t .late < l .points → r ≡ faulty 10 (t .late) → r ≡ judgedPoints (decode file)
       unfolding judgedPoints
       late-taken h f =
-          rw (← (e .bad), le-ltb (t .bad) (points n) (omega (arith, fine)), ← (e .late fine), lt-ltb (t .late) (points n) (rw (laid-sizes s .points) at h)) f
+          rw (
+            ← (e .bad),
+            le-ltb (t .bad) (points n) (omega (arith, fine)),
+            ← (e .late fine),
+            lt-ltb (t .late) (points n) (rw (laid-sizes s .points) at h),
+          ) f
 
       pub points-passed : l .points ≤ t .late → r ≡ Sound → r ≡ judgedPoints (decode file)
       unfolding judgedPoints
       points-passed h f =
-          rw (← (e .bad), le-ltb (t .bad) (points n) (omega (arith, fine)), ← (e .late fine), le-ltb (t .late) (points n) (rw (laid-sizes s .points) at h)) f
+          rw (
+            ← (e .bad),
+            le-ltb (t .bad) (points n) (omega (arith, fine)),
+            ← (e .late fine),
+            le-ltb (t .late) (points n) (rw (laid-sizes s .points) at h),
+          ) f
 
 -- for `search judgings` where the code answers
-pub ruleset judgings = (cell-taken, cells-passed, arc-taken, arcs-passed, sum-taken, sum-passed, point-taken, late-taken, points-passed)
+pub ruleset judgings = (
+  cell-taken,
+  cells-passed,
+  arc-taken,
+  arcs-passed,
+  sum-taken,
+  sum-passed,
+  point-taken,
+  late-taken,
+  points-passed,
+)

@@ -1,9 +1,10 @@
-// The rules 7 to 10 of document 01, on a file that is laid out as its header says. An arc's points are first asked whether they keep rules 9
-// and 10 (steady.rt). Where they do not, one scan finds the places: rule 10 is judged at each point while rule 9 is, and told where 9 holds
-// everywhere.
+// The rules 7 to 10 of document 01, on a file that is laid out as its header says. An arc's points are first
+// asked whether they keep rules 9 and 10 (steady.rt). Where they do not, one scan finds the places: rule 10
+// is judged at each point while rule 9 is, and told where 9 holds everywhere.
 use crate::steady::is_steady;
 use file_refusals::Judged;
 use file_refusals::faulty;
+use file_refusals::number;
 use network::header::Layout;
 use network::read;
 ghost use mathlib.Core.Path.{_≡_};
@@ -12,18 +13,20 @@ ghost use Rattle.theory_loops.specs.First.{first};
 ghost use Rattle.theory_travel.specs.Table.{entryAt};
 ghost use Rattle.network.specs.Network;
 ghost use Rattle.network.specs.Decode.{decode, Laid};
-ghost use Rattle.network.specs.Rules.{badCell, badEnds, badArc, misplaced, badPointBy, judgedPoints, judgedArcs, judged};
-ghost use Rattle.network_rules.specs.Scan.{lateAt, Scanned};
+ghost use Rattle.network.specs.Rules.{badCell, badEnds, badArc, judgedPoints, judgedArcs, judged};
+ghost use Rattle.network_rules.specs.Scan.{misplaced, badPointBy, lateAt, Scanned};
 ghost use Rattle.network.specs.FirstPoint.{Counted};
 ghost use Rattle.network_rules.specs.ScanAll.{ScannedAll, lateIn};
 
-// What a scan of points finds: the first that breaks rule 9, and the first that breaks rule 10, each by its number, or how many there are.
+// What a scan of points finds: the first that breaks rule 9, and the first that breaks rule 10, each by its
+// number, or how many there are.
 pub struct Scan {
     pub bad: usize,
     pub late: usize,
 }
 
-// What a pass over the arcs finds: the first that breaks rule 8, or how many there are, and the points of those before it.
+// What a pass over the arcs finds: the first that breaks rule 8, or how many there are, and the points of
+// those before it.
 pub struct Arcs {
     pub bad: usize,
     pub sum: usize,
@@ -83,10 +86,12 @@ fn is_bad_arc(file: &[u8], l: Layout, a: usize) -> bool
     bad_ends(l.nodes, l.period, tail, head, count)
 }
 
-// The first arc that breaks rule 8, or the count of arcs; and where there is none, the points of all arcs, added up.
+// The first arc that breaks rule 8, or the count of arcs; and where there is none, the points of all arcs,
+// added up.
 fn scan_arcs(file: &[u8], l: Layout) -> Arcs
     requires { ⌜ Laid (now file) l ⌝ }
-    ensures { λ r. ⌜ (r .bad ≡ first (l .arcs) (badArc (decode (now (file .entry))))) × (l .arcs ≤ r .bad → r .sum ≡ Network.start (decode (now (file .entry))) (l .arcs)) ⌝ }
+    ensures { λ r. ⌜ (r .bad ≡ first (l .arcs) (badArc (decode (now (file .entry)))))
+        × (l .arcs ≤ r .bad → r .sum ≡ Network.start (decode (now (file .entry))) (l .arcs)) ⌝ }
 {
     let arcs = l.arcs;
     let mut sum = 0;
@@ -125,7 +130,8 @@ fn bad_point(period: usize, i: usize, p: usize, t: usize, v: usize) -> bool
     period < v
 }
 
-// The first late point of i points, by the first of the i - 1 before: the last of them ends at `end`, and the one after it at `next`.
+// The first late point of i points, by the first of the i - 1 before: the last of them ends at `end`, and the
+// one after it at `next`.
 fn late_at(late: usize, i: usize, end: usize, next: usize) -> usize
     ensures { λ r. ⌜ r ≡ lateAt late i end next ⌝ }
 {
@@ -145,7 +151,8 @@ fn late_at(late: usize, i: usize, end: usize, next: usize) -> usize
 fn find_faults(file: &[u8], l: Layout, from: usize, count: usize) -> Scan
     requires { ⌜ Laid (now file) l ⌝ }
     requires { ⌜ (from + count ≤ l .points) × (0 < count) ⌝ }
-    ensures { λ r. ⌜ Scanned (l .period) (entryAt (decode (now (file .entry)) .ticks) from) (entryAt (decode (now (file .entry)) .travels) from) count r ⌝ }
+    ensures { λ r. ⌜ Scanned (l .period) (entryAt (decode (now (file .entry)) .ticks) from)
+        (entryAt (decode (now (file .entry)) .travels) from) count r ⌝ }
 {
     let mut tick = 0;
     let mut end = 0;
@@ -171,7 +178,8 @@ fn find_faults(file: &[u8], l: Layout, from: usize, count: usize) -> Scan
 fn scan_arc(file: &[u8], l: Layout, from: usize, count: usize) -> Scan
     requires { ⌜ Laid (now file) l ⌝ }
     requires { ⌜ (from + count ≤ l .points) × (0 < count) ⌝ }
-    ensures { λ r. ⌜ Scanned (l .period) (entryAt (decode (now (file .entry)) .ticks) from) (entryAt (decode (now (file .entry)) .travels) from) count r ⌝ }
+    ensures { λ r. ⌜ Scanned (l .period) (entryAt (decode (now (file .entry)) .ticks) from)
+        (entryAt (decode (now (file .entry)) .travels) from) count r ⌝ }
 {
     if is_steady(file, l, from, count) {
         return Scan {
@@ -182,7 +190,8 @@ fn scan_arc(file: &[u8], l: Layout, from: usize, count: usize) -> Scan
     find_faults(file, l, from, count)
 }
 
-// The first late point of one arc more: `count` points from `from` on, of which `at` is the first late one; `points` stands for none.
+// The first late point of one arc more: `count` points from `from` on, of which `at` is the first late one;
+// `points` stands for none.
 fn late_in(late: usize, points: usize, from: usize, count: usize, at: usize) -> usize
     requires { ⌜ from + count ≤ points ⌝ }
     ensures { λ r. ⌜ r ≡ lateIn late points from count at ⌝ }
@@ -231,11 +240,11 @@ fn judge_points(file: &[u8], l: Layout) -> Judged
     let scan = scan_points(file, l);
     let bad = scan.bad;
     if bad < l.points {
-        return faulty(9, bad as u32);
+        return faulty(number::NETWORK_POINT, bad as u32);
     }
     let late = scan.late;
     if late < l.points {
-        return faulty(10, late as u32);
+        return faulty(number::NETWORK_FIFO, late as u32);
     }
     Judged::Sound
 }
@@ -248,10 +257,10 @@ fn judge_arcs(file: &[u8], l: Layout) -> Judged
     let found = scan_arcs(file, l);
     let a = found.bad;
     if a < l.arcs {
-        return faulty(8, a as u32);
+        return faulty(number::NETWORK_ROAD, a as u32);
     }
     if found.sum != l.points {
-        return faulty(8, l.arcs as u32);
+        return faulty(number::NETWORK_ROAD, l.arcs as u32);
     }
     judge_points(file, l)
 }
@@ -263,7 +272,7 @@ pub fn judge(file: &[u8], l: Layout) -> Judged
 {
     let v = first_bad_cell(file, l);
     if v < l.nodes {
-        return faulty(7, v as u32);
+        return faulty(number::NETWORK_CELL, v as u32);
     }
     judge_arcs(file, l)
 }

@@ -1,4 +1,4 @@
--- The borders of a network: the nodes with an arc into them from another cell, by rising number.
+-- The borders of a graph with cells: the nodes with an arc into them from another cell, by rising number.
 use mathlib.Core.Bool.{Bool, not, _&&_}
 use mathlib.Core.List.{List}
 use Prim.Native.Nat.{ℕ}
@@ -6,20 +6,27 @@ use lib.ListN.{length, getD}
 use lib.Dec.{eqb}
 use Rattle.theory_loops.specs.First.{any}
 use Rattle.theory_loops.specs.Select.{select}
-use Rattle.network.specs.Network.{Network, nodes, arcs, cell, tail, head}
+use Rattle.theory_paths.specs.Partition.{Partition}
 
-unfoldable pub isBorder : Network → ℕ → Bool
-isBorder n v = any (arcs n) (λ a. eqb (head n a) v && not (eqb (cell n (tail n a)) (cell n v)))
+-- the cells that arc a leads from and to
+abbrev pub tailCell : Partition → ℕ → ℕ
+tailCell G a = G .cell (G .graph .tail a)
 
-unfoldable pub borders : Network → List ℕ
-borders n = select (nodes n) (isBorder n)
+abbrev pub headCell : Partition → ℕ → ℕ
+headCell G a = G .cell (G .graph .head a)
+
+unfoldable pub isBorder : Partition → ℕ → Bool
+isBorder G v = any (G .graph .arcs) (λ a. eqb (G .graph .head a) v && not (eqb (tailCell G a) (G .cell v)))
+
+unfoldable pub borders : Partition → List ℕ
+borders G = select (G .graph .nodes) (isBorder G)
 
 -- how many there are; border number i; and the number of border b, the count of borders before it
-abbrev pub borderCount : Network → ℕ
-borderCount n = length (borders n)
+abbrev pub borderCount : Partition → ℕ
+borderCount G = length (borders G)
 
-abbrev pub borderAt : Network → ℕ → ℕ
-borderAt n i = getD (borders n) i 0
+abbrev pub borderAt : Partition → ℕ → ℕ
+borderAt G i = getD (borders G) i 0
 
-unfoldable pub borderIndex : Network → ℕ → ℕ
-borderIndex n b = length (select b (isBorder n))
+unfoldable pub borderIndex : Partition → ℕ → ℕ
+borderIndex G b = length (select b (isBorder G))

@@ -1,7 +1,9 @@
--- Plan files: what a plan is (Border, Plan), where it stands in a file (PlanHeader, PlanLayout, PlanDecode), its rules and validation (PlanRules, PlanValidate,
--- PlanValid), their numbers (Numbers), and the laws for the code.
+-- Plan files: what a plan is (Border, Plan), where it stands in a file (PlanHeader, PlanLayout, PlanDecode),
+-- its rules and validation (PlanRules, PlanValidate, PlanValid), their numbers (Numbers), and the laws for
+-- the code.
 pub mod Border
 pub mod Plan
+pub mod PlanLimits
 pub mod PlanHeader
 pub mod PlanLayout
 pub mod Marks

@@ -1,5 +1,5 @@
--- How the borders are found in one pass over the arcs: after k arcs a node is marked where one of them enters it from another cell.
--- The laws of the loop that marks, and of the loop that lists what is marked.
+-- How the borders are found in one pass over the arcs: after k arcs a node is marked where one of them enters
+-- it from another cell. The laws of the loop that marks, and of the loop that lists what is marked.
 use mathlib.Core.Path.{_≡_, refl, sym, _∙_, ap}
 use mathlib.Core.Bool.{Bool, true, false, cond, not, _&&_}
 use mathlib.Core.List.{List}
@@ -14,10 +14,13 @@ use borrow.Author.Tests.{eq-eqb, ne-eqb, le-ltb, lt-ltb}
 use Rattle.theory_loops.specs.First.{first, any, first-le, yes-any, none-yet, first-more}
 use Rattle.theory_loops.specs.Fill.{overwritten}
 use Rattle.theory_loops.specs.Select.{Chosen}
+use Rattle.theory_paths.specs.Partition.{Partition}
 use Rattle.network.specs.Network.{Network, nodes, arcs, cell, tail, head}
 use Rattle.network.specs.Decode.{decode, Laid, laid-sizes}
 use Rattle.network.specs.Sound.{SoundNetwork}
 use Rattle.network.specs.declared.header.Layout.{Layout}
+use Rattle.network.specs.Limits.{mostNodes}
+use Rattle.network.specs.Town.{partitionOf}
 use Rattle.plan.specs.Border.{isBorder, borders, borderCount}
 
 -- arc a enters node v from another cell
@@ -29,8 +32,8 @@ abbrev pub mark : Network → ℕ → ℕ → ℕ
 mark n k v = cond (any k (enters n v)) 1 0
 
 pub record Marked (n : Network) (k : ℕ) (marks : List ℕ) : Type 0 where
-  pub long : length marks ≡ 512
-  pub marked : (v : ℕ) → v < 512 → getD marks v 0 ≡ mark n k v
+  pub long : length marks ≡ mostNodes
+  pub marked : (v : ℕ) → v < mostNodes → getD marks v 0 ≡ mark n k v
 
 -- one index more at which a test fails changes nothing
 any-skip : (p : ℕ → Bool) (k : ℕ) → p k ≡ false → any (k + 1) p ≡ any k p
@@ -42,28 +45,42 @@ any-skip p k e = rw (add-one, first-more k p, e) (go (ltb (first k p) k) refl)
 
 -- THE LOOP THAT MARKS
 module _ (n : Network) where
-  pub mark-none : Marked n 0 (replicate 512 0)
-  mark-none = record { long = length-replicate {A = ℕ} 512 0; marked = λ v l. getD-replicate 512 v 0 0 l ∙ rw (none-yet (enters n v)) }
+  pub mark-none : Marked n 0 (replicate mostNodes 0)
+  mark-none = record {
+    long = length-replicate {A = ℕ} mostNodes 0;
+    marked = λ v l. getD-replicate mostNodes v 0 0 l ∙ rw (none-yet (enters n v));
+  }
 
   -- arc a leads from t in cell x to h in cell y
-  module _ (a : ℕ) (marks : List ℕ) (m : Marked n a marks) (h t x y : ℕ) (eh : h ≡ head n a) (et : t ≡ tail n a) (ex : x ≡ cell n t) (ey : y ≡ cell n h) where
-    pub mark-set : (x ≡ y → ⊥) → h < 512 → Marked n (a + 1) (set marks h 1)
+  module _ (a : ℕ) (marks : List ℕ) (m : Marked n a marks) (h t x y : ℕ) (eh : h ≡ head n a)
+      (et : t ≡ tail n a) (ex : x ≡ cell n t) (ey : y ≡ cell n h) where
+    pub mark-set : (x ≡ y → ⊥) → h < mostNodes → Marked n (a + 1) (set marks h 1)
     mark-set d l = record {
       long = length-set marks h 1 ∙ m .long;
       marked = λ v k. elim (ℕ-discrete v h) [
-        | yes q ↦ rw q (getD-set-same marks h 1 0 (omega (arith, m .long)) ∙ sym (ap (λ (b : Bool). cond b 1 0) (yes-any (enters n h) (a + 1) a (omega arith) entered)))
-        | no q ↦ getD-set-other marks h v 1 0 q ∙ (m .marked v k ∙ ap (λ (b : Bool). cond b 1 0) (sym (any-skip (enters n v) a (elsewhere v q))))
+        | yes q ↦
+            rw q
+            (getD-set-same marks h 1 0 (omega (arith, m .long))
+            ∙ sym (ap (λ (b : Bool). cond b 1 0) (yes-any (enters n h) (a + 1) a (omega arith) entered)))
+        | no q ↦
+            getD-set-other marks h v 1 0 q
+            ∙ (m .marked v k ∙ ap (λ (b : Bool). cond b 1 0) (sym (any-skip (enters n v) a (elsewhere v q))))
       ];
     }
       where
         entered : enters n h a ≡ true
-        entered = rw (eq-eqb (head n a) h (sym eh), ← et, ne-eqb (cell n t) (cell n h) (λ z. d (ex ∙ z ∙ sym ey)))
+        entered =
+            rw (eq-eqb (head n a) h (sym eh), ← et, ne-eqb (cell n t) (cell n h) (λ z. d (ex ∙ z ∙ sym ey)))
 
         elsewhere : (v : ℕ) → (v ≡ h → ⊥) → enters n v a ≡ false
         elsewhere v q = rw (ne-eqb (head n a) v (λ z. q (sym z ∙ sym eh)))
 
     pub mark-skip : x ≡ y → Marked n (a + 1) marks
-    mark-skip d = record { long = m .long; marked = λ v k. m .marked v k ∙ ap (λ (b : Bool). cond b 1 0) (sym (any-skip (enters n v) a (within v))) }
+    mark-skip d = record {
+      long = m .long;
+      marked =
+          λ v k. m .marked v k ∙ ap (λ (b : Bool). cond b 1 0) (sym (any-skip (enters n v) a (within v)));
+    }
       where
         within : (v : ℕ) → enters n v a ≡ false
         within v = elim (ℕ-discrete v h) [
@@ -71,11 +88,13 @@ module _ (n : Network) where
           | no q ↦ rw (ne-eqb (head n a) v (λ z. q (sym z ∙ sym eh)))
         ]
 
-  pub mark-end : (k m : ℕ) (marks : List ℕ) → Marked n k marks → k ≤ m → m ≤ k → m ≡ arcs n → Marked n (arcs n) marks
+  pub mark-end : (k m : ℕ) (marks : List ℕ) → Marked n k marks → k ≤ m → m ≤ k → m ≡ arcs n
+      → Marked n (arcs n) marks
   mark-end k m marks h a b e = let q : k ≡ arcs n = omega arith in rw q at h
 
 -- the ends of an arc of a sound network are nodes
-module _ {file : List ℕ} {l : Layout} (s : Laid file l) (f : SoundNetwork (decode file)) {a : ℕ} (h : a < l .arcs) where
+module _ {file : List ℕ} {l : Layout} (s : Laid file l) (f : SoundNetwork (decode file)) {a : ℕ}
+    (h : a < l .arcs) where
   pub head-below : {r : ℕ} → r ≡ head (decode file) a → r < l .nodes
   head-below e = omega (arith, e, laid-sizes s, f .arc a (omega (arith, laid-sizes s)))
 
@@ -87,7 +106,7 @@ pub ruleset markings = (mark-none, mark-set, mark-skip, mark-end, head-below, ta
 
 -- THE LOOP THAT LISTS
 module _ (n : Network) (marks : List ℕ) (m : Marked n (arcs n) marks) where
-  pub border-yes : (v : ℕ) → v < 512 → (getD marks v 0 ≡ 0 → ⊥) → isBorder n v ≡ true
+  pub border-yes : (v : ℕ) → v < mostNodes → (getD marks v 0 ≡ 0 → ⊥) → isBorder (partitionOf n) v ≡ true
   unfolding isBorder
   border-yes v l h = go (any (arcs n) (enters n v)) refl
     where
@@ -95,7 +114,7 @@ module _ (n : Network) (marks : List ℕ) (m : Marked n (arcs n) marks) where
       go true e = e
       go false e = absurd (h (m .marked v l ∙ ap (λ (b : Bool). cond b 1 0) e))
 
-  pub border-no : (v : ℕ) → v < 512 → getD marks v 0 ≡ 0 → isBorder n v ≡ false
+  pub border-no : (v : ℕ) → v < mostNodes → getD marks v 0 ≡ 0 → isBorder (partitionOf n) v ≡ false
   unfolding isBorder
   border-no v l h = go (any (arcs n) (enters n v)) refl
     where
@@ -103,6 +122,8 @@ module _ (n : Network) (marks : List ℕ) (m : Marked n (arcs n) marks) where
       go true e = absurd (omega (arith, sym h ∙ m .marked v l ∙ ap (λ (b : Bool). cond b 1 0) e))
       go false e = e
 
-pub borders-listed : (n : Network) (c : ℕ) (old new : List ℕ) → Chosen (nodes n) (isBorder n) c old new → (c ≡ borderCount n) × (new ≡ overwritten (borders n) old)
+pub borders-listed : (G : Partition) (c : ℕ) (old new : List ℕ)
+    → Chosen (G .graph .nodes) (isBorder G) c old new
+    → (c ≡ borderCount G) × (new ≡ overwritten (borders G) old)
 unfolding borders
-borders-listed n c old new h = (h .count, h .list)
+borders-listed G c old new h = (h .count, h .list)

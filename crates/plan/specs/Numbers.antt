@@ -6,11 +6,13 @@ use native.Mathlib.Omega.{arith}
 use lib.ListN.{length}
 use lib.Dec.{eqb, ltb}
 use Rattle.theory_loops.specs.Pick.{cond-holds, rung-holds}
+use Rattle.file_fields.specs.Block.{blockSize}
 use Rattle.file_refusals.specs.declared.Refusal.{Refusal}
 use Rattle.file_refusals.specs.declared.Judged.{Judged}
 use Rattle.file_refusals.specs.declared.Judged.the-variants.{Sound, Faulty}
 use Rattle.network.specs.declared.header.Header.{Header}
 use Rattle.network.specs.Network.{Network}
+use Rattle.network.specs.Town.{partitionOf}
 use Rattle.file_refusals.specs.Refusal.{refusal}
 use Rattle.file_refusals.specs.Numbered.{Numbered, numbered, same-faulty}
 use Rattle.plan.specs.declared.answer.Planning.{Planning}
@@ -22,13 +24,16 @@ use Rattle.plan.specs.PlanHeader.{planHeaderAt}
 use Rattle.plan.specs.PlanLayout.{planBlocks, planLayoutOf}
 use Rattle.plan.specs.PlanDecode.{decodePlan, pointTotal}
 use Rattle.plan.specs.PlanRules.{judgedTicks, judgedSum, judgedCounts, judgedFlags, planJudged}
-use Rattle.plan.specs.PlanValidate.{badPlanLength, firstUnformed, plannedRules, plannedForm, plannedLength, matching, plannedHeader, firstFormed, plannedFirst, planned}
+use Rattle.plan.specs.PlanValidate.{badPlanLength, firstUnformed, plannedRules, plannedForm}
+use Rattle.plan.specs.PlanValidate.{plannedLength, matching, plannedHeader, firstFormed, plannedFirst}
+use Rattle.plan.specs.PlanValidate.{planned}
 
 -- THE RULES 17 TO 19
 abbrev Judges : Judged → Type 0
 Judges = Numbered Faulty 17 19
 
-pub flags-numbers : (arcs cells period profiles : ℕ) (p : Plan) → Numbered Faulty 17 19 (judgedFlags arcs cells period profiles p)
+pub flags-numbers : (arcs cells period profiles : ℕ) (p : Plan)
+    → Numbered Faulty 17 19 (judgedFlags arcs cells period profiles p)
 unfolding judgedFlags judgedCounts judgedSum judgedTicks
 flags-numbers arcs cells period profiles p =
     rung-holds Judges _ _ _ _ (λ i. is 17 i (omega arith) (omega arith))
@@ -50,7 +55,8 @@ Plans = Numbered planning.Refused 11 19
 same-planning : (q r : Refusal) → planning.Refused q ≡ planning.Refused r → q ≡ r
 same-planning q r e = cc
 
-plan-numbered : (number place : ℕ) → 11 ≤ number → number ≤ 19 → Plans (planning.Refused (refusal number place))
+plan-numbered : (number place : ℕ) → 11 ≤ number → number ≤ 19
+    → Plans (planning.Refused (refusal number place))
 plan-numbered number place l h = numbered planning.Refused 11 19 same-planning (refusal number place) l h
 
 by-rules : (k : PlanHeader) (j : Judged) → Judges j → Plans (plannedRules k j)
@@ -59,15 +65,17 @@ by-rules k (Faulty q) n =
     let (x, y) = n q refl in
     numbered planning.Refused 11 19 same-planning q (omega arith) (omega arith)
 
-pub planned-numbers : (h : Header) (n : Network) (file : List ℕ) → Numbered planning.Refused 11 19 (planned h n file)
+pub planned-numbers : (h : Header) (n : Network) (file : List ℕ)
+    → Numbered planning.Refused 11 19 (planned h n file)
 unfolding planned plannedFirst plannedHeader plannedLength plannedForm
 planned-numbers h n file =
     cond-holds Plans (badPlanLength (length file)) _ _ (plan-numbered 11 0 (omega arith) (omega arith))
     (rung-holds Plans _ _ _ _ (λ i. plan-numbered 12 i (omega arith) (omega arith))
     (cond-holds Plans (firstFormed file) _ _
-    (cond-holds Plans (matching h (borderCount n) k) _ _
-    (cond-holds Plans (eqb (length file) (512 * planBlocks k)) _ _
-    (cond-holds Plans (ltb bad (planBlocks k)) _ _ (plan-numbered 16 bad (omega arith) (omega arith)) (by-rules k (planJudged n (decodePlan file)) (flags-numbers _ _ _ _ _)))
+    (cond-holds Plans (matching h (borderCount (partitionOf n)) k) _ _
+    (cond-holds Plans (eqb (length file) (blockSize * planBlocks k)) _ _
+    (cond-holds Plans (ltb bad (planBlocks k)) _ _ (plan-numbered 16 bad (omega arith) (omega arith))
+    (by-rules k (planJudged n (decodePlan file)) (flags-numbers _ _ _ _ _)))
     (plan-numbered 15 0 (omega arith) (omega arith)))
     (plan-numbered 14 0 (omega arith) (omega arith)))
     (plan-numbered 13 0 (omega arith) (omega arith))))

@@ -1,18 +1,17 @@
--- What a plan is: a flag word for each arc, and for each border and each node a profile, the points of all profiles one behind the other.
--- Profile number i × nodes + u is that of border number i and node u.
+-- What a plan is: a flag word for each arc, and for each border and each node a profile, the points of all
+-- profiles one behind the other. Profile number i × nodes + u is that of border number i and node u.
 use mathlib.Core.Bool.{Bool, cond}
 use mathlib.Core.List.{List}
 use Prim.Native.Nat.{ℕ, _+_, _*_, _/_, _%_, _^_}
 use lib.ListN.{getD}
 use lib.Dec.{eqb}
 use Rattle.theory_loops.specs.Total.{total}
-use Rattle.theory_paths.specs.Graph.{Permit}
+use Rattle.theory_paths.specs.Graph.{Graph, Permit}
 use Rattle.theory_paths.specs.Partition.{Partition}
 use Rattle.theory_paths.specs.Flags.{flagged}
 use Rattle.theory_paths.specs.Profiles.{Travel, unreachable, ticks, Profile}
 use Rattle.theory_travel.specs.Day.{dayValue}
 use Rattle.theory_travel.specs.Table.{entryAt}
-use Rattle.network.specs.Network.{Network, nodes}
 use Rattle.plan.specs.Border.{borderIndex}
 
 pub record Plan : Type 0 where
@@ -30,7 +29,7 @@ flag p a c = bit (getD (p .flagWords) a 0) c
 
 -- the arcs that a flagged trip to node t may take: those with the flag of its cell
 abbrev pub towards : Partition → Plan → ℕ → Permit
-towards c p t = flagged (flag p) (c .cell t)
+towards G p t = flagged (flag p) (G .cell t)
 
 -- profile number k: how many points it has, where they start, their ticks and travels
 abbrev pub pointCount : Plan → ℕ → ℕ
@@ -48,11 +47,12 @@ pointTravels p k = entryAt (p .travels) (pointStart p k)
 -- its value at a tick below the period: never where it has no points, else on the line
 unfoldable pub profileValue : ℕ → Plan → ℕ → ℕ → Travel
 profileValue period p k x =
-    cond (eqb (pointCount p k) 0) unreachable (ticks (dayValue (pointTicks p k) (pointTravels p k) (pointCount p k) period x))
+    cond (eqb (pointCount p k) 0) unreachable
+    (ticks (dayValue (pointTicks p k) (pointTravels p k) (pointCount p k) period x))
 
 -- the profile to border number i, and to the border b
-abbrev pub profile : Network → Plan → ℕ → Profile
-profile n p i u x = profileValue (n .period) p (i * nodes n + u) x
+abbrev pub profile : Graph → Plan → ℕ → Profile
+profile g p i u x = profileValue (g .period) p (i * g .nodes + u) x
 
-abbrev pub profileTo : Network → Plan → ℕ → Profile
-profileTo n p b = profile n p (borderIndex n b)
+abbrev pub profileTo : Partition → Plan → ℕ → Profile
+profileTo G p b = profile (G .graph) p (borderIndex G b)

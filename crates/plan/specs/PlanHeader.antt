@@ -3,7 +3,9 @@ use mathlib.Core.List.{List}
 use Prim.Native.Nat.{ℕ, _*_, _≤_}
 use native.Mathlib.Nat.{mul-le-mul}
 use Rattle.file_fields.specs.Fields.{le16, le32}
+use Rattle.network.specs.Limits.{mostPeriod, mostNodes, mostArcs, mostCells}
 use Rattle.plan.specs.declared.header.PlanHeader.{PlanHeader}
+use Rattle.plan.specs.PlanLimits.{mostProfilePoints, mostProfiles}
 
 abbrev pub planHeaderAt : List ℕ → PlanHeader
 planHeaderAt file = record {
@@ -16,18 +18,19 @@ planHeaderAt file = record {
   points = le32 file 24;
 }
 
--- the limits of a network (`Within` of the crate `network`), no more borders than nodes, and at most 1,048,576 points
+-- the limits of a network (`WithinLimits` of the crate `network`), no more borders than nodes, and at most
+-- 1,048,576 points
 pub record PlanWithin (h : PlanHeader) : Type 0 where
   pub period-some : 1 ≤ h .period
-  pub period-most : h .period ≤ 2880
+  pub period-most : h .period ≤ mostPeriod
   pub nodes-some : 1 ≤ h .nodes
-  pub nodes-most : h .nodes ≤ 512
-  pub arcs-most : h .arcs ≤ 2048
+  pub nodes-most : h .nodes ≤ mostNodes
+  pub arcs-most : h .arcs ≤ mostArcs
   pub cells-some : 1 ≤ h .cells
-  pub cells-most : h .cells ≤ 64
-  pub borders-most : h .borders ≤ 512
-  pub points-most : h .points ≤ 1048576
+  pub cells-most : h .cells ≤ mostCells
+  pub borders-most : h .borders ≤ mostNodes
+  pub points-most : h .points ≤ mostProfilePoints
 
 -- so the profiles, one for each border and each node, are few
-pub profiles-few : {h : PlanHeader} → PlanWithin h → h .borders * h .nodes ≤ 262144
+pub profiles-few : {h : PlanHeader} → PlanWithin h → h .borders * h .nodes ≤ mostProfiles
 profiles-few w = mul-le-mul (w .borders-most) (w .nodes-most)

@@ -1,10 +1,12 @@
--- Where the tables of a plan stand in its file: the header in block 0, then the flag words of the arcs (kind 6), the counts of the profiles'
--- points (kind 7) and the points (kind 8), each a run of blocks of its own.
+-- Where the tables of a plan stand in its file: the header in block 0, then the flag words of the arcs (kind
+-- 6), the counts of the profiles' points (kind 7) and the points (kind 8), each a run of blocks of its own.
 use Prim.Native.Nat.{ℕ, _+_, _*_, _≤_}
 use native.Mathlib.Omega.{arith}
+use Rattle.file_blocks.specs.Kind.{flagPer, countPer, profilePointPer}
 use Rattle.file_blocks.specs.Place.{blocks}
 use Rattle.plan.specs.declared.header.PlanHeader.{PlanHeader}
 use Rattle.plan.specs.declared.header.PlanLayout.{PlanLayout}
+use Rattle.plan.specs.PlanLimits.{mostPlanBlocks}
 use Rattle.plan.specs.PlanHeader.{PlanWithin, profiles-few}
 
 -- a profile for each border and each node
@@ -13,13 +15,13 @@ profileCount h = h .borders * h .nodes
 
 -- the first block of the counts and of the points, and how many blocks there are
 abbrev pub countBlock : PlanHeader → ℕ
-countBlock h = 1 + blocks 62 (h .arcs)
+countBlock h = 1 + blocks flagPer (h .arcs)
 
 abbrev pub planPointBlock : PlanHeader → ℕ
-planPointBlock h = countBlock h + blocks 250 (profileCount h)
+planPointBlock h = countBlock h + blocks countPer (profileCount h)
 
 abbrev pub planBlocks : PlanHeader → ℕ
-planBlocks h = planPointBlock h + blocks 83 (h .points)
+planBlocks h = planPointBlock h + blocks profilePointPer (h .points)
 
 unfoldable pub planLayoutOf : PlanHeader → PlanLayout
 planLayoutOf h = record {
@@ -36,5 +38,5 @@ planLayoutOf h = record {
 }
 
 -- at most 13,718 blocks
-pub plan-few : {h : PlanHeader} → PlanWithin h → planBlocks h ≤ 13718
+pub plan-few : {h : PlanHeader} → PlanWithin h → planBlocks h ≤ mostPlanBlocks
 plan-few w = omega (arith, profiles-few w)

@@ -1,5 +1,5 @@
--- Refusal 14: a plan's header has the numbers of a network. What the test says, number by number, and that the rules judge by the header as they do
--- by the network.
+-- Refusal 14: a plan's header has the numbers of a network. What the test says, number by number, and that
+-- the rules judge by the header as they do by the network.
 use mathlib.Core.Path.{_≡_, sym, _∙_, ap}
 use mathlib.Core.Bool.{Bool, true, false, and-eq-true-iff}
 use mathlib.Core.List.{List, [], _∷_, _++_}
@@ -8,20 +8,23 @@ use native.Mathlib.Omega.{arith}
 use lib.ListN.{length, length-append}
 use borrow.Author.Tests.{eqb-true, leb-true, eq-eqb, le-leb}
 use Rattle.theory_loops.specs.Select.{select}
+use Rattle.theory_paths.specs.Partition.{Partition}
 use Rattle.network.specs.declared.header.Header.{Header}
-use Rattle.network.specs.Limits.{Within}
+use Rattle.network.specs.Limits.{WithinLimits}
 use Rattle.network.specs.Layout.{layoutOf}
 use Rattle.network.specs.Network.{Network, nodes, arcs}
 use Rattle.network.specs.Decode.{decode, laid-sizes}
 use Rattle.network.specs.Valid.{ValidFile, valid-laid}
+use Rattle.network.specs.Town.{partitionOf}
 use Rattle.plan.specs.declared.answer.Planning.{Planning}
 use Rattle.plan.specs.declared.header.PlanHeader.{PlanHeader}
+use Rattle.plan.specs.PlanLimits.{mostProfilePoints}
 use Rattle.plan.specs.Border.{isBorder, borders, borderCount}
 use Rattle.plan.specs.Plan.{Plan}
 use Rattle.plan.specs.PlanHeader.{planHeaderAt, PlanWithin}
 use Rattle.plan.specs.PlanDecode.{decodePlan}
 use Rattle.plan.specs.PlanRules.{judgedBy, planJudged}
-use Rattle.plan.specs.PlanValidate.{refused, matching, plannedLength, plannedHeader}
+use Rattle.plan.specs.PlanValidate.{unplanned, matching, plannedLength, plannedHeader}
 
 -- the header k has the numbers of the network with header h and so many borders
 pub record Matches (h : Header) (borders : ℕ) (k : PlanHeader) : Type 0 where
@@ -31,7 +34,7 @@ pub record Matches (h : Header) (borders : ℕ) (k : PlanHeader) : Type 0 where
   pub arcs : k .arcs ≡ h .arcs
   pub cells : k .cells ≡ h .cells
   pub borders-are : k .borders ≡ borders
-  pub points-most : k .points ≤ 1048576
+  pub points-most : k .points ≤ mostProfilePoints
 
 module _ (h : Header) (borders : ℕ) (k : PlanHeader) where
   pub matching-matches : matching h borders k ≡ true → Matches h borders k
@@ -66,7 +69,7 @@ module _ (h : Header) (borders : ℕ) (k : PlanHeader) where
   )
 
   -- so it is within the limits
-  pub matches-within : Within h → borders ≤ h .nodes → Matches h borders k → PlanWithin k
+  pub matches-within : WithinLimits h → borders ≤ h .nodes → Matches h borders k → PlanWithin k
   matches-within w b m = record {
     period-some = omega (arith, m .period, w .period-some);
     period-most = omega (arith, m .period, w .period-most);
@@ -85,13 +88,14 @@ unfolding select
 select-few zero p = omega arith
 select-few (suc n) p = go (p n) (select-few n p)
   where
-    go : (t : Bool) → length (select n p) ≤ n → length {A = ℕ} (elim t [ true ↦ select n p ++ (n ∷ []) | false ↦ select n p ]) ≤ suc n
+    go : (t : Bool) → length (select n p) ≤ n
+        → length {A = ℕ} (elim t [ true ↦ select n p ++ (n ∷ []) | false ↦ select n p ]) ≤ suc n
     go true h = rw (length-append (select n p) (n ∷ [])) (omega arith)
     go false h = omega arith
 
-pub borders-few : (n : Network) → borderCount n ≤ nodes n
+pub borders-few : (G : Partition) → borderCount G ≤ G .graph .nodes
 unfolding borders
-borders-few n = select-few (nodes n) (isBorder n)
+borders-few G = select-few (G .graph .nodes) (isBorder G)
 
 -- the network of a valid file has its header's numbers
 pub record Headed (h : Header) (n : Network) : Type 0 where
@@ -102,31 +106,45 @@ pub record Headed (h : Header) (n : Network) : Type 0 where
 
 pub valid-headed : {file : List ℕ} {h : Header} → ValidFile file h → Headed h (decode file)
 unfolding layoutOf
-valid-headed v = let z = laid-sizes (valid-laid v) in record { period = z .period; nodes-are = z .nodes; arcs-are = z .arcs; cells = z .cells }
+valid-headed v = let z = laid-sizes (valid-laid v) in record {
+  period = z .period;
+  nodes-are = z .nodes;
+  arcs-are = z .arcs;
+  cells = z .cells;
+}
 
 -- the rules judge by the plan's header as by the network
-pub judged-same : {h : Header} {n : Network} {k : PlanHeader} → Headed h n → Matches h (borderCount n) k → (p : Plan) → judgedBy k p ≡ planJudged n p
-judged-same d m p = rw (m .arcs, m .cells, m .period, m .borders-are, m .nodes, d .arcs-are, d .cells, d .period, d .nodes-are)
+pub judged-same : {h : Header} {n : Network} {k : PlanHeader} → Headed h n
+    → Matches h (borderCount (partitionOf n)) k → (p : Plan) → judgedBy k p ≡ planJudged n p
+judged-same d m p =
+    rw
+    (m .arcs, m .cells, m .period, m .borders-are, m .nodes, d .arcs-are, d .cells, d .period, d .nodes-are)
 
 -- FOR THE LADDER
-module _ {network : List ℕ} {h : Header} (v : ValidFile network h) (file : List ℕ) (k : PlanHeader) (e : k ≡ planHeaderAt file) (b : ℕ) (f : b ≡ borderCount (decode network))
+module _ {network : List ℕ} {h : Header} (v : ValidFile network h) (file : List ℕ) (k : PlanHeader)
+    (e : k ≡ planHeaderAt file) (b : ℕ) (f : b ≡ borderCount (partitionOf (decode network)))
     (t : Bool) (g : t ≡ matching h b k) where
-  pub header-taken : (r : Planning) → t ≡ false → r ≡ refused 14 0 → r ≡ plannedHeader h (decode network) file
+  pub header-taken : (r : Planning) → t ≡ false → r ≡ unplanned 14 0
+      → r ≡ plannedHeader h (decode network) file
   unfolding plannedHeader
   header-taken r o q = rw (← e, ← f, ← g, o) q
 
   module _ (o : t ≡ true) where
-    passed : matching h (borderCount (decode network)) k ≡ true
+    passed : matching h (borderCount (partitionOf (decode network))) k ≡ true
     passed = rw f at (sym g ∙ o)
 
-    matches : Matches h (borderCount (decode network)) k
-    matches = matching-matches h (borderCount (decode network)) k passed
+    matches : Matches h (borderCount (partitionOf (decode network))) k
+    matches = matching-matches h (borderCount (partitionOf (decode network))) k passed
 
     pub header-within : PlanWithin k
     header-within =
         let d = valid-headed v in
-        matches-within h (borderCount (decode network)) k (v .within) (omega (arith, d .nodes-are, borders-few (decode network))) matches
+        matches-within h (borderCount (partitionOf (decode network))) k (v .within)
+        (omega (arith, d .nodes-are, borders-few (partitionOf (decode network)))) matches
 
-    pub header-passed : (r : Planning) → r ≡ plannedLength file k (judgedBy k (decodePlan file)) → r ≡ plannedHeader h (decode network) file
+    pub header-passed : (r : Planning) → r ≡ plannedLength file k (judgedBy k (decodePlan file))
+        → r ≡ plannedHeader h (decode network) file
     unfolding plannedHeader
-    header-passed r q = rw (← e, passed) (q ∙ ap (plannedLength file k) (judged-same (valid-headed v) matches (decodePlan file)))
+    header-passed r q =
+        rw (← e, passed)
+        (q ∙ ap (plannedLength file k) (judged-same (valid-headed v) matches (decodePlan file)))

@@ -1,8 +1,9 @@
--- The rules 17 to 19 that a plan's tables keep, as tests and as one ladder: the lowest number that fails anywhere, then its lowest place.
--- Points are numbered through all profiles, so the lowest point is the lowest of the first profile that has one.
+-- The rules 17 to 19 that a plan's tables keep, as tests and as one ladder: the lowest number that fails
+-- anywhere, then its lowest place. Points are numbered through all profiles, so the lowest point is the
+-- lowest of the first profile that has one.
 use mathlib.Core.Path.{_≡_, sym}
-use mathlib.Core.Bool.{Bool, false, cond, not, _||_}
-use Prim.Native.Nat.{ℕ, zero, suc, _+_, _*_, _/_, _^_, _≤_, _<_}
+use mathlib.Core.Bool.{Bool, false, cond, not}
+use Prim.Native.Nat.{ℕ, _+_, _*_, _/_, _^_, _≤_, _<_}
 use native.Mathlib.Nat.{div-eq-of-lt, le-div-iff-mul-le}
 use native.Mathlib.Decide.{decLt}
 use native.Mathlib.Omega.{arith}
@@ -11,10 +12,13 @@ use lib.Dec.{leb, ltb, eqb}
 use borrow.Author.Tests.{lt-leb, le-leb, ne-eqb}
 use Rattle.theory_loops.specs.First.{first, any}
 use Rattle.theory_loops.specs.Pick.{firstRung}
+use Rattle.theory_travel.specs.Ticks.{badTick}
 use Rattle.network.specs.Network.{Network, nodes, arcs}
+use Rattle.network.specs.Town.{partitionOf}
 use Rattle.file_refusals.specs.Refusal.{faulty}
 use Rattle.file_refusals.specs.declared.Judged.{Judged}
 use Rattle.file_refusals.specs.declared.Judged.the-variants.{Sound}
+use Rattle.network.specs.Limits.{mostCells}
 use Rattle.plan.specs.declared.header.PlanHeader.{PlanHeader}
 use Rattle.plan.specs.Border.{borderCount}
 use Rattle.plan.specs.Plan.{Plan, pointCount, pointStart, pointTicks}
@@ -29,43 +33,43 @@ badFlags cells p a = leb (2 ^ cells) (flagWord p a)
 abbrev pub badCount : ℕ → Plan → ℕ → Bool
 badCount period p k = ltb period (pointCount p k)
 
--- 19, of a profile whose ticks are t: the first tick is not 0, a later one does not rise, or a tick is not below the period
-unfoldable pub badTick : ℕ → (ℕ → ℕ) → ℕ → Bool
-badTick period t zero = not (eqb (t 0) 0) || leb period (t 0)
-badTick period t (suc i) = leb (t (suc i)) (t i) || leb period (t (suc i))
-
--- profile k has such a tick, and the first of them is this point's
+-- 19: profile k has a bad tick (`badTick` of the crate `theory_travel`), and the first of them is this
+-- point's
 unfoldable pub badProfile : ℕ → Plan → ℕ → Bool
 badProfile period p k = any (pointCount p k) (badTick period (pointTicks p k))
 
-unfoldable pub badPoint : ℕ → Plan → ℕ → ℕ
-badPoint period p k = pointStart p k + first (pointCount p k) (badTick period (pointTicks p k))
+unfoldable pub firstBadPoint : ℕ → Plan → ℕ → ℕ
+firstBadPoint period p k = pointStart p k + first (pointCount p k) (badTick period (pointTicks p k))
 
 -- The ladder, rung by rung from its end: the ticks, the counts' sum, the counts, the flags.
 unfoldable pub judgedTicks : ℕ → ℕ → Plan → Judged
-judgedTicks period profiles p = firstRung (λ k. faulty 19 (badPoint period p k)) profiles (badProfile period p) Sound
+judgedTicks period profiles p =
+    firstRung (λ k. faulty 19 (firstBadPoint period p k)) profiles (badProfile period p) Sound
 
 unfoldable pub judgedSum : ℕ → ℕ → Plan → Judged
-judgedSum period profiles p = cond (eqb (pointStart p profiles) (pointTotal p)) (judgedTicks period profiles p) (faulty 18 profiles)
+judgedSum period profiles p =
+    cond (eqb (pointStart p profiles) (pointTotal p)) (judgedTicks period profiles p) (faulty 18 profiles)
 
 unfoldable pub judgedCounts : ℕ → ℕ → Plan → Judged
-judgedCounts period profiles p = firstRung (faulty 18) profiles (badCount period p) (judgedSum period profiles p)
+judgedCounts period profiles p =
+    firstRung (faulty 18) profiles (badCount period p) (judgedSum period profiles p)
 
 unfoldable pub judgedFlags : ℕ → ℕ → ℕ → ℕ → Plan → Judged
-judgedFlags arcs cells period profiles p = firstRung (faulty 17) arcs (badFlags cells p) (judgedCounts period profiles p)
+judgedFlags arcs cells period profiles p =
+    firstRung (faulty 17) arcs (badFlags cells p) (judgedCounts period profiles p)
 
 -- by the numbers of a plan's header, and by a network, which has a profile for each border and each node
 abbrev pub judgedBy : PlanHeader → Plan → Judged
 judgedBy k p = judgedFlags (k .arcs) (k .cells) (k .period) (profileCount k) p
 
 abbrev pub profiles : Network → ℕ
-profiles n = borderCount n * nodes n
+profiles n = borderCount (partitionOf n) * nodes n
 
 abbrev pub planJudged : Network → Plan → Judged
 planJudged n p = judgedFlags (arcs n) (n .cells) (n .period) (profiles n) p
 
 -- FOR CODE that looks at a flag word: 64 cells leave no bit over, and fewer leave those that a shift keeps
-pub no-high : (cells word : ℕ) → 64 ≤ cells → cells ≤ 64 → word < 2 ^ 64 → false ≡ leb (2 ^ cells) word
+pub no-high : (cells word : ℕ) → 64 ≤ cells → cells ≤ mostCells → word < 2 ^ 64 → false ≡ leb (2 ^ cells) word
 no-high cells word a b l = let q : cells ≡ 64 = omega arith in rw q (sym (lt-leb (2 ^ 64) word l))
 
 pub high-shift : (cells word : ℕ) → not (eqb (word / 2 ^ cells) 0) ≡ leb (2 ^ cells) word

@@ -1,5 +1,6 @@
--- What a plan file that validation lets pass is, block by block and rule by rule: `ValidPlan`, and that this is exactly what is let pass
--- (`plan-exactly`). Nothing of the file is left out: its length, every sum, every block's form, the header and the tables.
+-- What a plan file that validation lets pass is, block by block and rule by rule: `ValidPlan`, and that this
+-- is exactly what is let pass (`plan-exactly`). Nothing of the file is left out: its length, every sum, every
+-- block's form, the header and the tables.
 use mathlib.Core.Path.{_≡_, refl, _∙_, ap, subst}
 use mathlib.Core.Logic.{_↔_}
 use mathlib.Core.Bool.{true, false, not, and-eq-true-iff}
@@ -13,37 +14,47 @@ use Rattle.theory_loops.specs.Pick.{firstRung, passed-by, reached-by, rung-pass
 use Rattle.file_fields.specs.Fields.{le16}
 use Rattle.file_blocks.specs.Place.{blocks}
 use Rattle.file_fields.specs.Sum.{good}
+use Rattle.file_fields.specs.Block.{blockSize}
+use Rattle.file_blocks.specs.Kind.{flagKind, flagPer, flagSize, countKind, countPer, countSize}
+use Rattle.file_blocks.specs.Kind.{profilePointKind, profilePointPer, profilePointSize, planKind, planSize}
 use Rattle.file_blocks.specs.Form.{formed, unformed}
 use Rattle.file_blocks.specs.Read.{bad}
 use Rattle.file_refusals.specs.declared.Judged.{Judged}
 use Rattle.file_refusals.specs.declared.Judged.the-variants.{Sound, Faulty}
 use Rattle.network.specs.declared.header.Header.{Header}
 use Rattle.network.specs.Network.{Network, nodes, arcs}
+use Rattle.network.specs.Town.{partitionOf}
 use Rattle.network.specs.Decode.{decode}
 use Rattle.network.specs.Valid.{ValidFile, RunFormed}
 use Rattle.plan.specs.declared.answer.Planning.the-variants as planning
 use Rattle.plan.specs.declared.header.PlanHeader.{PlanHeader}
 use Rattle.plan.specs.declared.header.PlanLayout.{PlanLayout}
+use Rattle.plan.specs.PlanLimits.{mostPlanBlocks, mostPlanBytes}
 use Rattle.plan.specs.Border.{borderCount}
 use Rattle.plan.specs.PlanHeader.{planHeaderAt, PlanWithin}
-use Rattle.plan.specs.PlanLayout.{profileCount, countBlock, planPointBlock, planBlocks, planLayoutOf, plan-few}
+use Rattle.plan.specs.PlanLayout.{profileCount, countBlock, planPointBlock, planBlocks, planLayoutOf}
+use Rattle.plan.specs.PlanLayout.{plan-few}
 use Rattle.plan.specs.PlanDecode.{decodePlan, PlanLaid}
 use Rattle.plan.specs.PlanRules.{profiles, planJudged}
 use Rattle.plan.specs.WellFormed.{WellFormed, well-formed-exactly}
-use Rattle.plan.specs.PlanValidate.{refused, badPlanLength, unformedPoints, unformedCounts, firstUnformed, plannedRules, plannedForm, plannedLength, matching, plannedHeader, firstFormed, plannedFirst, planned}
-use Rattle.plan.specs.PlanMatch.{Matches, matching-matches, matches-matching, matches-within, borders-few, valid-headed}
+use Rattle.plan.specs.PlanValidate.{unplanned, badPlanLength, unformedPoints, unformedCounts}
+use Rattle.plan.specs.PlanValidate.{firstUnformed, plannedRules, plannedForm, plannedLength, matching}
+use Rattle.plan.specs.PlanValidate.{plannedHeader, firstFormed, plannedFirst, planned}
+use Rattle.plan.specs.PlanMatch.{Matches, matching-matches, matches-matching, matches-within}
+use Rattle.plan.specs.PlanMatch.{borders-few, valid-headed}
 
 -- a plan file with header k, for a network n with header h
 pub record ValidPlan (h : Header) (n : Network) (file : List ℕ) (k : PlanHeader) : Type 0 where
   pub is : k ≡ planHeaderAt file
-  pub matches : Matches h (borderCount n) k
-  pub long : length file ≡ 512 * planBlocks k
+  pub matches : Matches h (borderCount (partitionOf n)) k
+  pub long : length file ≡ blockSize * planBlocks k
   pub sums : (b : ℕ) → b < planBlocks k → good file b ≡ true
-  pub first-formed : formed file 0 5 1 28 ≡ true
+  pub first-formed : formed file 0 planKind 1 (8 + planSize) ≡ true
   pub bits-zero : le16 file 22 ≡ 0
-  pub flags-formed : RunFormed file 1 6 62 8 (k .arcs)
-  pub counts-formed : RunFormed file (countBlock k) 7 250 2 (profileCount k)
-  pub points-formed : RunFormed file (planPointBlock k) 8 83 6 (k .points)
+  pub flags-formed : RunFormed file 1 flagKind flagPer flagSize (k .arcs)
+  pub counts-formed : RunFormed file (countBlock k) countKind countPer countSize (profileCount k)
+  pub points-formed : RunFormed file (planPointBlock k) profilePointKind profilePointPer profilePointSize
+      (k .points)
   pub well-formed : WellFormed n (decodePlan file)
 
 -- the layout of a plan for a network has the network's numbers
@@ -52,17 +63,23 @@ pub record PlanFor (n : Network) (l : PlanLayout) : Type 0 where
   pub nodes-are : l .nodes ≡ nodes n
   pub arcs-are : l .arcs ≡ arcs n
   pub cells : l .cells ≡ n .cells
-  pub borders-are : l .borders ≡ borderCount n
+  pub borders-are : l .borders ≡ borderCount (partitionOf n)
   pub profiles-are : l .profiles ≡ profiles n
 
 -- such a file is within the limits, laid out as its header says, and for the network
-module _ {network : List ℕ} {h : Header} (v : ValidFile network h) {file : List ℕ} {k : PlanHeader} (w : ValidPlan h (decode network) file k) where
+module _ {network : List ℕ} {h : Header} (v : ValidFile network h) {file : List ℕ} {k : PlanHeader}
+    (w : ValidPlan h (decode network) file k) where
   pub valid-within : PlanWithin k
   valid-within =
-      matches-within h (borderCount (decode network)) k (v .within) (omega (arith, valid-headed v .nodes-are, borders-few (decode network))) (w .matches)
+      matches-within h (borderCount (partitionOf (decode network))) k (v .within)
+      (omega (arith, valid-headed v .nodes-are, borders-few (partitionOf (decode network)))) (w .matches)
 
   pub valid-plan-laid : PlanLaid file (planLayoutOf k)
-  valid-plan-laid = record { is = ap planLayoutOf (w .is); within = rw (w .is) at valid-within; long = rw (w .is) at (w .long) }
+  valid-plan-laid = record {
+    is = ap planLayoutOf (w .is);
+    within = rw (w .is) at valid-within;
+    long = rw (w .is) at (w .long);
+  }
 
   pub valid-for : PlanFor (decode network) (planLayoutOf k)
   unfolding planLayoutOf
@@ -79,37 +96,53 @@ module _ {network : List ℕ} {h : Header} (v : ValidFile network h) {file : Lis
       }
 
 -- no refusal is well-formed
-not-well : (number place : ℕ) (k : PlanHeader) → refused number place ≡ planning.WellFormed k → ⊥
+not-well : (number place : ℕ) (k : PlanHeader) → unplanned number place ≡ planning.WellFormed k → ⊥
 not-well number place k e = let z : _≡_ {A = ℕ} 0 1 = cc in omega arith
 
-rules-passed : (k m : PlanHeader) (j : Judged) → plannedRules m j ≡ planning.WellFormed k → (j ≡ Sound) × (m ≡ k)
+rules-passed : (k m : PlanHeader) (j : Judged) → plannedRules m j ≡ planning.WellFormed k
+    → (j ≡ Sound) × (m ≡ k)
 rules-passed k m Sound e = (refl, (cc))
 rules-passed k m (Faulty r) e = let z : _≡_ {A = ℕ} 0 1 = cc in absurd (omega arith)
 
 -- the runs are in their form where no block out of it is found before the end
 module _ (file : List ℕ) (k : PlanHeader) where
   record RunsFormed : Type 0 where
-    flags-formed : RunFormed file 1 6 62 8 (k .arcs)
-    counts-formed : RunFormed file (countBlock k) 7 250 2 (profileCount k)
-    points-formed : RunFormed file (planPointBlock k) 8 83 6 (k .points)
+    flags-formed : RunFormed file 1 flagKind flagPer flagSize (k .arcs)
+    counts-formed : RunFormed file (countBlock k) countKind countPer countSize (profileCount k)
+    points-formed : RunFormed file (planPointBlock k) profilePointKind profilePointPer profilePointSize
+        (k .points)
 
   all-formed : planBlocks k ≤ firstUnformed file (planLayoutOf k) → RunsFormed
   unfolding firstUnformed unformedCounts unformedPoints planLayoutOf
   all-formed l =
       let x = firstUnformed file (planLayoutOf k) in
-      let (f, e₁) = rung-passed (λ j. 1 + j) (blocks 62 (k .arcs)) (unformed file 1 6 62 8 (k .arcs)) _ x (λ i m q. omega arith) refl in
-      let (c, e₂) = rung-passed (λ j. countBlock k + j) (blocks 250 (profileCount k)) (unformed file (countBlock k) 7 250 2 (profileCount k)) _ x (λ i m q. omega arith) e₁ in
-      let (p, _) = rung-passed (λ j. planPointBlock k + j) (blocks 83 (k .points)) (unformed file (planPointBlock k) 8 83 6 (k .points)) _ x (λ i m q. omega arith) e₂ in
-      record { flags-formed = λ j m. not-false _ (f j m); counts-formed = λ j m. not-false _ (c j m); points-formed = λ j m. not-false _ (p j m) }
+      let (f, e₁) =
+      rung-passed (λ j. 1 + j) (blocks flagPer (k .arcs))
+      (unformed file 1 flagKind flagPer flagSize (k .arcs)) _ x (λ i m q. omega arith) refl in
+      let (c, e₂) =
+      rung-passed (λ j. countBlock k + j) (blocks countPer (profileCount k))
+      (unformed file (countBlock k) countKind countPer countSize (profileCount k)) _ x
+      (λ i m q. omega arith) e₁ in
+      let (p, _) =
+      rung-passed (λ j. planPointBlock k + j) (blocks profilePointPer (k .points))
+      (unformed file (planPointBlock k) profilePointKind profilePointPer profilePointSize (k .points)) _ x
+      (λ i m q. omega arith) e₂ in
+      record {
+        flags-formed = λ j m. not-false _ (f j m);
+        counts-formed = λ j m. not-false _ (c j m);
+        points-formed = λ j m. not-false _ (p j m);
+      }
 
   formed-all : RunsFormed → firstUnformed file (planLayoutOf k) ≡ planBlocks k
   unfolding firstUnformed unformedCounts unformedPoints planLayoutOf
   formed-all f =
-      rung-clear (λ j. 1 + j) (blocks 62 (k .arcs)) _ _ (λ j m. ap not (f .flags-formed j m))
-      ∙ rung-clear (λ j. countBlock k + j) (blocks 250 (profileCount k)) _ _ (λ j m. ap not (f .counts-formed j m))
-      ∙ rung-clear (λ j. planPointBlock k + j) (blocks 83 (k .points)) _ _ (λ j m. ap not (f .points-formed j m))
+      rung-clear (λ j. 1 + j) (blocks flagPer (k .arcs)) _ _ (λ j m. ap not (f .flags-formed j m))
+      ∙ rung-clear (λ j. countBlock k + j) (blocks countPer (profileCount k)) _ _
+      (λ j m. ap not (f .counts-formed j m))
+      ∙ rung-clear (λ j. planPointBlock k + j) (blocks profilePointPer (k .points)) _ _
+      (λ j m. ap not (f .points-formed j m))
 
-within-file : (b n long : ℕ) → long ≡ 512 * n → b < n → b < long / 512
+within-file : (b n long : ℕ) → long ≡ blockSize * n → b < n → b < long / blockSize
 within-file b n long e l = omega arith
 
 module _ (h : Header) (n : Network) (file : List ℕ) (k : PlanHeader) where
@@ -119,21 +152,35 @@ module _ (h : Header) (n : Network) (file : List ℕ) (k : PlanHeader) where
       let m = planHeaderAt file in
       let j = planJudged n (decodePlan file) in
       let x = planning.WellFormed k in
-      let (_, e₁) = passed-by (badPlanLength (length file)) (refused 11 0) (firstRung (refused 12) (length file / 512) (bad file) (plannedFirst h n file)) x (not-well 11 0 k) e in
-      let (s, e₂) = rung-passed (refused 12) (length file / 512) (bad file) (plannedFirst h n file) x (λ i _. not-well 12 i k) e₁ in
-      let (f, e₃) = reached-by (firstFormed file) (plannedHeader h n file) (refused 13 0) x (not-well 13 0 k) e₂ in
-      let (o, e₄) = reached-by (matching h (borderCount n) m) (plannedLength file m j) (refused 14 0) x (not-well 14 0 k) e₃ in
-      let (l, e₅) = reached-by (eqb (length file) (512 * planBlocks m)) (plannedForm file m j) (refused 15 0) x (not-well 15 0 k) e₄ in
-      let (u, e₆) = passed-by (ltb (firstUnformed file (planLayoutOf m)) (planBlocks m)) (refused 16 (firstUnformed file (planLayoutOf m))) (plannedRules m j) x (not-well 16 (firstUnformed file (planLayoutOf m)) k) e₅ in
+      let (_, e₁) =
+      passed-by (badPlanLength (length file)) (unplanned 11 0)
+      (firstRung (unplanned 12) (length file / blockSize) (bad file) (plannedFirst h n file)) x
+      (not-well 11 0 k) e in
+      let (s, e₂) =
+      rung-passed (unplanned 12) (length file / blockSize) (bad file) (plannedFirst h n file) x
+      (λ i _. not-well 12 i k) e₁ in
+      let (f, e₃) =
+      reached-by (firstFormed file) (plannedHeader h n file) (unplanned 13 0) x (not-well 13 0 k) e₂ in
+      let (o, e₄) =
+      reached-by (matching h (borderCount (partitionOf n)) m) (plannedLength file m j) (unplanned 14 0) x
+      (not-well 14 0 k) e₃ in
+      let (l, e₅) =
+      reached-by (eqb (length file) (blockSize * planBlocks m)) (plannedForm file m j) (unplanned 15 0) x
+      (not-well 15 0 k) e₄ in
+      let (u, e₆) =
+      passed-by (ltb (firstUnformed file (planLayoutOf m)) (planBlocks m))
+      (unplanned 16 (firstUnformed file (planLayoutOf m))) (plannedRules m j) x
+      (not-well 16 (firstUnformed file (planLayoutOf m)) k) e₅ in
       let (w, q) = rules-passed k m j e₆ in
-      let (d, z) = and-eq-true-iff (formed file 0 5 1 28) (eqb (le16 file 22) 0) .0 f in
+      let (d, z) = and-eq-true-iff (formed file 0 planKind 1 (8 + planSize)) (eqb (le16 file 22) 0) .0 f in
       let g = all-formed file m (ltb-false _ _ u) in
-      let long : length file ≡ 512 * planBlocks m = eqb-true _ _ l in
+      let long : length file ≡ blockSize * planBlocks m = eqb-true _ _ l in
       let v : ValidPlan h n file m = record {
         is = refl;
-        matches = matching-matches h (borderCount n) m o;
+        matches = matching-matches h (borderCount (partitionOf n)) m o;
         long = long;
-        sums = λ b (a : b < planBlocks m). not-false _ (s b (within-file b (planBlocks m) (length file) long a));
+        sums =
+            λ b (a : b < planBlocks m). not-false _ (s b (within-file b (planBlocks m) (length file) long a));
         first-formed = d;
         bits-zero = eqb-true _ _ z;
         flags-formed = g .flags-formed;
@@ -145,15 +192,15 @@ module _ (h : Header) (n : Network) (file : List ℕ) (k : PlanHeader) where
 
 module _ {network : List ℕ} {h : Header} (v : ValidFile network h) (file : List ℕ) (k : PlanHeader) where
   module _ (w : ValidPlan h (decode network) file k) where
-    few : (1 ≤ planBlocks k) × (planBlocks k ≤ 13718)
+    few : (1 ≤ planBlocks k) × (planBlocks k ≤ mostPlanBlocks)
     few = (omega arith, plan-few (valid-within v w))
 
     length-passed : badPlanLength (length file) ≡ false
     unfolding badPlanLength
     length-passed = rw (
       ne-eqb (length file) 0 (omega (arith, w .long, few)),
-      eq-eqb (length file % 512) 0 (omega (arith, w .long)),
-      le-ltb 7023616 (length file) (omega (arith, w .long, few)),
+      eq-eqb (length file % blockSize) 0 (omega (arith, w .long)),
+      le-ltb mostPlanBytes (length file) (omega (arith, w .long, few)),
     )
 
     first-passed : firstFormed file ≡ true
@@ -163,23 +210,37 @@ module _ {network : List ℕ} {h : Header} (v : ValidFile network h) (file : Lis
     form-passed : plannedForm file k (planJudged (decode network) (decodePlan file)) ≡ planning.WellFormed k
     unfolding plannedForm
     form-passed =
-        let f : RunsFormed file k = record { flags-formed = w .flags-formed; counts-formed = w .counts-formed; points-formed = w .points-formed } in
-        rw (formed-all file k f, le-ltb (planBlocks k) (planBlocks k) (omega arith), well-formed-exactly (decode network) (decodePlan file) .1 (w .well-formed))
+        let f : RunsFormed file k = record {
+          flags-formed = w .flags-formed;
+          counts-formed = w .counts-formed;
+          points-formed = w .points-formed;
+        } in
+        rw (
+          formed-all file k f,
+          le-ltb (planBlocks k) (planBlocks k) (omega arith),
+          well-formed-exactly (decode network) (decodePlan file) .1 (w .well-formed),
+        )
 
     long-passed : plannedLength file k (planJudged (decode network) (decodePlan file)) ≡ planning.WellFormed k
     unfolding plannedLength
-    long-passed = rw (eq-eqb (length file) (512 * planBlocks k) (w .long)) form-passed
+    long-passed = rw (eq-eqb (length file) (blockSize * planBlocks k) (w .long)) form-passed
 
     header-passed : plannedHeader h (decode network) file ≡ planning.WellFormed k
     unfolding plannedHeader
-    header-passed = rw (← (w .is), matches-matching h (borderCount (decode network)) k (w .matches)) long-passed
+    header-passed =
+        rw (
+          ← (w .is),
+          matches-matching h (borderCount (partitionOf (decode network))) k (w .matches),
+        ) long-passed
 
     valid-planned : planned h (decode network) file ≡ planning.WellFormed k
     unfolding planned plannedFirst
     valid-planned =
         rw length-passed
-        (rung-clear (refused 12) (length file / 512) (bad file) _ (λ b l. ap not (w .sums b (omega (arith, w .long))))
+        (rung-clear (unplanned 12) (length file / blockSize) (bad file) _
+        (λ b l. ap not (w .sums b (omega (arith, w .long))))
         ∙ rw first-passed header-passed)
 
-  pub plan-exactly : (planned h (decode network) file ≡ planning.WellFormed k) ↔ ValidPlan h (decode network) file k
+  pub plan-exactly : (planned h (decode network) file ≡ planning.WellFormed k)
+      ↔ ValidPlan h (decode network) file k
   plan-exactly = (planned-valid h (decode network) file k, valid-planned)

@@ -1,21 +1,22 @@
--- What the rules 17 to 19 ask of a plan for a network, said of its arcs and profiles (`WellFormed`). The ladder of tests judges a plan sound
--- exactly when this holds (`well-formed-exactly`).
+-- What the rules 17 to 19 ask of a plan for a network, said of its arcs and profiles (`WellFormed`). The
+-- ladder of tests judges a plan sound exactly when this holds (`well-formed-exactly`).
 use mathlib.Core.Path.{_≡_, _∙_}
 use mathlib.Core.Logic.{_↔_}
-use mathlib.Core.Bool.{false, not}
-use Prim.Native.Nat.{ℕ, zero, suc, _^_, _≤_, _<_}
+use mathlib.Core.Bool.{false}
+use Prim.Native.Nat.{ℕ, _^_, _≤_, _<_}
 use native.Mathlib.Omega.{arith}
-use lib.Dec.{leb, eqb}
-use borrow.Author.Tests.{ltb-false, leb-false, eqb-true, not-false, lt-leb, le-ltb, eq-eqb}
+use borrow.Author.Tests.{ltb-false, leb-false, eqb-true, lt-leb, le-ltb, eq-eqb}
 use Rattle.theory_loops.specs.First.{first, first-le, clear, all-clear}
-use Rattle.theory_loops.specs.Pick.{or-passed, reached-by, rung-passed, rung-clear}
+use Rattle.theory_loops.specs.Pick.{reached-by, rung-passed, rung-clear}
 use Rattle.theory_travel.specs.Day.{Day}
+use Rattle.theory_travel.specs.Ticks.{badTick, ticks-day}
 use Rattle.network.specs.Network.{Network, arcs}
 use Rattle.file_refusals.specs.Refusal.{faulty}
 use Rattle.file_refusals.specs.declared.Judged.the-variants.{Sound}
 use Rattle.plan.specs.Plan.{Plan, pointCount, pointStart, pointTicks}
 use Rattle.plan.specs.PlanDecode.{flagWord, pointTotal}
-use Rattle.plan.specs.PlanRules.{badFlags, badCount, badTick, badProfile, badPoint, judgedTicks, judgedSum, judgedCounts, judgedFlags, profiles, planJudged}
+use Rattle.plan.specs.PlanRules.{badFlags, badCount, badProfile, firstBadPoint, judgedTicks}
+use Rattle.plan.specs.PlanRules.{judgedSum, judgedCounts, judgedFlags, profiles, planJudged}
 
 pub record WellFormed (n : Network) (p : Plan) : Type 0 where
   -- 17: flags of the network's cells alone
@@ -26,49 +27,29 @@ pub record WellFormed (n : Network) (p : Plan) : Type 0 where
   -- 19: the points of a profile that has some are a day's
   pub days : (k : ℕ) → k < profiles n → 0 < pointCount p k → Day (pointTicks p k) (pointCount p k) (n .period)
 
--- a tick that is not bad: its first half, and that it is below the period
-module _ (period : ℕ) (t : ℕ → ℕ) where
-  first-fine : badTick period t 0 ≡ false → (t 0 ≡ 0) × (t 0 < period)
-  unfolding badTick
-  first-fine e = let (z, b) = or-passed (not (eqb (t 0) 0)) (leb period (t 0)) e in (eqb-true (t 0) 0 (not-false _ z), leb-false period (t 0) b)
-
-  later-fine : (i : ℕ) → badTick period t (suc i) ≡ false → (t i < t (suc i)) × (t (suc i) < period)
-  unfolding badTick
-  later-fine i e = let (r, b) = or-passed (leb (t (suc i)) (t i)) (leb period (t (suc i))) e in (leb-false (t (suc i)) (t i) r, leb-false period (t (suc i)) b)
-
-  fine-below : (i : ℕ) → badTick period t i ≡ false → t i < period
-  fine-below zero e = first-fine e .1
-  fine-below (suc i) e = later-fine i e .1
-
--- ticks of which none is bad are a day's, and the other way round
-module _ (period : ℕ) (t : ℕ → ℕ) (m : ℕ) where
-  fine-day : ((i : ℕ) → i < m → badTick period t i ≡ false) → 0 < m → Day t m period
-  fine-day h some = record {
-    some = some;
-    start = first-fine period t (h 0 some) .0;
-    rise = λ i l. later-fine period t i (h (suc i) l) .0;
-    below = λ i l. fine-below period t i (h i l);
-  }
-
-  day-fine : Day t m period → (i : ℕ) → i < m → badTick period t i ≡ false
-  unfolding badTick
-  day-fine d zero l = rw (eq-eqb (t 0) 0 (d .start)) (lt-leb period (t 0) (d .below 0 l))
-  day-fine d (suc i) l = rw (lt-leb (t (suc i)) (t i) (d .rise i l)) (lt-leb period (t (suc i)) (d .below (suc i) l))
-
 module _ (period : ℕ) (p : Plan) (k : ℕ) where
-  profile-day : badProfile period p k ≡ false → 0 < pointCount p k → Day (pointTicks p k) (pointCount p k) period
+  profile-day : badProfile period p k ≡ false → 0 < pointCount p k
+      → Day (pointTicks p k) (pointCount p k) period
   unfolding badProfile
   profile-day e some =
       let bad = badTick period (pointTicks p k) in
-      let q : first (pointCount p k) bad ≡ pointCount p k = omega (arith, ltb-false (first (pointCount p k) bad) (pointCount p k) e, first-le bad (pointCount p k)) in
-      fine-day period (pointTicks p k) (pointCount p k) (clear bad (pointCount p k) q) some
+      let q : first (pointCount p k) bad ≡ pointCount p k =
+      omega
+      (arith, ltb-false (first (pointCount p k) bad) (pointCount p k) e, first-le bad (pointCount p k)) in
+      ticks-day period (pointTicks p k) (pointCount p k) some .0 (clear bad (pointCount p k) q)
 
-  day-profile : (0 < pointCount p k → Day (pointTicks p k) (pointCount p k) period) → badProfile period p k ≡ false
+  day-profile : (0 < pointCount p k → Day (pointTicks p k) (pointCount p k) period)
+      → badProfile period p k ≡ false
   unfolding badProfile
   day-profile d =
       let bad = badTick period (pointTicks p k) in
       le-ltb (first (pointCount p k) bad) (pointCount p k)
-      (omega (arith, all-clear bad (pointCount p k) (λ i l. day-fine period (pointTicks p k) (pointCount p k) (d (omega arith)) i l)))
+      (omega (arith, all-clear bad (pointCount p k) fine))
+    where
+      fine : (i : ℕ) → i < pointCount p k → badTick period (pointTicks p k) i ≡ false
+      fine i l =
+          let some : 0 < pointCount p k = omega arith in
+          ticks-day period (pointTicks p k) (pointCount p k) some .1 (d some) i l
 
 -- no fault is sound
 not-sound : (number place : ℕ) → faulty number place ≡ Sound → ⊥
@@ -78,10 +59,15 @@ module _ (n : Network) (p : Plan) where
   judged-well : planJudged n p ≡ Sound → WellFormed n p
   unfolding judgedFlags judgedCounts judgedSum judgedTicks
   judged-well e =
-      let (f, e₁) = rung-passed (faulty 17) (arcs n) (badFlags (n .cells) p) _ Sound (λ i _. not-sound 17 i) e in
-      let (c, e₂) = rung-passed (faulty 18) (profiles n) (badCount (n .period) p) _ Sound (λ i _. not-sound 18 i) e₁ in
+      let (f, e₁) =
+      rung-passed (faulty 17) (arcs n) (badFlags (n .cells) p) _ Sound (λ i _. not-sound 17 i) e in
+      let (c, e₂) =
+      rung-passed (faulty 18) (profiles n) (badCount (n .period) p) _ Sound (λ i _. not-sound 18 i) e₁ in
       let (s, e₃) = reached-by _ _ _ Sound (not-sound 18 (profiles n)) e₂ in
-      let (t, _) = rung-passed (λ k. faulty 19 (badPoint (n .period) p k)) (profiles n) (badProfile (n .period) p) _ Sound (λ k _. not-sound 19 (badPoint (n .period) p k)) e₃ in
+      let (t, _) =
+      rung-passed (λ k. faulty 19 (firstBadPoint (n .period) p k)) (profiles n)
+      (badProfile (n .period) p) _ Sound
+      (λ k _. not-sound 19 (firstBadPoint (n .period) p k)) e₃ in
       record {
         flags-below = λ a l. leb-false _ _ (f a l);
         counts-most = λ k l. ltb-false _ _ (c k l);
@@ -93,9 +79,11 @@ module _ (n : Network) (p : Plan) where
   unfolding judgedFlags judgedCounts judgedSum judgedTicks
   well-judged w =
       rung-clear (faulty 17) (arcs n) (badFlags (n .cells) p) _ (λ a l. lt-leb _ _ (w .flags-below a l))
-      ∙ rung-clear (faulty 18) (profiles n) (badCount (n .period) p) _ (λ k l. le-ltb _ _ (w .counts-most k l))
+      ∙ rung-clear (faulty 18) (profiles n) (badCount (n .period) p) _
+      (λ k l. le-ltb _ _ (w .counts-most k l))
       ∙ rw (eq-eqb (pointStart p (profiles n)) (pointTotal p) (w .sum))
-      (rung-clear (λ k. faulty 19 (badPoint (n .period) p k)) (profiles n) (badProfile (n .period) p) _ (λ k l. day-profile (n .period) p k (w .days k l)))
+      (rung-clear (λ k. faulty 19 (firstBadPoint (n .period) p k)) (profiles n) (badProfile (n .period) p) _
+      (λ k l. day-profile (n .period) p k (w .days k l)))
 
   pub well-formed-exactly : (planJudged n p ≡ Sound) ↔ WellFormed n p
   well-formed-exactly = (judged-well, well-judged)

@@ -13,7 +13,7 @@ pub enum Planning {
 
 // A plan that is refused at one place.
 pub fn refused(number: u32, place: u32) -> Planning
-    ensures { λ r. ⌜ r ≡ PlanValidate.refused number place ⌝ }
+    ensures { λ r. ⌜ r ≡ PlanValidate.unplanned number place ⌝ }
 {
     Planning::Refused(refuse(number, place))
 }

@@ -1,11 +1,12 @@
 // A flag of an arc: a bit of its flag word.
 ghost use mathlib.Core.Path.{_≡_};
 ghost use Prim.Native.Nat.{_<_};
+ghost use Rattle.network.specs.Limits.{mostCells};
 ghost use Rattle.plan.specs.Plan.{bit};
 
 // Is bit c of the word set?
 pub fn is_set(word: u64, c: usize) -> bool
-    requires { ⌜ c < 64 ⌝ }
+    requires { ⌜ c < mostCells ⌝ }
     ensures { λ r. ⌜ r ≡ bit word c ⌝ }
 {
     (word >> c) % 2 == 1

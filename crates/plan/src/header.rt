@@ -1,9 +1,12 @@
 // The header of a plan file, and where the tables of such a plan stand in its file.
+use file_blocks::kind;
+use file_blocks::place::blocks;
 ghost use mathlib.Core.Path.{_≡_};
 ghost use Rattle.plan.specs.PlanHeader.{PlanWithin};
 ghost use Rattle.plan.specs.PlanLayout.{planLayoutOf};
 
-// The number of the network that the plan is for, that network's counts, the count of its borders, and the points of all profiles.
+// The number of the network that the plan is for, that network's counts, the count of its borders, and the
+// points of all profiles.
 pub struct PlanHeader {
     pub number: u32,
     pub period: u16,
@@ -39,8 +42,8 @@ impl PlanHeader {
         let borders = self.borders as usize;
         let points = self.points as usize;
         let profiles = borders * nodes;
-        let countblock = 1 + (arcs + 61) / 62;
-        let pointblock = countblock + (profiles + 249) / 250;
+        let countblock = 1 + blocks(kind::FLAG_PER, arcs);
+        let pointblock = countblock + blocks(kind::COUNT_PER, profiles);
         PlanLayout {
             period: self.period as usize,
             nodes,
@@ -51,7 +54,7 @@ impl PlanHeader {
             points,
             countblock,
             pointblock,
-            blocks: pointblock + (points + 82) / 83,
+            blocks: pointblock + blocks(kind::PROFILE_POINT_PER, points),
         }
     }
 }

@@ -1,6 +1,7 @@
 // The entries of a plan file, read in place: one function for each of its four tables.
 // Each contract equates the answer with the entry of the plan that the file decodes to; callers see no bytes.
 use crate::header::PlanLayout;
+use file_blocks::kind;
 use file_blocks::place::offset;
 use file_fields::fields::le16;
 use file_fields::fields::le32;
@@ -16,7 +17,7 @@ pub fn flag_word(plan: &[u8], l: PlanLayout, a: usize) -> u64
     requires { ⌜ a < l .arcs ⌝ }
     ensures { λ r. ⌜ r ≡ flagWord (decodePlan (now (plan .entry))) a ⌝ }
 {
-    le64(plan, offset(1, 62, 8, a))
+    le64(plan, offset(1, kind::FLAG_PER, kind::FLAG_SIZE, a))
 }
 
 // How many points profile k has.
@@ -25,7 +26,10 @@ pub fn point_count(plan: &[u8], l: PlanLayout, k: usize) -> usize
     requires { ⌜ k < l .profiles ⌝ }
     ensures { λ r. ⌜ (r ≡ pointCount (decodePlan (now (plan .entry))) k) × (r < 65536) ⌝ }
 {
-    le16(plan, offset(l.countblock, 250, 2, k)) as usize
+    le16(
+        plan,
+        offset(l.countblock, kind::COUNT_PER, kind::COUNT_SIZE, k),
+    ) as usize
 }
 
 // The tick of point q.
@@ -34,7 +38,13 @@ pub fn tick(plan: &[u8], l: PlanLayout, q: usize) -> usize
     requires { ⌜ q < l .points ⌝ }
     ensures { λ r. ⌜ (r ≡ pointTick (decodePlan (now (plan .entry))) q) × (r < 65536) ⌝ }
 {
-    le16(plan, offset(l.pointblock, 83, 6, q)) as usize
+    let at = offset(
+        l.pointblock,
+        kind::PROFILE_POINT_PER,
+        kind::PROFILE_POINT_SIZE,
+        q,
+    );
+    le16(plan, at) as usize
 }
 
 // The travel of point q.
@@ -43,5 +53,11 @@ pub fn travel(plan: &[u8], l: PlanLayout, q: usize) -> u32
     requires { ⌜ q < l .points ⌝ }
     ensures { λ r. ⌜ r ≡ pointTravel (decodePlan (now (plan .entry))) q ⌝ }
 {
-    le32(plan, offset(l.pointblock, 83, 6, q) + 2)
+    let at = offset(
+        l.pointblock,
+        kind::PROFILE_POINT_PER,
+        kind::PROFILE_POINT_SIZE,
+        q,
+    );
+    le32(plan, at + 2)
 }

@@ -1,9 +1,9 @@
--- The check of a well-formed plan against a network: the lowest of 20 to 24 that fails anywhere, then its first place. From 21 on the places are the
--- border's number, the node and the tick.
+-- The check of a plan against a graph with cells: the lowest of 20 to 24 that fails anywhere, then its first
+-- place. From 21 on the places are the border's number, the node and the tick.
 use Prim.Native.Nat.{ℕ}
 use Rattle.theory_loops.specs.Pick.{firstRung}
 use Rattle.theory_loops.specs.Triple.{firstTripleRung}
-use Rattle.network.specs.Network.{Network, nodes, arcs}
+use Rattle.theory_paths.specs.Partition.{Partition}
 use Rattle.file_refusals.specs.Refusal.{refusal}
 use Rattle.plan_check.specs.declared.answer.Checking.{Checking}
 use Rattle.plan_check.specs.declared.answer.Checking.the-variants.{Accepted, Refused}
@@ -16,14 +16,16 @@ abbrev pub refusedAt : ℕ → ℕ → ℕ → ℕ → Checking
 refusedAt number i u x = Refused (record { number = number; first = i; second = u; third = x })
 
 -- a rung of the ladder: the test fails at some triple
-unfoldable pub tripleRung : ℕ → Network → Plan → Checking → Checking
-tripleRung number n p next = firstTripleRung (refusedAt number) (borderCount n) (nodes n) (n .period) (fails number n p) next
+unfoldable pub tripleRung : ℕ → Partition → Plan → Checking → Checking
+tripleRung number G p next =
+    firstTripleRung (refusedAt number) (borderCount G) (G .graph .nodes) (G .graph .period)
+    (fails number G p) next
 
-unfoldable pub checked : Network → Plan → Checking
-checked n p =
-    firstRung (λ a. Refused (refusal 20 a)) (arcs n) (fails20 n p)
-    (tripleRung 21 n p
-    (tripleRung 22 n p
-    (tripleRung 23 n p
-    (tripleRung 24 n p
+unfoldable pub checked : Partition → Plan → Checking
+checked G p =
+    firstRung (λ a. Refused (refusal 20 a)) (G .graph .arcs) (fails20 G p)
+    (tripleRung 21 G p
+    (tripleRung 22 G p
+    (tripleRung 23 G p
+    (tripleRung 24 G p
     Accepted))))

@@ -1,18 +1,19 @@
--- From validation to the tests: what a network that opens and a plan that is well-formed for it give the check, and the laws by which its code
--- goes on from stage to stage.
+-- From validation to the tests: what a network that opens and a plan that is well-formed for it give the
+-- check, and the laws by which its code goes on from stage to stage.
 use mathlib.Core.Path.{_≡_, sym, _∙_}
 use mathlib.Core.List.{List}
 use Prim.Native.Nat.{ℕ}
 use lib.ListN.{length, drop, List·getD-append}
 use Rattle.theory_loops.specs.Fill.{overwritten}
+use Rattle.theory_paths.specs.Partition.{Partition}
 use Rattle.file_refusals.specs.declared.Refusal.{Refusal}
 use Rattle.network.specs.declared.answer.Opening.{Opening}
 use Rattle.network.specs.declared.answer.Opening.the-variants as opening
 use Rattle.network.specs.declared.header.Header.{Header}
 use Rattle.network.specs.declared.header.Layout.{Layout}
-use Rattle.network.specs.Network.{Network}
 use Rattle.network.specs.Layout.{layoutOf}
 use Rattle.network.specs.Decode.{decode, Laid, laid-sizes}
+use Rattle.network.specs.Town.{partitionOf}
 use Rattle.network.specs.Sound.{SoundNetwork}
 use Rattle.network.specs.Validate.{validated}
 use Rattle.network.specs.Valid.{ValidFile, valid-laid, valid-exactly}
@@ -43,14 +44,16 @@ module _ {network : List ℕ} {h : Header} (v : ValidFile network h) where
   pub check-sound : SoundNetwork (decode network)
   check-sound = v .sound
 
-  pub check-plan-valid : (plan : List ℕ) (m : Planning) (k : PlanHeader) → m ≡ planned h (decode network) plan → m ≡ planning.WellFormed k → ValidPlan h (decode network) plan k
+  pub check-plan-valid : (plan : List ℕ) (m : Planning) (k : PlanHeader) → m ≡ planned h (decode network) plan
+      → m ≡ planning.WellFormed k → ValidPlan h (decode network) plan k
   check-plan-valid plan m k e f = plan-exactly v plan k .0 (sym e ∙ f)
 
   module _ {plan : List ℕ} {k : PlanHeader} (w : ValidPlan h (decode network) plan k) where
     pub check-within : PlanWithin k
     check-within = valid-within v w
 
-    pub check-able : (l : Layout) (pl : PlanLayout) → l ≡ layoutOf h → pl ≡ planLayoutOf k → Checkable network l plan pl
+    pub check-able : (l : Layout) (pl : PlanLayout) → l ≡ layoutOf h → pl ≡ planLayoutOf k
+        → Checkable network l plan pl
     check-able l pl e f =
         let d = check-laid l e in
         let z = laid-sizes d in
@@ -59,7 +62,9 @@ module _ {network : List ℕ} {h : Header} (v : ValidFile network h) where
         let s = w .well-formed in
         record {
           town = town-of d (v .sound);
-          formed = formed-of q (rw (p .profiles-are) (s .sum ∙ sym (plan-sizes q .points))) (λ i m c. rw (p .period) (s .days i (rw (p .profiles-are) at m) c));
+          formed =
+              formed-of q (rw (p .profiles-are) (s .sum ∙ sym (plan-sizes q .points)))
+              (λ i m c. rw (p .period) (s .days i (rw (p .profiles-are) at m) c));
           period = p .period ∙ sym (z .period);
           nodes = p .nodes-are ∙ sym (z .nodes);
           arcs = p .arcs-are ∙ sym (z .arcs);
@@ -67,25 +72,44 @@ module _ {network : List ℕ} {h : Header} (v : ValidFile network h) where
         }
 
 -- the borders at the front of a table are listed
-pub listed-front : (n : Network) (old new : List ℕ) → new ≡ overwritten (borders n) old → Listed n new
-listed-front n old new e = record { at = λ i l. rw e (List·getD-append (borders n) (drop (length (borders n)) old) 0 i l) }
+pub listed-front : (G : Partition) (old new : List ℕ) → new ≡ overwritten (borders G) old → Listed G new
+listed-front G old new e = record {
+  at = λ i l. rw e (List·getD-append (borders G) (drop (length (borders G)) old) 0 i l);
+}
 
 -- FOR THE CODE
-pub check-formed : (n : Network) (p : Plan) (m M : Planning) (k : PlanHeader) (r : Checking) → m ≡ M → m ≡ planning.WellFormed k → r ≡ checked n p → r ≡ checkedBy n p M
-check-formed n p m M k r e f g = rw (← e, f) g
+pub check-formed : (G : Partition) (p : Plan) (m M : Planning) (k : PlanHeader) (r : Checking) → m ≡ M
+    → m ≡ planning.WellFormed k → r ≡ checked G p → r ≡ checkedBy G p M
+check-formed G p m M k r e f g = rw (← e, f) g
 
-pub check-unformed : (n : Network) (p : Plan) (m M : Planning) (r : Refusal) → m ≡ M → m ≡ planning.Refused r → Refused r ≡ checkedBy n p M
-check-unformed n p m M r e f = rw (← e, f)
+pub check-unformed : (G : Partition) (p : Plan) (m M : Planning) (r : Refusal) → m ≡ M
+    → m ≡ planning.Refused r → Refused r ≡ checkedBy G p M
+check-unformed G p m M r e f = rw (← e, f)
 
 module _ (network plan : List ℕ) (v : Opening) (e : v ≡ validated network) where
   pub check-refused : (r : Refusal) → v ≡ opening.Refused r → Refused r ≡ checking network plan
   check-refused r f = rw (← e, f)
 
-  pub check-opened : (h : Header) (r : Checking) → v ≡ opening.Opened h → r ≡ checkedBy (decode network) (decodePlan plan) (planned h (decode network) plan) → r ≡ checking network plan
+  pub check-opened : (h : Header) (r : Checking) → v ≡ opening.Opened h
+      → r ≡ checkedBy (partitionOf (decode network)) (decodePlan plan) (planned h (decode network) plan)
+      → r ≡ checking network plan
   check-opened h r f g = rw (← e, f) g
 
-pub check-valid : (network : List ℕ) (v : Opening) (h : Header) → v ≡ validated network → v ≡ opening.Opened h → ValidFile network h
+pub check-valid : (network : List ℕ) (v : Opening) (h : Header) → v ≡ validated network → v ≡ opening.Opened h
+    → ValidFile network h
 check-valid network v h e f = valid-exactly network h .0 (sym e ∙ f)
 
 -- for `search checks` at the stages of the check
-pub ruleset checks = (check-laid, check-sound, check-plan-valid, check-within, check-able, listed-front, check-formed, check-unformed, check-refused, check-opened, check-valid)
+pub ruleset checks = (
+  check-laid,
+  check-sound,
+  check-plan-valid,
+  check-within,
+  check-able,
+  listed-front,
+  check-formed,
+  check-unformed,
+  check-refused,
+  check-opened,
+  check-valid,
+)

@@ -1,11 +1,12 @@
--- The check of a plan: its ladder (Check), that it is exact (Borders, Meaning, Exact, Promise, CheckPlan), its numbers (Numbers), and the laws for the code.
+-- The check of a plan: its ladder (Check), that it is exact (Borders, Meaning, Exact, Promise, CheckPlan),
+-- its numbers (Numbers), and the laws for the code.
 pub mod Answer
 pub mod Borders
 pub mod Check
 pub mod Meaning
 pub mod Exact
-pub mod Promise
 pub mod CheckPlan
+pub mod Promise
 pub mod Numbers
 pub mod Ranges
 pub mod Clean

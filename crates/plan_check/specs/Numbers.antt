@@ -8,8 +8,9 @@ use Rattle.theory_loops.specs.Triple.{firstTripleRung, anyTriple}
 use Rattle.file_refusals.specs.declared.Refusal.{Refusal}
 use Rattle.network.specs.declared.answer.Opening.{Opening}
 use Rattle.network.specs.declared.answer.Opening.the-variants as opening
-use Rattle.network.specs.Network.{Network, nodes}
+use Rattle.theory_paths.specs.Partition.{Partition}
 use Rattle.network.specs.Decode.{decode}
+use Rattle.network.specs.Town.{partitionOf}
 use Rattle.network.specs.Validate.{validated}
 use Rattle.file_refusals.specs.Numbered.{Numbered, numbered}
 use Rattle.network.specs.Numbers.{validated-numbers}
@@ -32,19 +33,22 @@ same-checking q r e = cc
 abbrev Checks : Checking → Type 0
 Checks = Numbered checking.Refused 20 24
 
-triple-numbered : (number : ℕ) (n : Network) (p : Plan) (next : Checking) → 20 ≤ number → number ≤ 24 → Checks next → Checks (tripleRung number n p next)
+triple-numbered : (number : ℕ) (G : Partition) (p : Plan) (next : Checking) → 20 ≤ number → number ≤ 24
+    → Checks next → Checks (tripleRung number G p next)
 unfolding tripleRung firstTripleRung
-triple-numbered number n p next l h q =
-    cond-holds Checks (anyTriple (borderCount n) (nodes n) (n .period) (fails number n p)) _ _ (numbered checking.Refused 20 24 same-checking _ l h) q
+triple-numbered number G p next l h q =
+    cond-holds Checks (anyTriple (borderCount G) (G .graph .nodes) (G .graph .period) (fails number G p)) _ _
+    (numbered checking.Refused 20 24 same-checking _ l h) q
 
-pub checked-numbers : (n : Network) (p : Plan) → Numbered checking.Refused 20 24 (checked n p)
+pub checked-numbers : (G : Partition) (p : Plan) → Numbered checking.Refused 20 24 (checked G p)
 unfolding checked
-checked-numbers n p =
-    rung-holds Checks _ _ _ _ (λ i. numbered checking.Refused 20 24 same-checking _ (omega arith) (omega arith))
-    (triple-numbered 21 n p _ (omega arith) (omega arith)
-    (triple-numbered 22 n p _ (omega arith) (omega arith)
-    (triple-numbered 23 n p _ (omega arith) (omega arith)
-    (triple-numbered 24 n p _ (omega arith) (omega arith) accepted))))
+checked-numbers G p =
+    rung-holds Checks _ _ _ _
+    (λ i. numbered checking.Refused 20 24 same-checking _ (omega arith) (omega arith))
+    (triple-numbered 21 G p _ (omega arith) (omega arith)
+    (triple-numbered 22 G p _ (omega arith) (omega arith)
+    (triple-numbered 23 G p _ (omega arith) (omega arith)
+    (triple-numbered 24 G p _ (omega arith) (omega arith) accepted))))
   where
     accepted : Checks checking.Accepted
     accepted r e = let z : _≡_ {A = ℕ} 0 1 = cc in absurd (omega arith)
@@ -53,14 +57,18 @@ checked-numbers n p =
 pub check-numbers : (network plan : List ℕ) → Numbered checking.Refused 1 24 (checkingOf network plan)
 check-numbers network plan = over (validated network) (validated-numbers network)
   where
-    by : (n : Network) (p : Plan) (m : Planning) → Numbered planning.Refused 11 19 m → Numbered checking.Refused 1 24 (checkedBy n p m)
-    by n p (planning.Refused q) h =
+    by : (G : Partition) (p : Plan) (m : Planning) → Numbered planning.Refused 11 19 m
+        → Numbered checking.Refused 1 24 (checkedBy G p m)
+    by G p (planning.Refused q) h =
         let (x, y) = h q refl in
         numbered checking.Refused 1 24 same-checking q (omega arith) (omega arith)
-    by n p (planning.WellFormed k) h = λ r e. let (x, y) = checked-numbers n p r e in (omega arith, omega arith)
+    by G p (planning.WellFormed k) h =
+        λ r e. let (x, y) = checked-numbers G p r e in (omega arith, omega arith)
 
-    over : (o : Opening) → Numbered opening.Refused 1 10 o → Numbered checking.Refused 1 24 (checkedOver network plan o)
+    over : (o : Opening) → Numbered opening.Refused 1 10 o
+        → Numbered checking.Refused 1 24 (checkedOver network plan o)
     over (opening.Refused q) h =
         let (x, y) = h q refl in
         numbered checking.Refused 1 24 same-checking q (omega arith) (omega arith)
-    over (opening.Opened k) h = by (decode network) (decodePlan plan) _ (planned-numbers k (decode network) plan)
+    over (opening.Opened k) h =
+        by (partitionOf (decode network)) (decodePlan plan) _ (planned-numbers k (decode network) plan)

@@ -1,11 +1,15 @@
-// The check of a well-formed plan against its network: the lowest of the tests 20 to 24 that fails anywhere, and the first place where it fails.
-// Both files are read in place; the few tables that spare reading stand on the stack.
+// The check of a well-formed plan against its network: the lowest of the tests 20 to 24 that fails anywhere,
+// and the first place where it fails. Both files are read in place; the few tables that spare reading stand
+// on the stack.
 use crate::answer::Checking;
 use crate::clean;
 use file_refusals::Refusal;
+use file_refusals::number;
 use network::answer::Opening;
 use network::header::Header;
 use network::header::Layout;
+use network::limits::MOST_ARCS;
+use network::limits::MOST_NODES;
 use network_open::validate::validate;
 use plan::answer::Planning;
 use plan::borders::list_borders;
@@ -21,7 +25,9 @@ use search_arcs::wide;
 ghost use mathlib.Core.Path.{_≡_};
 ghost use Prim.Native.Nat.{_<_};
 ghost use Rattle.theory_loops.specs.First;
+ghost use Rattle.network.specs.Limits.{mostPeriod, mostNodes};
 ghost use Rattle.network.specs.Decode.{decode};
+ghost use Rattle.network.specs.Town.{partitionOf};
 ghost use Rattle.network.specs.Valid.{ValidFile};
 ghost use Rattle.plan.specs.PlanDecode.{decodePlan};
 ghost use Rattle.plan_tests.specs.Tests.{fails20};
@@ -31,6 +37,9 @@ ghost use Rattle.plan.specs.PlanValidate.{planned};
 ghost use Rattle.plan.specs.PlanValid.{ValidPlan};
 ghost use Rattle.plan_tests.specs.Checkable.{Checkable};
 ghost use Rattle.plan_check.specs.Finding.{Listed, Equipped, foundAt, firstFailing, triplesFrom};
+
+// After the last of the tests.
+const TESTS_END: u32 = number::CHECK_NO_FLAG + 1;
 
 // A border number, a node and a tick.
 pub struct Triple {
@@ -46,7 +55,7 @@ pub enum Found {
 
 // A triple of indices.
 fn found_at(i: usize, u: usize, x: usize) -> Found
-    requires { ⌜ (i < 512) × (u < 512) × (x < 2880) ⌝ }
+    requires { ⌜ (i < mostNodes) × (u < mostNodes) × (x < mostPeriod) ⌝ }
     ensures { λ r. ⌜ r ≡ foundAt i u x ⌝ }
 {
     Found::At(Triple {
@@ -71,7 +80,8 @@ fn refused_at(number: u32, at: Triple) -> Checking
 // The first arc at which 20 fails; the number of arcs where there is none.
 fn first_unflagged(network: &[u8], l: Layout, plan: &[u8], pl: PlanLayout) -> usize
     requires { ⌜ Checkable (now network) l (now plan) pl ⌝ }
-    ensures { λ r. ⌜ r ≡ First.first (l .arcs) (fails20 (decode (now (network .entry))) (decodePlan (now (plan .entry)))) ⌝ }
+    ensures { λ r. ⌜ r ≡ First.first (l .arcs)
+        (fails20 (partitionOf (decode (now (network .entry)))) (decodePlan (now (plan .entry)))) ⌝ }
 {
     let arcs = l.arcs;
     for a in 0..arcs {
@@ -89,19 +99,20 @@ pub fn first_failing(
     l: Layout,
     plan: &[u8],
     pl: PlanLayout,
-    points: &[u16; 2048],
-    first: &[u16; 512],
-    next: &[u16; 2048],
-    borders: &[u16; 512],
+    points: &[u16; MOST_ARCS],
+    first: &[u16; MOST_NODES],
+    next: &[u16; MOST_ARCS],
+    borders: &[u16; MOST_NODES],
 ) -> Found
     requires { ⌜ Equipped (now network) l (now plan) pl (now points) (now first) (now next) (now borders) ⌝ }
-    ensures { λ r. ⌜ r ≡ firstFailing number (decode (now (network .entry))) (decodePlan (now (plan .entry))) ⌝ }
+    ensures { λ r. ⌜ r ≡ firstFailing number (partitionOf (decode (now (network .entry))))
+        (decodePlan (now (plan .entry))) ⌝ }
 {
     let count = pl.borders;
     let nodes = l.nodes;
     let period = l.period;
     let mut found = Found::Nothing;
-    let mut starts = [0u32; 512];
+    let mut starts = [0u32; MOST_NODES];
     let mut from = 0;
     'borders: for i in 0..count {
         from = value::profile_starts(plan, pl, i, from, &mut starts);
@@ -132,24 +143,26 @@ pub fn first_failing(
     found
 }
 
-// The tests 21 to 24, the lowest number first. Where one pass tells that nothing fails, there is none to find.
+// The tests 21 to 24, the lowest number first. Where one pass tells that nothing fails, there is none to
+// find.
 fn check_triples(
     network: &[u8],
     l: Layout,
     plan: &[u8],
     pl: PlanLayout,
-    points: &[u16; 2048],
-    first: &[u16; 512],
-    next: &[u16; 2048],
-    borders: &[u16; 512],
+    points: &[u16; MOST_ARCS],
+    first: &[u16; MOST_NODES],
+    next: &[u16; MOST_ARCS],
+    borders: &[u16; MOST_NODES],
 ) -> Checking
     requires { ⌜ Equipped (now network) l (now plan) pl (now points) (now first) (now next) (now borders) ⌝ }
-    ensures { λ r. ⌜ r ≡ triplesFrom 4 21 (decode (now (network .entry))) (decodePlan (now (plan .entry))) ⌝ }
+    ensures { λ r. ⌜ r ≡ triplesFrom 4 21 (partitionOf (decode (now (network .entry))))
+        (decodePlan (now (plan .entry))) ⌝ }
 {
     if clean::is_clean(network, l, plan, pl, points, first, next, borders) {
         return Checking::Accepted;
     }
-    for number in 21..25 {
+    for number in number::CHECK_BORDER..TESTS_END {
         let found = first_failing(number, network, l, plan, pl, points, first, next, borders);
         if let Found::At(at) = found {
             return refused_at(number, at);
@@ -158,26 +171,28 @@ fn check_triples(
     Checking::Accepted
 }
 
-// The tests 20 to 24: the lowest number that fails anywhere, then its first place. `borders` lists the border nodes.
+// The tests 20 to 24: the lowest number that fails anywhere, then its first place. `borders` lists the border
+// nodes.
 pub fn check_tests(
     network: &[u8],
     l: Layout,
     plan: &[u8],
     pl: PlanLayout,
-    borders: &[u16; 512],
+    borders: &[u16; MOST_NODES],
 ) -> Checking
     requires { ⌜ Checkable (now network) l (now plan) pl ⌝ }
-    requires { ⌜ Listed (decode (now network)) (now borders) ⌝ }
-    ensures { λ r. ⌜ r ≡ checked (decode (now (network .entry))) (decodePlan (now (plan .entry))) ⌝ }
+    requires { ⌜ Listed (partitionOf (decode (now network))) (now borders) ⌝ }
+    ensures { λ r. ⌜ r ≡ checked (partitionOf (decode (now (network .entry))))
+        (decodePlan (now (plan .entry))) ⌝ }
 {
     let arc = first_unflagged(network, l, plan, pl);
     if arc < l.arcs {
-        return Checking::Refused(file_refusals::refuse(20, arc as u32));
+        return Checking::Refused(file_refusals::refuse(number::CHECK_INSIDE, arc as u32));
     }
-    let mut points = [0u16; 2048];
+    let mut points = [0u16; MOST_ARCS];
     times::first_points(network, l, &mut points);
-    let mut first = [chain::NONE; 512];
-    let mut next = [chain::NONE; 2048];
+    let mut first = [chain::NONE; MOST_NODES];
+    let mut next = [chain::NONE; MOST_ARCS];
     chain::chain(network, l, End::Tail, &mut first, &mut next);
     check_triples(network, l, plan, pl, &points, &first, &next, borders)
 }
@@ -186,10 +201,11 @@ pub fn check_tests(
 fn check_formed(network: &[u8], h: Header, plan: &[u8], k: PlanHeader) -> Checking
     requires { ⌜ ValidFile (now network) h ⌝ }
     requires { ⌜ ValidPlan h (decode (now network)) (now plan) k ⌝ }
-    ensures { λ r. ⌜ r ≡ checked (decode (now (network .entry))) (decodePlan (now (plan .entry))) ⌝ }
+    ensures { λ r. ⌜ r ≡ checked (partitionOf (decode (now (network .entry))))
+        (decodePlan (now (plan .entry))) ⌝ }
 {
     let l = h.layout();
-    let mut borders = [0u16; 512];
+    let mut borders = [0u16; MOST_NODES];
     list_borders(network, l, &mut borders);
     check_tests(network, l, plan, k.layout(), &borders)
 }
@@ -197,7 +213,8 @@ fn check_formed(network: &[u8], h: Header, plan: &[u8], k: PlanHeader) -> Checki
 // Refusals 11 to 24 for a network that opens.
 fn check_opened(network: &[u8], h: Header, plan: &[u8]) -> Checking
     requires { ⌜ ValidFile (now network) h ⌝ }
-    ensures { λ r. ⌜ r ≡ checkedBy (decode (now (network .entry))) (decodePlan (now (plan .entry))) (planned h (decode (now (network .entry))) (now (plan .entry))) ⌝ }
+    ensures { λ r. ⌜ r ≡ checkedBy (partitionOf (decode (now (network .entry))))
+        (decodePlan (now (plan .entry))) (planned h (decode (now (network .entry))) (now (plan .entry))) ⌝ }
 {
     match validate_plan(network, h, h.layout(), plan) {
         Planning::Refused(r) => Checking::Refused(r),
@@ -205,7 +222,8 @@ fn check_opened(network: &[u8], h: Header, plan: &[u8]) -> Checking
     }
 }
 
-// Is this plan one that the flagged trips of this network may trust? Accepted, or the lowest refusal of 1 to 24 with its places.
+// Is this plan one that the flagged trips of this network may trust? Accepted, or the lowest refusal of 1 to
+// 24 with its places.
 pub fn check_plan(network: &[u8], plan: &[u8]) -> Checking
     ensures { λ r. ⌜ r ≡ checking (now (network .entry)) (now (plan .entry)) ⌝ }
 {

@@ -1,6 +1,9 @@
-// Whether nothing fails anywhere, yes or no, in one pass: what a good plan is asked. At each border number, node and tick the node's value is read once, and one walk
-// over the arcs out of the node reads once what each of them gives. Where the answer is no, check.rt finds the test and the place.
+// Whether nothing fails anywhere, yes or no, in one pass: what a good plan is asked. At each border number,
+// node and tick the node's value is read once, and one walk over the arcs out of the node reads once what
+// each of them gives. Where the answer is no, check.rt finds the test and the place.
 use network::header::Layout;
+use network::limits::MOST_ARCS;
+use network::limits::MOST_NODES;
 use plan::flag::is_set;
 use plan::header::PlanLayout;
 use plan_tests::tests;
@@ -11,6 +14,8 @@ ghost use mathlib.Core.Path.{_≡_};
 ghost use mathlib.Core.Bool.{true, _||_};
 ghost use Prim.Native.Nat.{_<_};
 ghost use Rattle.network.specs.Decode.{decode};
+ghost use Rattle.network.specs.Town.{graphOf, partitionOf};
+ghost use Rattle.network.specs.Limits.{mostCells};
 ghost use Rattle.network.specs.Network.{tail, cell};
 ghost use Rattle.plan.specs.Plan;
 ghost use Rattle.plan.specs.PlanDecode.{decodePlan, PlanLaid};
@@ -22,7 +27,8 @@ ghost use Rattle.plan_tests.specs.Failing.{AtBorder};
 ghost use Rattle.plan_check.specs.Finding.{Equipped};
 ghost use Rattle.plan_check.specs.Clean.{Clean, CleanNode, CleanBorder, NothingFails, Kept, keeps};
 
-// An arc against a value: does it give less, and is the value kept, by an arc before it or because it gives the value and has the flag of a cell?
+// An arc against a value: does it give less, and is the value kept, by an arc before it or because it gives
+// the value and has the flag of a cell?
 pub struct Weighed {
     pub less: bool,
     pub kept: bool,
@@ -39,7 +45,7 @@ fn is_kept_by(
     value: Value,
 ) -> bool
     requires { ⌜ PlanLaid (now plan) pl ⌝ }
-    requires { ⌜ (arc < pl .arcs) × (c < 64) ⌝ }
+    requires { ⌜ (arc < pl .arcs) × (c < mostCells) ⌝ }
     ensures { λ r. ⌜ r ≡ keeps kept (decodePlan (now (plan .entry))) arc c (valueOf got) (valueOf value) ⌝ }
 {
     if kept {
@@ -58,8 +64,8 @@ fn weigh(
     l: Layout,
     plan: &[u8],
     pl: PlanLayout,
-    points: &[u16; 2048],
-    starts: &[u32; 512],
+    points: &[u16; MOST_ARCS],
+    starts: &[u32; MOST_NODES],
     c: usize,
     i: usize,
     value: Value,
@@ -67,8 +73,12 @@ fn weigh(
     arc: usize,
 ) -> Weighed
     requires { ⌜ Prepared (now network) l (now plan) pl (now points) i (now starts) ⌝ }
-    requires { ⌜ (arc < l .arcs) × (x < l .period) × (c < 64) ⌝ }
-    ensures { λ r. ⌜ (r .less ≡ offers (decode (now (network .entry))) (decodePlan (now (plan .entry))) asked.Less i (valueOf value) x arc) × (r .kept ≡ (kept || offers (decode (now (network .entry))) (decodePlan (now (plan .entry))) (asked.Flagged c) i (valueOf value) x arc)) ⌝ }
+    requires { ⌜ (arc < l .arcs) × (x < l .period) × (c < mostCells) ⌝ }
+    ensures { λ r. ⌜ (r .less ≡ offers (partitionOf (decode (now (network .entry))))
+        (decodePlan (now (plan .entry))) asked.Less i (valueOf value) x arc)
+        ×
+        (r .kept ≡ (kept || offers (partitionOf (decode (now (network .entry))))
+        (decodePlan (now (plan .entry))) (asked.Flagged c) i (valueOf value) x arc)) ⌝ }
 {
     let got = tests::giving(network, l, plan, pl, points, starts, i, arc, x);
     Weighed {
@@ -77,16 +87,17 @@ fn weigh(
     }
 }
 
-// Does no arc out of u give less than u's value at tick x, and does one with the flag of cell c give it, if it is a number?
+// Does no arc out of u give less than u's value at tick x, and does one with the flag of cell c give it, if
+// it is a number?
 fn is_kept(
     network: &[u8],
     l: Layout,
     plan: &[u8],
     pl: PlanLayout,
-    points: &[u16; 2048],
-    first: &[u16; 512],
-    next: &[u16; 2048],
-    starts: &[u32; 512],
+    points: &[u16; MOST_ARCS],
+    first: &[u16; MOST_NODES],
+    next: &[u16; MOST_ARCS],
+    starts: &[u32; MOST_NODES],
     c: usize,
     i: usize,
     u: usize,
@@ -95,9 +106,11 @@ fn is_kept(
 ) -> bool
     requires { ⌜ Prepared (now network) l (now plan) pl (now points) i (now starts) ⌝ }
     requires { ⌜ Chained (tail (decode (now network))) (l .nodes) (l .arcs) 0 (now first) (now next) ⌝ }
-    requires { ⌜ (u < l .nodes) × (x < l .period) × (c < 64) ⌝ }
-    requires { ⌜ valueOf value ≡ Plan.profile (decode (now network)) (decodePlan (now plan)) i u x ⌝ }
-    ensures { λ r. ⌜ (r ≡ true → Kept (decode (now (network .entry))) (decodePlan (now (plan .entry))) c i u x) ⌝ }
+    requires { ⌜ (u < l .nodes) × (x < l .period) × (c < mostCells) ⌝ }
+    requires { ⌜ valueOf value
+        ≡ Plan.profile (graphOf (decode (now network))) (decodePlan (now plan)) i u x ⌝ }
+    ensures { λ r. ⌜ (r ≡ true
+        → Kept (partitionOf (decode (now (network .entry)))) (decodePlan (now (plan .entry))) c i u x) ⌝ }
 {
     let arcs = l.arcs;
     let mut kept = !value::is_number(value);
@@ -132,19 +145,21 @@ fn is_clean_at(
     l: Layout,
     plan: &[u8],
     pl: PlanLayout,
-    points: &[u16; 2048],
-    first: &[u16; 512],
-    next: &[u16; 2048],
-    starts: &[u32; 512],
+    points: &[u16; MOST_ARCS],
+    first: &[u16; MOST_NODES],
+    next: &[u16; MOST_ARCS],
+    starts: &[u32; MOST_NODES],
     border: usize,
     c: usize,
     i: usize,
     u: usize,
     x: usize,
 ) -> bool
-    requires { ⌜ AtBorder (now network) l (now plan) pl (now points) (now first) (now next) (now starts) border i ⌝ }
+    requires { ⌜ AtBorder (now network) l (now plan) pl (now points) (now first) (now next) (now starts)
+        border i ⌝ }
     requires { ⌜ (u < l .nodes) × (x < l .period) × (c ≡ cell (decode (now network)) border) ⌝ }
-    ensures { λ r. ⌜ (r ≡ true → Clean (decode (now (network .entry))) (decodePlan (now (plan .entry))) i u x) ⌝ }
+    ensures { λ r. ⌜ (r ≡ true
+        → Clean (partitionOf (decode (now (network .entry)))) (decodePlan (now (plan .entry))) i u x) ⌝ }
 {
     let value = value::profile_at(plan, pl, starts, i, u, x);
     if u == border {
@@ -173,18 +188,20 @@ fn is_clean_node(
     l: Layout,
     plan: &[u8],
     pl: PlanLayout,
-    points: &[u16; 2048],
-    first: &[u16; 512],
-    next: &[u16; 2048],
-    starts: &[u32; 512],
+    points: &[u16; MOST_ARCS],
+    first: &[u16; MOST_NODES],
+    next: &[u16; MOST_ARCS],
+    starts: &[u32; MOST_NODES],
     border: usize,
     c: usize,
     i: usize,
     u: usize,
 ) -> bool
-    requires { ⌜ AtBorder (now network) l (now plan) pl (now points) (now first) (now next) (now starts) border i ⌝ }
+    requires { ⌜ AtBorder (now network) l (now plan) pl (now points) (now first) (now next) (now starts)
+        border i ⌝ }
     requires { ⌜ (u < l .nodes) × (c ≡ cell (decode (now network)) border) ⌝ }
-    ensures { λ r. ⌜ (r ≡ true → CleanNode (decode (now (network .entry))) (decodePlan (now (plan .entry))) (l .period) i u) ⌝ }
+    ensures { λ r. ⌜ (r ≡ true → CleanNode (partitionOf (decode (now (network .entry))))
+        (decodePlan (now (plan .entry))) (l .period) i u) ⌝ }
 {
     let period = l.period;
     for x in 0..period {
@@ -215,15 +232,17 @@ fn is_clean_border(
     l: Layout,
     plan: &[u8],
     pl: PlanLayout,
-    points: &[u16; 2048],
-    first: &[u16; 512],
-    next: &[u16; 2048],
-    starts: &[u32; 512],
+    points: &[u16; MOST_ARCS],
+    first: &[u16; MOST_NODES],
+    next: &[u16; MOST_ARCS],
+    starts: &[u32; MOST_NODES],
     border: usize,
     i: usize,
 ) -> bool
-    requires { ⌜ AtBorder (now network) l (now plan) pl (now points) (now first) (now next) (now starts) border i ⌝ }
-    ensures { λ r. ⌜ (r ≡ true → CleanBorder (decode (now (network .entry))) (decodePlan (now (plan .entry))) (l .nodes) (l .period) i) ⌝ }
+    requires { ⌜ AtBorder (now network) l (now plan) pl (now points) (now first) (now next) (now starts)
+        border i ⌝ }
+    ensures { λ r. ⌜ (r ≡ true → CleanBorder (partitionOf (decode (now (network .entry))))
+        (decodePlan (now (plan .entry))) (l .nodes) (l .period) i) ⌝ }
 {
     let nodes = l.nodes;
     let c = network::read::cell(network, l, border);
@@ -254,16 +273,17 @@ pub fn is_clean(
     l: Layout,
     plan: &[u8],
     pl: PlanLayout,
-    points: &[u16; 2048],
-    first: &[u16; 512],
-    next: &[u16; 2048],
-    borders: &[u16; 512],
+    points: &[u16; MOST_ARCS],
+    first: &[u16; MOST_NODES],
+    next: &[u16; MOST_ARCS],
+    borders: &[u16; MOST_NODES],
 ) -> bool
     requires { ⌜ Equipped (now network) l (now plan) pl (now points) (now first) (now next) (now borders) ⌝ }
-    ensures { λ r. ⌜ (r ≡ true → NothingFails (decode (now (network .entry))) (decodePlan (now (plan .entry)))) ⌝ }
+    ensures { λ r. ⌜ (r ≡ true
+        → NothingFails (partitionOf (decode (now (network .entry)))) (decodePlan (now (plan .entry)))) ⌝ }
 {
     let count = pl.borders;
-    let mut starts = [0u32; 512];
+    let mut starts = [0u32; MOST_NODES];
     let mut from = 0;
     for i in 0..count {
         from = value::profile_starts(plan, pl, i, from, &mut starts);

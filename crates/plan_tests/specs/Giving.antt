@@ -1,5 +1,6 @@
--- What an arc gives at a tick, and whether it passes what is asked of an arc: that it gives less than a value, gives it, or gives it and has the flag of a cell.
--- The definitions are those of specs/Tests.antt with what is asked as a parameter; the laws are for the code that reads what an arc gives.
+-- What an arc gives at a tick, and whether it passes what is asked of an arc: that it gives less than a
+-- value, gives it, or gives it and has the flag of a cell. The definitions are those of specs/Tests.antt with
+-- what is asked as a parameter; the laws are for the code that reads what an arc gives.
 use mathlib.Core.Path.{_≡_, _∙_}
 use mathlib.Core.Bool.{Bool, true, false, _&&_}
 use mathlib.Core.List.{List}
@@ -9,11 +10,13 @@ use native.Mathlib.Omega.{arith}
 use lib.ListN.{getD}
 use lib.Dec.{eqb}
 use Rattle.theory_paths.specs.Graph.{ends}
+use Rattle.theory_paths.specs.Partition.{Partition}
 use Rattle.theory_paths.specs.Profiles.{Travel, plus}
 use Rattle.network.specs.declared.header.Layout.{Layout}
-use Rattle.network.specs.Network.{Network, tail, head, start}
+use Rattle.network.specs.Limits.{mostCells}
+use Rattle.network.specs.Network.{head, start}
 use Rattle.network.specs.Decode.{decode}
-use Rattle.network.specs.Town.{graphOf, travelAt}
+use Rattle.network.specs.Town.{graphOf, partitionOf, travelAt}
 use Rattle.search_arcs.specs.Town.{head-node}
 use Rattle.plan.specs.declared.header.PlanLayout.{PlanLayout}
 use Rattle.plan_values.specs.declared.value.Value.{Value}
@@ -40,18 +43,20 @@ meets Same got value = same got value
 meets (Flagged c) got value = same got value
 
 -- arc a passes against a value
-unfoldable pub offers : Network → Plan → Asked → ℕ → Travel → ℕ → ℕ → Bool
-offers n p asked i value x a = permits p asked a && meets asked (giving n p i a x) value
+unfoldable pub offers : Partition → Plan → Asked → ℕ → Travel → ℕ → ℕ → Bool
+offers G p asked i value x a = permits p asked a && meets asked (giving G p i a x) value
 
 -- arc a leads out of u and passes against u's profile
-unfoldable pub passes : Network → Plan → Asked → ℕ → ℕ → ℕ → ℕ → Bool
-passes n p asked i u x a = permits p asked a && (eqb (tail n a) u && meets asked (giving n p i a x) (profile n p i u x))
+unfoldable pub passes : Partition → Plan → Asked → ℕ → ℕ → ℕ → ℕ → Bool
+passes G p asked i u x a =
+    permits p asked a
+    && (eqb (G .graph .tail a) u && meets asked (giving G p i a x) (profile (G .graph) p i u x))
 
 -- a flag that is asked for is one of 64
 abbrev pub Fit : Asked → Type 0
 Fit Less = Unit {0}
 Fit Same = Unit {0}
-Fit (Flagged c) = c < 64
+Fit (Flagged c) = c < mostCells
 
 -- FOR CODE that has taken apart what is asked
 module _ {asked : Asked} where
@@ -62,10 +67,11 @@ module _ {asked : Asked} where
     pub permits-same : asked ≡ Same → true ≡ permits p asked a
     permits-same e = rw e
 
-    pub permits-flag : {c word : ℕ} {t : Bool} → asked ≡ Flagged c → word ≡ flagWord p a → t ≡ bit word c → t ≡ permits p asked a
+    pub permits-flag : {c word : ℕ} {t : Bool} → asked ≡ Flagged c → word ≡ flagWord p a → t ≡ bit word c
+        → t ≡ permits p asked a
     permits-flag e f q = rw e (rw f at q)
 
-  pub flag-fits : {c : ℕ} → asked ≡ Flagged c → Fit asked → c < 64
+  pub flag-fits : {c : ℕ} → asked ≡ Flagged c → Fit asked → c < mostCells
   flag-fits e h = rw e at h
 
   module _ (got value : Travel) {t : Bool} where
@@ -82,32 +88,43 @@ module _ {asked : Asked} where
 pub ruleset asks = (permits-less, permits-same, permits-flag, flag-fits, meets-less, meets-same, meets-flag)
 
 -- and has asked both of an arc
-module _ (n : Network) (p : Plan) (asked : Asked) (i : ℕ) (value : Travel) (x a : ℕ) {t : Bool} (e : t ≡ permits p asked a) where
-  pub offers-not : t ≡ false → false ≡ offers n p asked i value x a
+module _ (G : Partition) (p : Plan) (asked : Asked) (i : ℕ) (value : Travel) (x a : ℕ) {t : Bool}
+    (e : t ≡ permits p asked a) where
+  pub offers-not : t ≡ false → false ≡ offers G p asked i value x a
   unfolding offers
   offers-not f = rw (← e, f)
 
-  pub offers-met : {got : Travel} {r : Bool} → t ≡ true → got ≡ giving n p i a x → r ≡ meets asked got value → r ≡ offers n p asked i value x a
+  pub offers-met : {got : Travel} {r : Bool} → t ≡ true → got ≡ giving G p i a x → r ≡ meets asked got value
+      → r ≡ offers G p asked i value x a
   unfolding offers
   offers-met f g q = rw (← e, f) (rw g at q)
 
--- What every function that reads what arcs give towards border number i rests on: both files, and the tables of the arcs' first points and of the
--- starts of the border's profiles.
-pub record Prepared (network : List ℕ) (l : Layout) (plan : List ℕ) (pl : PlanLayout) (points : List ℕ) (i : ℕ) (starts : List ℕ) : Type 0 where
+-- What every function that reads what arcs give towards border number i rests on: both files, and the tables
+-- of the arcs' first points and of the starts of the border's profiles.
+pub record Prepared (network : List ℕ) (l : Layout) (plan : List ℕ) (pl : PlanLayout) (points : List ℕ)
+    (i : ℕ) (starts : List ℕ) : Type 0 where
   pub check : Checkable network l plan pl
   pub first : (a : ℕ) → a < l .arcs → getD points a 0 ≡ start (decode network) a
   pub started : Started plan pl i starts
   pub border : i < pl .borders
 
-module _ {network : List ℕ} {l : Layout} {plan : List ℕ} {pl : PlanLayout} {points : List ℕ} {i : ℕ} {starts : List ℕ}
+module _ {network : List ℕ} {l : Layout} {plan : List ℕ} {pl : PlanLayout} {points : List ℕ} {i : ℕ}
+    {starts : List ℕ}
     (w : Prepared network l plan pl points i starts) where
   -- u's profile, by the layout's counts, and as it was read
-  pub profile-same : (u x : ℕ) → profileValue (pl .period) (decodePlan plan) (i * pl .nodes + u) x ≡ profile (decode network) (decodePlan plan) i u x
-  profile-same u x = rw (w .check .period, w .check .town .sizes .period, w .check .nodes, w .check .town .sizes .nodes)
+  pub profile-same : (u x : ℕ)
+      → profileValue (pl .period) (decodePlan plan) (i * pl .nodes + u) x
+      ≡ profile (graphOf (decode network)) (decodePlan plan) i u x
+  profile-same u x =
+      rw (w .check .period, w .check .town .sizes .period, w .check .nodes, w .check .town .sizes .nodes)
 
-  pub profile-is : {v : Value} (u x : ℕ) → Reads v (profileValue (pl .period) (decodePlan plan) (i * pl .nodes + u) x)
-      → valueOf v ≡ profile (decode network) (decodePlan plan) i u x
+  pub profile-is : {v : Value} (u x : ℕ)
+      → Reads v (profileValue (pl .period) (decodePlan plan) (i * pl .nodes + u) x)
+      → valueOf v ≡ profile (graphOf (decode network)) (decodePlan plan) i u x
   profile-is u x r = r .is ∙ profile-same u x
+
+  pub end-reduced : (e : ℕ) {z : ℕ} → z ≡ e % l .period → z < pl .period
+  end-reduced e q = omega (arith, q, mod-lt e (w .check .town .small .period-some), w .check .period)
 
   module _ {a : ℕ} (h : a < l .arcs) where
     pub first-point : getD points a 0 ≡ start (decode network) a
@@ -126,15 +143,22 @@ module _ {network : List ℕ} {l : Layout} {plan : List ℕ} {pl : PlanLayout} {
       pub end-after : x ≤ e
       end-after = omega (arith, end-is)
 
-      pub end-reduced : {z : ℕ} → z ≡ e % l .period → z < pl .period
-      end-reduced q = omega (arith, q, mod-lt e (w .check .town .small .period-some), w .check .period)
-
       pub giving-is : {y z : ℕ} {v : Value} {t : Travel} → y ≡ head (decode network) a → z ≡ e % l .period
           → Reads v (profileValue (pl .period) (decodePlan plan) (i * pl .nodes + y) z)
-          → t ≡ plus (e - x) (valueOf v) → t ≡ giving (decode network) (decodePlan plan) i a x
+          → t ≡ plus (e - x) (valueOf v) → t ≡ giving (partitionOf (decode network)) (decodePlan plan) i a x
       giving-is {y} {z} g r s q =
           let d : e - x ≡ travelAt (decode network) a x = omega (arith, end-is) in
           q ∙ rw (d, profile-is y z s, r, g, end-is, w .check .town .sizes .period)
 
 -- for `search givings` at the needs of such code
-pub ruleset givings = (offers-not, offers-met, profile-same, profile-is, first-point, head-in, end-after, end-reduced, giving-is)
+pub ruleset givings = (
+  offers-not,
+  offers-met,
+  profile-same,
+  profile-is,
+  first-point,
+  head-in,
+  end-after,
+  end-reduced,
+  giving-is,
+)

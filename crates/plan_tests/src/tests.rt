@@ -1,6 +1,9 @@
-// The check's test 20 at an arc, and its tests 21 to 24 at a border number, a node and a tick. What an arc gives is read by `giving`, and the arcs out of a node are walked
-// by one loop, whatever is asked of them.
+// The check's test 20 at an arc, and its tests 21 to 24 at a border number, a node and a tick. What an arc
+// gives is read by `giving`, and the arcs out of a node are walked by one loop, whatever is asked of them.
+use file_refusals::number;
 use network::header::Layout;
+use network::limits::MOST_ARCS;
+use network::limits::MOST_NODES;
 use plan::flag::is_set;
 use plan::header::PlanLayout;
 use plan_values::value;
@@ -10,6 +13,7 @@ use search_arcs::wide;
 ghost use mathlib.Core.Path.{_≡_};
 ghost use Prim.Native.Nat.{_+_, _*_, _<_};
 ghost use Rattle.network.specs.Decode.{decode};
+ghost use Rattle.network.specs.Town.{graphOf, partitionOf};
 ghost use Rattle.plan.specs.Border.{borderAt};
 ghost use Rattle.plan.specs.Plan;
 ghost use Rattle.plan.specs.PlanDecode.{decodePlan, PlanLaid};
@@ -31,21 +35,23 @@ pub enum Asked {
     Flagged(usize),
 }
 
-// What an arc gives at tick x towards border number i: its travel, and its head's value at the tick at which it ends.
+// What an arc gives at tick x towards border number i: its travel, and its head's value at the tick at which
+// it ends.
 pub fn giving(
     network: &[u8],
     l: Layout,
     plan: &[u8],
     pl: PlanLayout,
-    points: &[u16; 2048],
-    starts: &[u32; 512],
+    points: &[u16; MOST_ARCS],
+    starts: &[u32; MOST_NODES],
     i: usize,
     arc: usize,
     x: usize,
 ) -> Value
     requires { ⌜ Prepared (now network) l (now plan) pl (now points) i (now starts) ⌝ }
     requires { ⌜ (arc < l .arcs) × (x < l .period) ⌝ }
-    ensures { λ r. ⌜ valueOf r ≡ Tests.giving (decode (now (network .entry))) (decodePlan (now (plan .entry))) i arc x ⌝ }
+    ensures { λ r. ⌜ valueOf r ≡ Tests.giving (partitionOf (decode (now (network .entry))))
+        (decodePlan (now (plan .entry))) i arc x ⌝ }
 {
     let tick = x as u32;
     let end = times::ends_at(network, l, points, arc, tick);
@@ -85,8 +91,8 @@ fn is_passing(
     l: Layout,
     plan: &[u8],
     pl: PlanLayout,
-    points: &[u16; 2048],
-    starts: &[u32; 512],
+    points: &[u16; MOST_ARCS],
+    starts: &[u32; MOST_NODES],
     asked: Asked,
     i: usize,
     value: Value,
@@ -95,7 +101,8 @@ fn is_passing(
 ) -> bool
     requires { ⌜ Prepared (now network) l (now plan) pl (now points) i (now starts) ⌝ }
     requires { ⌜ (arc < l .arcs) × (x < l .period) × Fit asked ⌝ }
-    ensures { λ r. ⌜ r ≡ offers (decode (now (network .entry))) (decodePlan (now (plan .entry))) asked i (valueOf value) x arc ⌝ }
+    ensures { λ r. ⌜ r ≡ offers (partitionOf (decode (now (network .entry))))
+        (decodePlan (now (plan .entry))) asked i (valueOf value) x arc ⌝ }
 {
     if is_permitted(plan, pl, asked, arc) {
         let got = giving(network, l, plan, pl, points, starts, i, arc, x);
@@ -110,10 +117,10 @@ fn any_passing(
     l: Layout,
     plan: &[u8],
     pl: PlanLayout,
-    points: &[u16; 2048],
-    first: &[u16; 512],
-    next: &[u16; 2048],
-    starts: &[u32; 512],
+    points: &[u16; MOST_ARCS],
+    first: &[u16; MOST_NODES],
+    next: &[u16; MOST_ARCS],
+    starts: &[u32; MOST_NODES],
     asked: Asked,
     i: usize,
     u: usize,
@@ -123,8 +130,10 @@ fn any_passing(
     requires { ⌜ Prepared (now network) l (now plan) pl (now points) i (now starts) ⌝ }
     requires { ⌜ Chained (tail (decode (now network))) (l .nodes) (l .arcs) 0 (now first) (now next) ⌝ }
     requires { ⌜ (u < l .nodes) × (x < l .period) × Fit asked ⌝ }
-    requires { ⌜ valueOf value ≡ Plan.profile (decode (now network)) (decodePlan (now plan)) i u x ⌝ }
-    ensures { λ r. ⌜ r ≡ anyPasses (decode (now (network .entry))) (decodePlan (now (plan .entry))) asked i u x ⌝ }
+    requires { ⌜ valueOf value
+        ≡ Plan.profile (graphOf (decode (now network))) (decodePlan (now plan)) i u x ⌝ }
+    ensures { λ r. ⌜ r ≡ anyPasses (partitionOf (decode (now (network .entry))))
+        (decodePlan (now (plan .entry))) asked i u x ⌝ }
 {
     let arcs = l.arcs;
     let mut a = wide(first[u]);
@@ -147,7 +156,8 @@ pub fn is_unflagged_inside(
 ) -> bool
     requires { ⌜ Checkable (now network) l (now plan) pl ⌝ }
     requires { ⌜ arc < l .arcs ⌝ }
-    ensures { λ r. ⌜ r ≡ Tests.fails20 (decode (now (network .entry))) (decodePlan (now (plan .entry))) arc ⌝ }
+    ensures { λ r. ⌜ r ≡ Tests.fails20 (partitionOf (decode (now (network .entry))))
+        (decodePlan (now (plan .entry))) arc ⌝ }
 {
     let tail = network::read::tail(network, l, arc);
     let head = network::read::head(network, l, arc);
@@ -162,7 +172,7 @@ pub fn is_unflagged_inside(
 fn is_off_home(
     plan: &[u8],
     pl: PlanLayout,
-    starts: &[u32; 512],
+    starts: &[u32; MOST_NODES],
     border: usize,
     i: usize,
     u: usize,
@@ -171,7 +181,8 @@ fn is_off_home(
     requires { ⌜ Formed (now plan) pl ⌝ }
     requires { ⌜ Started (now plan) pl i (now starts) ⌝ }
     requires { ⌜ (i < pl .borders) × (u < pl .nodes) × (x < pl .period) ⌝ }
-    ensures { λ r. ⌜ r ≡ offHome u border (Plan.profileValue (pl .period) (decodePlan (now (plan .entry))) (i * pl .nodes + u) x) ⌝ }
+    ensures { λ r. ⌜ r ≡ offHome u border
+        (Plan.profileValue (pl .period) (decodePlan (now (plan .entry))) (i * pl .nodes + u) x) ⌝ }
 {
     if u != border {
         return false;
@@ -186,10 +197,10 @@ fn is_unattained(
     l: Layout,
     plan: &[u8],
     pl: PlanLayout,
-    points: &[u16; 2048],
-    first: &[u16; 512],
-    next: &[u16; 2048],
-    starts: &[u32; 512],
+    points: &[u16; MOST_ARCS],
+    first: &[u16; MOST_NODES],
+    next: &[u16; MOST_ARCS],
+    starts: &[u32; MOST_NODES],
     border: usize,
     i: usize,
     u: usize,
@@ -199,9 +210,11 @@ fn is_unattained(
     requires { ⌜ Prepared (now network) l (now plan) pl (now points) i (now starts) ⌝ }
     requires { ⌜ Chained (tail (decode (now network))) (l .nodes) (l .arcs) 0 (now first) (now next) ⌝ }
     requires { ⌜ (u < l .nodes) × (x < l .period) ⌝ }
-    requires { ⌜ border ≡ borderAt (decode (now network)) i ⌝ }
-    requires { ⌜ valueOf value ≡ Plan.profile (decode (now network)) (decodePlan (now plan)) i u x ⌝ }
-    ensures { λ r. ⌜ r ≡ Tests.fails23 (decode (now (network .entry))) (decodePlan (now (plan .entry))) i u x ⌝ }
+    requires { ⌜ border ≡ borderAt (partitionOf (decode (now network))) i ⌝ }
+    requires { ⌜ valueOf value
+        ≡ Plan.profile (graphOf (decode (now network))) (decodePlan (now plan)) i u x ⌝ }
+    ensures { λ r. ⌜ r ≡ Tests.fails23 (partitionOf (decode (now (network .entry))))
+        (decodePlan (now (plan .entry))) i u x ⌝ }
 {
     if u == border {
         return false;
@@ -232,10 +245,10 @@ fn is_unflagged_toward(
     l: Layout,
     plan: &[u8],
     pl: PlanLayout,
-    points: &[u16; 2048],
-    first: &[u16; 512],
-    next: &[u16; 2048],
-    starts: &[u32; 512],
+    points: &[u16; MOST_ARCS],
+    first: &[u16; MOST_NODES],
+    next: &[u16; MOST_ARCS],
+    starts: &[u32; MOST_NODES],
     border: usize,
     i: usize,
     u: usize,
@@ -245,9 +258,11 @@ fn is_unflagged_toward(
     requires { ⌜ Prepared (now network) l (now plan) pl (now points) i (now starts) ⌝ }
     requires { ⌜ Chained (tail (decode (now network))) (l .nodes) (l .arcs) 0 (now first) (now next) ⌝ }
     requires { ⌜ (u < l .nodes) × (x < l .period) × (border < l .nodes) ⌝ }
-    requires { ⌜ border ≡ borderAt (decode (now network)) i ⌝ }
-    requires { ⌜ valueOf value ≡ Plan.profile (decode (now network)) (decodePlan (now plan)) i u x ⌝ }
-    ensures { λ r. ⌜ r ≡ Tests.fails24 (decode (now (network .entry))) (decodePlan (now (plan .entry))) i u x ⌝ }
+    requires { ⌜ border ≡ borderAt (partitionOf (decode (now network))) i ⌝ }
+    requires { ⌜ valueOf value
+        ≡ Plan.profile (graphOf (decode (now network))) (decodePlan (now plan)) i u x ⌝ }
+    ensures { λ r. ⌜ r ≡ Tests.fails24 (partitionOf (decode (now (network .entry))))
+        (decodePlan (now (plan .entry))) i u x ⌝ }
 {
     if value::is_number(value) {
         if any_passing(
@@ -293,24 +308,26 @@ pub fn is_failing(
     l: Layout,
     plan: &[u8],
     pl: PlanLayout,
-    points: &[u16; 2048],
-    first: &[u16; 512],
-    next: &[u16; 2048],
-    starts: &[u32; 512],
+    points: &[u16; MOST_ARCS],
+    first: &[u16; MOST_NODES],
+    next: &[u16; MOST_ARCS],
+    starts: &[u32; MOST_NODES],
     border: usize,
     i: usize,
     u: usize,
     x: usize,
 ) -> bool
-    requires { ⌜ AtBorder (now network) l (now plan) pl (now points) (now first) (now next) (now starts) border i ⌝ }
+    requires { ⌜ AtBorder (now network) l (now plan) pl (now points) (now first) (now next) (now starts)
+        border i ⌝ }
     requires { ⌜ (u < l .nodes) × (x < l .period) ⌝ }
-    ensures { λ r. ⌜ r ≡ Tests.fails number (decode (now (network .entry))) (decodePlan (now (plan .entry))) i u x ⌝ }
+    ensures { λ r. ⌜ r ≡ Tests.fails number (partitionOf (decode (now (network .entry))))
+        (decodePlan (now (plan .entry))) i u x ⌝ }
 {
-    if number == 21 {
+    if number == number::CHECK_BORDER {
         return is_off_home(plan, pl, starts, border, i, u, x);
     }
     let value = value::profile_at(plan, pl, starts, i, u, x);
-    if number == 22 {
+    if number == number::CHECK_LESS {
         return any_passing(
             network,
             l,
@@ -327,7 +344,7 @@ pub fn is_failing(
             x,
         );
     }
-    if number == 23 {
+    if number == number::CHECK_NO_ROAD {
         return is_unattained(
             network,
             l,

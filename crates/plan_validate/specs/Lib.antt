@@ -1,4 +1,5 @@
--- The rules 17 to 19 as code finds their faults: the ticks of one profile (PlanScan, Rising), and of all profiles (PlanScanAll).
+-- The rules 17 to 19 as code finds their faults: the ticks of one profile (PlanScan, Rising), and of all
+-- profiles (PlanScanAll).
 pub mod PlanScan
 pub mod Rising
 pub mod PlanScanAll

@@ -2,7 +2,8 @@
 //   rules     the rules 17 to 19
 //   rising    do a profile's ticks rise, yes or no?
 //   validate  refusals 11 to 19
-// It may call `file_fields`, `file_blocks`, `network` and `plan`, and cites `theory_loops` and `theory_travel`. Both files are read in place.
+// It may call `file_fields`, `file_blocks`, `network` and `plan`, and cites `theory_loops` and
+// `theory_travel`. Both files are read in place.
 mod rising;
 pub mod rules;
 pub mod validate;

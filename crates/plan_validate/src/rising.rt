@@ -1,5 +1,7 @@
-// Whether the ticks of a profile keep rule 19, yes or no: what a good file is asked. The points are taken in parts that stand side by side in
-// one block, so that a point costs no step of a cursor. Where the answer is no, rules.rt finds the point.
+// Whether the ticks of a profile keep rule 19, yes or no: what a good file is asked. The points are taken in
+// parts that stand side by side in one block, so that a point costs no step of a cursor. Where the answer is
+// no, rules.rt finds the point.
+use file_blocks::kind;
 use file_blocks::place::offset;
 use file_blocks::place::side_by_side;
 use file_fields::fields::le16;
@@ -11,24 +13,27 @@ ghost use Prim.Native.Nat.{_+_, _*_, _≤_};
 ghost use lib.ListN.{length};
 ghost use Rattle.theory_loops.specs.First.{first};
 ghost use Rattle.theory_travel.specs.Table.{entryAt};
+ghost use Rattle.theory_travel.specs.Ticks.{badTick};
+ghost use Rattle.file_blocks.specs.Kind.{profilePointSize};
 ghost use Rattle.plan.specs.PlanDecode.{decodePlan, PlanLaid};
-ghost use Rattle.plan.specs.PlanRules.{badTick};
 ghost use Rattle.plan_validate.specs.Rising.{Rose};
 
-// What has been seen of a profile: the next tick is at least `low`, and `good` says that each rose above the one before it.
+// What has been seen of a profile: the next tick is at least `low`, and `good` says that each rose above the
+// one before it.
 pub struct Rise {
     pub low: usize,
     pub good: bool,
 }
 
-// The rise over m points more, which stand side by side from byte `base` on, none of them with a tick below `low`.
+// The rise over m points more, which stand side by side from byte `base` on, none of them with a tick below
+// `low`.
 fn rise_on(plan: &[u8], base: usize, m: usize, low: usize) -> Rise
-    requires { ⌜ base + 6 * m ≤ length (now plan) ⌝ }
+    requires { ⌜ base + profilePointSize * m ≤ length (now plan) ⌝ }
     ensures { λ r. ⌜ Rose (now (plan .entry)) base m low r ⌝ }
 {
     let mut next = low;
     for e in 0..m {
-        let t = le16(plan, base + 6 * e) as usize;
+        let t = le16(plan, base + kind::PROFILE_POINT_SIZE * e) as usize;
         if t < next {
             return Rise {
                 low: next,
@@ -43,35 +48,49 @@ fn rise_on(plan: &[u8], base: usize, m: usize, low: usize) -> Rise
     }
 }
 
-// The rise over m points more, taken by four while there are four: the compiler writes the four out, so that a point costs no test of a loop.
+// The rise over m points more, taken by four while there are four: the compiler writes the four out, so that
+// a point costs no test of a loop.
 fn rise_over(plan: &[u8], base: usize, m: usize, low: usize) -> Rise
-    requires { ⌜ base + 6 * m ≤ length (now plan) ⌝ }
+    requires { ⌜ base + profilePointSize * m ≤ length (now plan) ⌝ }
     ensures { λ r. ⌜ Rose (now (plan .entry)) base m low r ⌝ }
 {
     let mut rise = Rise { low, good: true };
     let mut done = 0;
     while done + 4 <= m {
-        rise = rise_on(plan, base + 6 * done, 4, rise.low);
+        rise = rise_on(plan, base + kind::PROFILE_POINT_SIZE * done, 4, rise.low);
         let good = rise.good;
         if !good {
             return rise;
         }
         done += 4;
     }
-    rise_on(plan, base + 6 * done, m - done, rise.low)
+    rise_on(
+        plan,
+        base + kind::PROFILE_POINT_SIZE * done,
+        m - done,
+        rise.low,
+    )
 }
 
 // Do the ticks of one profile, whose points stand from number `from` on, keep the rule?
 pub fn is_rising(plan: &[u8], l: PlanLayout, from: usize, count: usize) -> bool
     requires { ⌜ PlanLaid (now plan) l ⌝ }
     requires { ⌜ from + count ≤ l .points ⌝ }
-    ensures { λ r. ⌜ (r ≡ true → first count (badTick (l .period) (entryAt (decodePlan (now (plan .entry)) .ticks) from)) ≡ count) ⌝ }
+    ensures { λ r. ⌜ (r ≡ true
+        → first count (badTick (l .period) (entryAt (decodePlan (now (plan .entry)) .ticks) from))
+        ≡ count) ⌝ }
 {
     let mut rise = Rise { low: 0, good: true };
     let mut done = 0;
     while done < count {
-        let m = side_by_side(83, from + done, count - done);
-        rise = rise_over(plan, offset(l.pointblock, 83, 6, from + done), m, rise.low);
+        let m = side_by_side(kind::PROFILE_POINT_PER, from + done, count - done);
+        let base = offset(
+            l.pointblock,
+            kind::PROFILE_POINT_PER,
+            kind::PROFILE_POINT_SIZE,
+            from + done,
+        );
+        rise = rise_over(plan, base, m, rise.low);
         let good = rise.good;
         if !good {
             return false;

@@ -1,10 +1,14 @@
-// The rules 17 to 19 of document 01, on a plan file that is laid out as its header says. The counts and the points are read in one pass: rule
-// 19 is judged at the points of each profile while rule 18 is judged at its count, and told where 18 holds everywhere. A profile's points are
-// first asked whether they keep the rule (rising.rt), and scanned for the place where they do not.
+// The rules 17 to 19 of document 01, on a plan file that is laid out as its header says. The counts and the
+// points are read in one pass: rule 19 is judged at the points of each profile while rule 18 is judged at its
+// count, and told where 18 holds everywhere. A profile's points are first asked whether they keep the rule
+// (rising.rt), and scanned for the place where they do not.
 use crate::rising::is_rising;
 use file_blocks::cursor::Cursor;
+use file_blocks::kind;
 use file_refusals::Judged;
 use file_refusals::faulty;
+use file_refusals::number;
+use network::limits::MOST_CELLS;
 use plan::header::PlanLayout;
 use plan::read::flag_word;
 ghost use mathlib.Core.Path.{_≡_};
@@ -14,11 +18,14 @@ ghost use lib.Dec.{leb, ltb};
 ghost use Rattle.theory_loops.specs.First.{first};
 ghost use Rattle.plan.specs.PlanDecode.{decodePlan, PlanLaid};
 ghost use Rattle.file_blocks.specs.Cursor.{cursorAt};
+ghost use Rattle.file_blocks.specs.Kind.{profilePointPer};
+ghost use Rattle.network.specs.Limits.{mostCells};
 ghost use Rattle.plan.specs.PlanRules.{badFlags, judgedCounts, judgedFlags};
 ghost use Rattle.plan_validate.specs.PlanScan.{Scanned};
 ghost use Rattle.plan_validate.specs.PlanScanAll.{Standing, ScannedOn};
 
-// What a scan of points has found: the first that breaks rule 19, by its number, or how many there are; and where it stands.
+// What a scan of points has found: the first that breaks rule 19, by its number, or how many there are; and
+// where it stands.
 pub struct Scan {
     pub bad: usize,
     pub at: Cursor,
@@ -26,10 +33,10 @@ pub struct Scan {
 
 // Has the word a bit at `cells` or above?
 fn has_high_bit(word: u64, cells: usize) -> bool
-    requires { ⌜ cells ≤ 64 ⌝ }
+    requires { ⌜ cells ≤ mostCells ⌝ }
     ensures { λ r. ⌜ r ≡ leb (2 ^ cells) word ⌝ }
 {
-    if 64 <= cells {
+    if MOST_CELLS <= cells {
         return false;
     }
     word >> cells != 0
@@ -72,14 +79,14 @@ fn is_outside(t: usize, low: usize, high: usize) -> bool
 fn find_bad(plan: &[u8], l: PlanLayout, at: Cursor, from: usize, count: usize) -> Scan
     requires { ⌜ PlanLaid (now plan) l ⌝ }
     requires { ⌜ from + count ≤ l .points ⌝ }
-    requires { ⌜ at ≡ cursorAt (l .pointblock) 83 from ⌝ }
+    requires { ⌜ at ≡ cursorAt (l .pointblock) profilePointPer from ⌝ }
     ensures { λ r. ⌜ Scanned (decodePlan (now (plan .entry))) l from count r ⌝ }
 {
     let mut next = at;
     let mut low = 0;
     let mut high = 1;
     for i in 0..count {
-        let t = next.field(plan, 6);
+        let t = next.field(plan, kind::PROFILE_POINT_SIZE);
         if is_outside(t, low, high) {
             return Scan {
                 bad: from + i,
@@ -88,7 +95,7 @@ fn find_bad(plan: &[u8], l: PlanLayout, at: Cursor, from: usize, count: usize) -
         }
         low = t + 1;
         high = l.period;
-        next = next.next(83);
+        next = next.next(kind::PROFILE_POINT_PER);
     }
     Scan {
         bad: l.points,
@@ -100,11 +107,11 @@ fn find_bad(plan: &[u8], l: PlanLayout, at: Cursor, from: usize, count: usize) -
 fn scan_profile(plan: &[u8], l: PlanLayout, at: Cursor, from: usize, count: usize) -> Scan
     requires { ⌜ PlanLaid (now plan) l ⌝ }
     requires { ⌜ from + count ≤ l .points ⌝ }
-    requires { ⌜ at ≡ cursorAt (l .pointblock) 83 from ⌝ }
+    requires { ⌜ at ≡ cursorAt (l .pointblock) profilePointPer from ⌝ }
     ensures { λ r. ⌜ Scanned (decodePlan (now (plan .entry))) l from count r ⌝ }
 {
     if is_rising(plan, l, from, count) {
-        let after = Cursor::before(l.pointblock, 83, from + count);
+        let after = Cursor::before(l.pointblock, kind::PROFILE_POINT_PER, from + count);
         return Scan {
             bad: l.points,
             at: after,
@@ -141,20 +148,20 @@ fn judge_profiles(plan: &[u8], l: PlanLayout) -> Judged
     let mut scan = Scan { bad: l.points, at };
     let mut from = 0;
     for k in 0..profiles {
-        let count = counts.field(plan, 2);
+        let count = counts.field(plan, kind::COUNT_SIZE);
         if l.period < count {
-            return faulty(18, k as u32);
+            return faulty(number::PLAN_COUNT, k as u32);
         }
         scan = scan_on(plan, l, scan, from, count);
         from += count;
-        counts = counts.next(250);
+        counts = counts.next(kind::COUNT_PER);
     }
     if from != l.points {
-        return faulty(18, profiles as u32);
+        return faulty(number::PLAN_COUNT, profiles as u32);
     }
     let bad = scan.bad;
     if bad < l.points {
-        return faulty(19, bad as u32);
+        return faulty(number::PLAN_TICK, bad as u32);
     }
     Judged::Sound
 }
@@ -162,11 +169,12 @@ fn judge_profiles(plan: &[u8], l: PlanLayout) -> Judged
 // The lowest of the rules 17 to 19 that the plan breaks, and its lowest place.
 pub fn judge_plan(plan: &[u8], l: PlanLayout) -> Judged
     requires { ⌜ PlanLaid (now plan) l ⌝ }
-    ensures { λ r. ⌜ r ≡ judgedFlags (l .arcs) (l .cells) (l .period) (l .profiles) (decodePlan (now (plan .entry))) ⌝ }
+    ensures { λ r. ⌜ r ≡ judgedFlags (l .arcs) (l .cells) (l .period) (l .profiles)
+        (decodePlan (now (plan .entry))) ⌝ }
 {
     let a = first_bad_word(plan, l);
     if a < l.arcs {
-        return faulty(17, a as u32);
+        return faulty(number::PLAN_FLAG, a as u32);
     }
     judge_profiles(plan, l)
 }

@@ -1,30 +1,41 @@
-// Validation of a plan file against a network file that has been validated: refusals 11 to 19, in place, each fault found as the first in its
-// order. Nothing is copied, and every call ends at the first refusal.
+// Validation of a plan file against a network file that has been validated: refusals 11 to 19, in place, each
+// fault found as the first in its order. Nothing is copied, and every call ends at the first refusal.
 use crate::rules::judge_plan;
 use file_blocks::form::first_unformed;
 use file_blocks::form::is_formed;
+use file_blocks::kind;
 use file_blocks::reader::first_bad_sum;
+use file_fields::BLOCK;
 use file_fields::fields::le16;
 use file_fields::fields::le32;
 use file_refusals::Judged;
+use file_refusals::number;
 use network::header::Header;
 use network::header::Layout;
+use network::limits::MOST_NODES;
 use plan::answer::Planning;
 use plan::answer::refused;
 use plan::borders::list_borders;
 use plan::header::PlanHeader;
 use plan::header::PlanLayout;
+use plan::limits;
 ghost use mathlib.Core.Path.{_≡_};
 ghost use Prim.Native.Nat.{_+_, _*_, _≤_};
 ghost use lib.ListN.{length};
+ghost use Rattle.file_fields.specs.Block.{blockSize};
 ghost use Rattle.network.specs.Layout.{layoutOf};
 ghost use Rattle.network.specs.Decode.{decode};
+ghost use Rattle.network.specs.Town.{partitionOf};
 ghost use Rattle.network.specs.Valid.{ValidFile};
 ghost use Rattle.plan.specs.Border.{borderCount};
 ghost use Rattle.plan.specs.PlanHeader.{planHeaderAt, PlanWithin};
 ghost use Rattle.plan.specs.PlanDecode.{decodePlan, PlanLaid};
 ghost use Rattle.plan.specs.PlanRules.{judgedFlags, judgedBy};
-ghost use Rattle.plan.specs.PlanValidate.{badPlanLength, firstFormed, matching, firstUnformed, plannedRules, plannedForm, plannedLength, plannedHeader, plannedFirst, planned};
+ghost use Rattle.plan.specs.PlanValidate.{badPlanLength, firstFormed, matching, firstUnformed, plannedRules};
+ghost use Rattle.plan.specs.PlanValidate.{plannedForm, plannedLength, plannedHeader, plannedFirst, planned};
+
+// The byte after the header's entry, whose block has a head of 8 bytes.
+const HEADER_END: usize = 8 + kind::PLAN_SIZE;
 
 // Refusal 11.
 fn is_bad_length(long: usize) -> bool
@@ -33,15 +44,15 @@ fn is_bad_length(long: usize) -> bool
     if long == 0 {
         return true;
     }
-    if long % 512 != 0 {
+    if long % BLOCK != 0 {
         return true;
     }
-    7023616 < long
+    limits::MOST_BYTES < long
 }
 
 // The numbers of the first block.
 fn header_at(plan: &[u8]) -> PlanHeader
-    requires { ⌜ 512 ≤ length (now plan) ⌝ }
+    requires { ⌜ blockSize ≤ length (now plan) ⌝ }
     ensures { λ r. ⌜ r ≡ planHeaderAt (now (plan .entry)) ⌝ }
 {
     PlanHeader {
@@ -57,10 +68,10 @@ fn header_at(plan: &[u8]) -> PlanHeader
 
 // Refusal 13 does not apply: the first block's form, the 16 zero bits among its fill.
 fn is_first_formed(plan: &[u8]) -> bool
-    requires { ⌜ 512 ≤ length (now plan) ⌝ }
+    requires { ⌜ blockSize ≤ length (now plan) ⌝ }
     ensures { λ r. ⌜ r ≡ firstFormed (now (plan .entry)) ⌝ }
 {
-    is_formed(plan, 0, 5, 1, 28) && le16(plan, 22) == 0
+    is_formed(plan, 0, kind::PLAN, 1, HEADER_END) && le16(plan, 22) == 0
 }
 
 // Refusal 14 does not apply: the numbers are the network's.
@@ -86,7 +97,7 @@ fn is_matching(h: Header, borders: usize, k: PlanHeader) -> bool
     if count != borders {
         return false;
     }
-    k.points <= 1048576
+    k.points <= limits::MOST_POINTS
 }
 
 // The first block after the header that is out of its form, or the count of blocks.
@@ -94,21 +105,37 @@ fn first_bad_form(plan: &[u8], l: PlanLayout) -> usize
     requires { ⌜ PlanLaid (now plan) l ⌝ }
     ensures { λ r. ⌜ r ≡ firstUnformed (now (plan .entry)) l ⌝ }
 {
-    let i = first_unformed(plan, 1, 6, 62, 8, l.arcs);
+    let i = first_unformed(plan, 1, kind::FLAG, kind::FLAG_PER, kind::FLAG_SIZE, l.arcs);
     if 1 + i < l.countblock {
         return 1 + i;
     }
-    let j = first_unformed(plan, l.countblock, 7, 250, 2, l.profiles);
+    let j = first_unformed(
+        plan,
+        l.countblock,
+        kind::COUNT,
+        kind::COUNT_PER,
+        kind::COUNT_SIZE,
+        l.profiles,
+    );
     if l.countblock + j < l.pointblock {
         return l.countblock + j;
     }
-    l.pointblock + first_unformed(plan, l.pointblock, 8, 83, 6, l.points)
+    l.pointblock
+        + first_unformed(
+            plan,
+            l.pointblock,
+            kind::PROFILE_POINT,
+            kind::PROFILE_POINT_PER,
+            kind::PROFILE_POINT_SIZE,
+            l.points,
+        )
 }
 
 // Refusals 17 to 19.
 fn validate_rules(plan: &[u8], k: PlanHeader, l: PlanLayout) -> Planning
     requires { ⌜ PlanLaid (now plan) l ⌝ }
-    ensures { λ r. ⌜ r ≡ plannedRules k (judgedFlags (l .arcs) (l .cells) (l .period) (l .profiles) (decodePlan (now (plan .entry)))) ⌝ }
+    ensures { λ r. ⌜ r ≡ plannedRules k
+        (judgedFlags (l .arcs) (l .cells) (l .period) (l .profiles) (decodePlan (now (plan .entry)))) ⌝ }
 {
     match judge_plan(plan, l) {
         Judged::Sound => Planning::WellFormed(k),
@@ -124,7 +151,7 @@ fn validate_form(plan: &[u8], k: PlanHeader, l: PlanLayout) -> Planning
 {
     let b = first_bad_form(plan, l);
     if b < l.blocks {
-        return refused(16, b as u32);
+        return refused(number::PLAN_FORM, b as u32);
     }
     validate_rules(plan, k, l)
 }
@@ -136,8 +163,8 @@ fn validate_length(plan: &[u8], k: PlanHeader) -> Planning
     ensures { λ r. ⌜ r ≡ plannedLength (now (plan .entry)) k (judgedBy k (decodePlan (now (plan .entry)))) ⌝ }
 {
     let l = k.layout();
-    if plan.len() != 512 * l.blocks {
-        return refused(15, 0);
+    if plan.len() != BLOCK * l.blocks {
+        return refused(number::PLAN_SIZE, 0);
     }
     validate_form(plan, k, l)
 }
@@ -146,9 +173,9 @@ fn validate_length(plan: &[u8], k: PlanHeader) -> Planning
 fn count_borders(network: &[u8], h: Header, l: Layout) -> usize
     requires { ⌜ ValidFile (now network) h ⌝ }
     requires { ⌜ l ≡ layoutOf h ⌝ }
-    ensures { λ r. ⌜ r ≡ borderCount (decode (now (network .entry))) ⌝ }
+    ensures { λ r. ⌜ r ≡ borderCount (partitionOf (decode (now (network .entry)))) ⌝ }
 {
-    let mut borders = [0u16; 512];
+    let mut borders = [0u16; MOST_NODES];
     list_borders(network, l, &mut borders)
 }
 
@@ -156,41 +183,42 @@ fn count_borders(network: &[u8], h: Header, l: Layout) -> usize
 fn validate_header(network: &[u8], h: Header, l: Layout, plan: &[u8]) -> Planning
     requires { ⌜ ValidFile (now network) h ⌝ }
     requires { ⌜ l ≡ layoutOf h ⌝ }
-    requires { ⌜ 512 ≤ length (now plan) ⌝ }
+    requires { ⌜ blockSize ≤ length (now plan) ⌝ }
     ensures { λ r. ⌜ r ≡ plannedHeader h (decode (now (network .entry))) (now (plan .entry)) ⌝ }
 {
     let k = header_at(plan);
     if is_matching(h, count_borders(network, h, l), k) {
         return validate_length(plan, k);
     }
-    refused(14, 0)
+    refused(number::PLAN_OTHER, 0)
 }
 
 // Refusals 13 to 19.
 fn validate_first(network: &[u8], h: Header, l: Layout, plan: &[u8]) -> Planning
     requires { ⌜ ValidFile (now network) h ⌝ }
     requires { ⌜ l ≡ layoutOf h ⌝ }
-    requires { ⌜ 512 ≤ length (now plan) ⌝ }
+    requires { ⌜ blockSize ≤ length (now plan) ⌝ }
     ensures { λ r. ⌜ r ≡ plannedFirst h (decode (now (network .entry))) (now (plan .entry)) ⌝ }
 {
     if is_first_formed(plan) {
         return validate_header(network, h, l, plan);
     }
-    refused(13, 0)
+    refused(number::PLAN_FIRST, 0)
 }
 
-// The header of a well-formed plan for the network, or the lowest of the refusals 11 to 19 and its lowest place.
+// The header of a well-formed plan for the network, or the lowest of the refusals 11 to 19 and its lowest
+// place.
 pub fn validate_plan(network: &[u8], h: Header, l: Layout, plan: &[u8]) -> Planning
     requires { ⌜ ValidFile (now network) h ⌝ }
     requires { ⌜ l ≡ layoutOf h ⌝ }
     ensures { λ r. ⌜ r ≡ planned h (decode (now (network .entry))) (now (plan .entry)) ⌝ }
 {
     if is_bad_length(plan.len()) {
-        return refused(11, 0);
+        return refused(number::PLAN_LENGTH, 0);
     }
     let b = first_bad_sum(plan);
-    if b < plan.len() / 512 {
-        return refused(12, b as u32);
+    if b < plan.len() / BLOCK {
+        return refused(number::PLAN_SUM, b as u32);
     }
     validate_first(network, h, l, plan)
 }

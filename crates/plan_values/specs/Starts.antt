@@ -1,4 +1,5 @@
--- Where the profiles of one border start among the points: a table that is filled once for each border, from where the border before it ended.
+-- Where the profiles of one border start among the points: a table that is filled once for each border, from
+-- where the border before it ended.
 use mathlib.Core.Path.{_≡_, _∙_}
 use mathlib.Core.List.{List}
 use Prim.Native.Nat.{ℕ, _+_, _*_, _≤_, _<_}
@@ -10,6 +11,7 @@ use lib.ListN.{getD}
 use Rattle.theory_loops.specs.Fill.{Filled}
 use Rattle.theory_loops.specs.Total.{total-more}
 use Rattle.plan.specs.declared.header.PlanLayout.{PlanLayout}
+use Rattle.plan.specs.PlanLimits.{mostProfilePoints}
 use Rattle.plan.specs.Plan.{Plan, pointCount, pointStart}
 use Rattle.plan.specs.PlanDecode.{decodePlan}
 use Rattle.plan_values.specs.Formed.{Formed, profile-points, profile-in}
@@ -22,7 +24,8 @@ startOf p nodes i u = pointStart p (i * nodes + u)
 pub record Started (plan : List ℕ) (l : PlanLayout) (i : ℕ) (starts : List ℕ) : Type 0 where
   pub at : (u : ℕ) → u < l .nodes → getD starts u 0 ≡ startOf (decodePlan plan) (l .nodes) i u
 
-pub started-of : {plan : List ℕ} {l : PlanLayout} {i : ℕ} {old starts : List ℕ} → Filled 0 (l .nodes) (startOf (decodePlan plan) (l .nodes) i) old starts
+pub started-of : {plan : List ℕ} {l : PlanLayout} {i : ℕ} {old starts : List ℕ}
+    → Filled 0 (l .nodes) (startOf (decodePlan plan) (l .nodes) i) old starts
     → Started plan l i starts
 started-of f = record { at = λ u h. f .written u (omega arith) h }
 
@@ -32,22 +35,26 @@ module _ (p : Plan) (nodes i : ℕ) where
   unfolding startOf
   start-first e = rw add-zero e
 
-  pub start-more : {s m : ℕ} (u : ℕ) → s ≡ startOf p nodes i u → m ≡ pointCount p (i * nodes + u) → s + m ≡ startOf p nodes i (u + 1)
+  pub start-more : {s m : ℕ} (u : ℕ) → s ≡ startOf p nodes i u → m ≡ pointCount p (i * nodes + u)
+      → s + m ≡ startOf p nodes i (u + 1)
   unfolding startOf pointStart
   start-more {s} {m} u e f =
       let z : i * nodes + u + 1 ≡ i * nodes + (u + 1) = omega arith in
       rw z at (total-more (pointCount p) s m (i * nodes + u) e f)
 
-  pub start-last : {s : ℕ} (u : ℕ) → s ≡ startOf p nodes i u → u ≤ nodes → nodes ≤ u → s ≡ pointStart p ((i + 1) * nodes)
+  pub start-last : {s : ℕ} (u : ℕ) → s ≡ startOf p nodes i u → u ≤ nodes → nodes ≤ u
+      → s ≡ pointStart p ((i + 1) * nodes)
   unfolding startOf
   start-last {s} u e h m =
       let z : i * nodes + u ≡ (i + 1) * nodes = omega arith in
       rw z at e
 
-module _ {plan : List ℕ} {l : PlanLayout} (f : Formed plan l) {i u : ℕ} (h : i < l .borders) (m : u < l .nodes) where
-  pub start-small : {s : ℕ} → s ≡ startOf (decodePlan plan) (l .nodes) i u → s ≤ 1048576
+module _ {plan : List ℕ} {l : PlanLayout} (f : Formed plan l) {i u : ℕ} (h : i < l .borders)
+    (m : u < l .nodes) where
+  pub start-small : {s : ℕ} → s ≡ startOf (decodePlan plan) (l .nodes) i u → s ≤ mostProfilePoints
   unfolding startOf
-  start-small e = omega (arith, profile-points f (i * l .nodes + u) (profile-in f i u h m), f .small .points-most)
+  start-small e =
+      omega (arith, profile-points f (i * l .nodes + u) (profile-in f i u h m), f .small .points-most)
 
   pub start-fits : {s : ℕ} → s ≡ startOf (decodePlan plan) (l .nodes) i u → Fits w32 s
   start-fits e = omega (arith, start-small e)
@@ -63,9 +70,21 @@ module _ {plan : List ℕ} {l : PlanLayout} (f : Formed plan l) {i u : ℕ} (h :
   number-fits = omega (arith, profile-in f i u h m, f .small .profiles-most)
 
   -- the start that was read in the table, for the profile with its number
-  pub start-read : {starts : List ℕ} {s : ℕ} → Started plan l i starts → s ≡ getD starts u 0 → s ≡ pointStart (decodePlan plan) (i * l .nodes + u)
+  pub start-read : {starts : List ℕ} {s : ℕ} → Started plan l i starts → s ≡ getD starts u 0
+      → s ≡ pointStart (decodePlan plan) (i * l .nodes + u)
   unfolding startOf
   start-read t e = e ∙ t .at u m
 
 -- for `search starting` at the needs of such code
-pub ruleset starting = (started-of, start-first, start-more, start-last, start-fits, next-fits, product-fits, number-fits, start-read, profile-in)
+pub ruleset starting = (
+  started-of,
+  start-first,
+  start-more,
+  start-last,
+  start-fits,
+  next-fits,
+  product-fits,
+  number-fits,
+  start-read,
+  profile-in,
+)

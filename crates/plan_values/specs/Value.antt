@@ -1,5 +1,6 @@
--- The value of a profile at a tick as code holds it, never or a number of ticks: what it stands for, and the laws by which code compares two
--- values, adds a travel to one, and reads one by the profile's points. A profile's number has 32 bits, so that a travel can be added to it in 64.
+-- The value of a profile at a tick as code holds it, never or a number of ticks: what it stands for, and the
+-- laws by which code compares two values, adds a travel to one, and reads one by the profile's points. A
+-- profile's number has 32 bits, so that a travel can be added to it in 64.
 use mathlib.Core.Path.{_≡_, sym, _∙_, ap}
 use mathlib.Core.Logic.{_≢_}
 use mathlib.Core.List.{List}
@@ -50,7 +51,8 @@ module _ {v : Value} {d : ℕ} (e : v ≡ Ticks d) (k : ℕ) where
   plus-fits l n = let m : d < 4294967296 = rw e at n in omega arith
 
 -- FOR CODE that reads the value of profile k, with m points from `from` on
-module _ {plan : List ℕ} {l : PlanLayout} (s : Formed plan l) {k from m : ℕ} (h : k < l .profiles) (e : from ≡ pointStart (decodePlan plan) k)
+module _ {plan : List ℕ} {l : PlanLayout} (s : Formed plan l) {k from m : ℕ} (h : k < l .profiles)
+    (e : from ≡ pointStart (decodePlan plan) k)
     (f : m ≡ pointCount (decodePlan plan) k) where
   pub value-points : from + m ≤ l .points
   value-points = omega (arith, profile-points s k h)
@@ -62,7 +64,8 @@ module _ {plan : List ℕ} {l : PlanLayout} (s : Formed plan l) {k from m : ℕ}
   unfolding profileValue
   value-never x z = record { is = rw (eq-eqb (pointCount (decodePlan plan) k) 0 (sym f ∙ z)); narrow = tt }
 
-  pub value-ticks : (x r : ℕ) → m ≢ 0 → r < 4294967296 → r ≡ valueAt (decodePlan plan .ticks) (decodePlan plan .travels) from m (l .period) x
+  pub value-ticks : (x r : ℕ) → m ≢ 0 → r < 4294967296
+      → r ≡ valueAt (decodePlan plan .ticks) (decodePlan plan .travels) from m (l .period) x
       → Reads (Ticks r) (profileValue (l .period) (decodePlan plan) k x)
   unfolding profileValue
   value-ticks x r n b v = record {
@@ -71,4 +74,13 @@ module _ {plan : List ℕ} {l : PlanLayout} (s : Formed plan l) {k from m : ℕ}
   }
 
 -- for `search values` at the needs of such code
-pub ruleset values = (same-ticks, less-ticks, plus-ticks, plus-fits, value-points, value-day, value-never, value-ticks)
+pub ruleset values = (
+  same-ticks,
+  less-ticks,
+  plus-ticks,
+  plus-fits,
+  value-points,
+  value-day,
+  value-never,
+  value-ticks,
+)

@@ -1,5 +1,7 @@
-// The value of a profile at a tick, read in place from the plan file. Every test reads values by `value_at` alone.
-// A profile may hold the number 4,294,967,295, so never is no number here, and a sum with a travel has 64 bits.
+// The value of a profile at a tick, read in place from the plan file. Every test reads values by `value_at`
+// alone. A profile may hold the number 4,294,967,295, so never is no number here, and a sum with a travel has
+// 64 bits.
+use network::limits::MOST_NODES;
 use plan::header::PlanLayout;
 use plan::read;
 ghost use mathlib.Core.Path.{_≡_};
@@ -101,12 +103,14 @@ fn line(x: usize, a: usize, v: u32, b: usize, w: u32) -> u32
     theory_travel::line(x as u16, a as u16, v, b as u16, w)
 }
 
-// The number at tick x of the period, by `count` points from `from` on: after the last point the line runs on to the next day's first.
+// The number at tick x of the period, by `count` points from `from` on: after the last point the line runs on
+// to the next day's first.
 fn number_at(plan: &[u8], l: PlanLayout, from: usize, count: usize, x: usize) -> u32
     requires { ⌜ Formed (now plan) l ⌝ }
     requires { ⌜ (from + count ≤ l .points) × (x < l .period) ⌝ }
     requires { ⌜ Day (entryAt (decodePlan (now plan) .ticks) from) count (l .period) ⌝ }
-    ensures { λ r. ⌜ r ≡ valueAt (decodePlan (now (plan .entry)) .ticks) (decodePlan (now (plan .entry)) .travels) from count (l .period) x ⌝ }
+    ensures { λ r. ⌜ r ≡ valueAt (decodePlan (now (plan .entry)) .ticks)
+        (decodePlan (now (plan .entry)) .travels) from count (l .period) x ⌝ }
 {
     let k = segment(plan, l, from, count, x);
     let a = read::tick(plan, l, from + k);
@@ -142,18 +146,21 @@ fn wide(x: u32) -> usize
     x as usize
 }
 
-// The table of where the profiles of border number i start, from where those of the border before it ended. Answers where its own end.
+// The table of where the profiles of border number i start, from where those of the border before it ended.
+// Answers where its own end.
 pub fn profile_starts(
     plan: &[u8],
     l: PlanLayout,
     i: usize,
     from: usize,
-    starts: &mut [u32; 512],
+    starts: &mut [u32; MOST_NODES],
 ) -> usize
     requires { ⌜ Formed (now plan) l ⌝ }
     requires { ⌜ (i < l .borders) × (l .nodes ≤ length (now starts)) ⌝ }
     requires { ⌜ from ≡ pointStart (decodePlan (now plan)) (i * l .nodes) ⌝ }
-    ensures { λ r. ⌜ (r ≡ pointStart (decodePlan (now (plan .entry))) ((i + 1) * l .nodes)) × Filled 0 (l .nodes) (startOf (decodePlan (now (plan .entry))) (l .nodes) i) (now (starts .entry)) (now (starts .exit)) ⌝ }
+    ensures { λ r. ⌜ (r ≡ pointStart (decodePlan (now (plan .entry))) ((i + 1) * l .nodes))
+        × Filled 0 (l .nodes) (startOf (decodePlan (now (plan .entry))) (l .nodes) i)
+        (now (starts .entry)) (now (starts .exit)) ⌝ }
 {
     let nodes = l.nodes;
     let mut sum = from;
@@ -164,11 +171,12 @@ pub fn profile_starts(
     sum
 }
 
-// The value at tick x of the period of the profile of border number i and node u, by the table of that border's starts.
+// The value at tick x of the period of the profile of border number i and node u, by the table of that
+// border's starts.
 pub fn profile_at(
     plan: &[u8],
     l: PlanLayout,
-    starts: &[u32; 512],
+    starts: &[u32; MOST_NODES],
     i: usize,
     u: usize,
     x: usize,
@@ -176,7 +184,8 @@ pub fn profile_at(
     requires { ⌜ Formed (now plan) l ⌝ }
     requires { ⌜ Started (now plan) l i (now starts) ⌝ }
     requires { ⌜ (i < l .borders) × (u < l .nodes) × (x < l .period) ⌝ }
-    ensures { λ r. ⌜ Reads r (profileValue (l .period) (decodePlan (now (plan .entry))) (i * l .nodes + u) x) ⌝ }
+    ensures { λ r. ⌜ Reads r
+        (profileValue (l .period) (decodePlan (now (plan .entry))) (i * l .nodes + u) x) ⌝ }
 {
     let from = wide(starts[u]);
     value_at(plan, l, i * l.nodes + u, from, x)

@@ -1,5 +1,6 @@
--- The laws by which code reads when an arc ends: where the arc's points start, that they are a day's points, and the travel on their line.
--- Also what fits: first points 16 bits, travels and arrivals 32, with never to spare.
+-- The laws by which code reads when an arc ends: where the arc's points start, that they are a day's points,
+-- and the travel on their line. Also what fits: first points 16 bits, travels and arrivals 32, with never to
+-- spare.
 use mathlib.Core.Path.{_≡_, sym, _∙_}
 use mathlib.Core.List.{List}
 use Prim.Native.Nat.{ℕ, _+_, _%_, _≤_, _<_}
@@ -13,6 +14,7 @@ use Rattle.theory_paths.specs.Graph.{ends}
 use Rattle.theory_paths.specs.Earliest.{never}
 use Rattle.theory_travel.specs.Day.{Day}
 use Rattle.theory_travel.specs.Table.{entryAt, valueAt}
+use Rattle.network.specs.Limits.{mostPeriod}
 use Rattle.network.specs.declared.header.Layout.{Layout}
 use Rattle.network.specs.Network.{count, start}
 use Rattle.network.specs.Decode.{decode}
@@ -35,7 +37,13 @@ module _ {file : List ℕ} {l : Layout} (t : Town file l) where
     -- an arc's points stand among the points, behind those of the arcs before it
     points-in : total a (count (decode file)) + count (decode file) a ≤ l .points
     unfolding start
-    points-in = omega (arith, total-part (count (decode file)) a (length (decode file .tails)) arc-in, t .sound .sum, t .sizes .points)
+    points-in =
+        omega (
+          arith,
+          total-part (count (decode file)) a (length (decode file .tails)) arc-in,
+          t .sound .sum,
+          t .sizes .points,
+        )
 
     pub start-small : (s : ℕ) → s ≡ total a (count (decode file)) → s < 65536
     start-small s e = omega (arith, points-in, t .small .points-most)
@@ -44,7 +52,8 @@ module _ {file : List ℕ} {l : Layout} (t : Town file l) where
     sum-fits s m e q = omega (arith, start-small s e)
 
     -- `from` was read in the table of first points, and m is the count of the arc's points
-    module _ (starts : List ℕ) (from m : ℕ) (d : from ≡ getD starts a 0) (e : getD starts a 0 ≡ start (decode file) a) (q : m ≡ count (decode file) a) where
+    module _ (starts : List ℕ) (from m : ℕ) (d : from ≡ getD starts a 0)
+        (e : getD starts a 0 ≡ start (decode file) a) (q : m ≡ count (decode file) a) where
       first : from ≡ start (decode file) a
       first = d ∙ e
 
@@ -56,15 +65,22 @@ module _ {file : List ℕ} {l : Layout} (t : Town file l) where
       arc-day = rw (first, q, t .sizes .period) (t .sound .points-of a arc-in .day)
 
       -- r is the travel that was read at tick y, reduced to x
-      module _ (r y x : ℕ) (o : x ≡ y % l .period) (v : r ≡ valueAt (decode file .ticks) (decode file .travels) from m (l .period) x) where
+      module _ (r y x : ℕ) (o : x ≡ y % l .period)
+          (v : r ≡ valueAt (decode file .ticks) (decode file .travels) from m (l .period) x) where
         at : r ≡ travelAt (decode file) a (y % decode file .period)
         unfolding travelAt
         at = rw (o, first, q, t .sizes .period) at v
 
-        small : r ≤ 2880
+        small : r ≤ mostPeriod
         small =
             let p : 0 < decode file .period = omega (arith, t .sizes .period, t .small .period-some) in
-            omega (arith, at, town-bounded (t .sound) a (y % decode file .period) arc-in (mod-lt y p), t .sizes .period, t .small .period-most)
+            omega (
+              arith,
+              at,
+              town-bounded (t .sound) a (y % decode file .period) arc-in (mod-lt y p),
+              t .sizes .period,
+              t .small .period-most,
+            )
 
         pub travel-fits : Fits w32 r
         travel-fits = omega (arith, small)
@@ -80,4 +96,15 @@ module _ {file : List ℕ} {l : Layout} (t : Town file l) where
         travel-ends = rw at
 
 -- for `search (times, needs)` at the needs of such code
-pub ruleset times = (first-day, reduced, start-small, sum-fits, arc-points, arc-day, travel-fits, end-fits, end-early, travel-ends)
+pub ruleset times = (
+  first-day,
+  reduced,
+  start-small,
+  sum-fits,
+  arc-points,
+  arc-day,
+  travel-fits,
+  end-fits,
+  end-early,
+  travel-ends,
+)

@@ -1,7 +1,9 @@
-// When an arc that is taken at a tick ends: the travel by the arc's points, read in place from the file.
-// A travel is read by `ends_at` alone; what it needs of an arc's first point stands in a table that `first_points` fills once.
+// When an arc that is taken at a tick ends: the travel by the arc's points, read in place from the file. A
+// travel is read by `ends_at` alone; what it needs of an arc's first point stands in a table that
+// `first_points` fills once.
 use crate::wide;
 use network::header::Layout;
+use network::limits::MOST_ARCS;
 use network::read;
 ghost use mathlib.Core.Path.{_≡_};
 ghost use Prim.Native.Nat.{_+_, _%_, _≤_, _<_};
@@ -19,10 +21,11 @@ ghost use Rattle.network.specs.Town.{graphOf};
 ghost use Rattle.search_arcs.specs.Town.{Town, lastTick};
 
 // The first point of each arc.
-pub fn first_points(file: &[u8], l: Layout, starts: &mut [u16; 2048])
+pub fn first_points(file: &[u8], l: Layout, starts: &mut [u16; MOST_ARCS])
     requires { ⌜ Town (now file) l ⌝ }
     requires { ⌜ l .arcs ≤ length (now starts) ⌝ }
-    ensures { λ _. ⌜ Filled 0 (l .arcs) (start (decode (now (file .entry)))) (now (starts .entry)) (now (starts .exit)) ⌝ }
+    ensures { λ _. ⌜ Filled 0 (l .arcs) (start (decode (now (file .entry)))) (now (starts .entry))
+        (now (starts .exit)) ⌝ }
 {
     let mut sum = 0;
     for a in 0..l.arcs {
@@ -59,12 +62,14 @@ fn line(x: usize, a: usize, v: usize, b: usize, w: usize) -> usize
     theory_travel::line(x as u16, a as u16, v as u32, b as u16, w as u32) as usize
 }
 
-// The travel at tick x of the period, by `count` points from `from` on: after the last point the line runs on to the next day's first.
+// The travel at tick x of the period, by `count` points from `from` on: after the last point the line runs on
+// to the next day's first.
 fn travel_at(file: &[u8], l: Layout, from: usize, count: usize, x: usize) -> usize
     requires { ⌜ Town (now file) l ⌝ }
     requires { ⌜ (from + count ≤ l .points) × (x < l .period) ⌝ }
     requires { ⌜ Day (entryAt (decode (now file) .ticks) from) count (l .period) ⌝ }
-    ensures { λ r. ⌜ r ≡ valueAt (decode (now (file .entry)) .ticks) (decode (now (file .entry)) .travels) from count (l .period) x ⌝ }
+    ensures { λ r. ⌜ r ≡ valueAt (decode (now (file .entry)) .ticks)
+        (decode (now (file .entry)) .travels) from count (l .period) x ⌝ }
 {
     let k = segment(file, l, from, count, x);
     let a = read::tick(file, l, from + k);
@@ -91,7 +96,7 @@ pub fn in_period(tick: u32, period: usize) -> usize
 }
 
 // The tick at which an arc, taken at a tick, ends.
-pub fn ends_at(file: &[u8], l: Layout, starts: &[u16; 2048], arc: usize, tick: u32) -> u32
+pub fn ends_at(file: &[u8], l: Layout, starts: &[u16; MOST_ARCS], arc: usize, tick: u32) -> u32
     requires { ⌜ Town (now file) l ⌝ }
     requires { ⌜ (arc < l .arcs) × (tick ≤ lastTick) ⌝ }
     requires { ⌜ getD (now starts) arc 0 ≡ start (decode (now file)) arc ⌝ }

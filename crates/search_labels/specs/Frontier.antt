@@ -1,6 +1,7 @@
--- The frontier as the code holds it: n nodes in a table, in any order. Its invariant with the labels (`Frontier`), how relaxing lets it grow
--- (`Grown`), and that its last entry put in the place of another takes that other out.
--- It never overflows: each entry has its label, and with every entry a node without a label is gone.
+-- The frontier as the code holds it: n nodes in a table, in any order. Its invariant with the labels
+-- (`Frontier`), how relaxing lets it grow (`Grown`), and that its last entry put in the place of another
+-- takes that other out. It never overflows: each entry has its label, and with every entry a node without a
+-- label is gone.
 use mathlib.Core.Path.{_≡_, refl, sym, _∙_}
 use mathlib.Core.Logic.{_≢_, _⊎_, inl, inr, ⊎-elim}
 use mathlib.Core.List.{List, [], _∷_}
@@ -12,6 +13,7 @@ use lib.ListN.{length, getD, set, length-set, List·getD-eq-default}
 use lib.Seq.{getD-set-same, getD-set-other}
 use Rattle.theory_paths.specs.Earliest.{never}
 use Rattle.theory_paths.specs.Labels.{label, label-at}
+use Rattle.network.specs.Limits.{mostNodes}
 use Rattle.search_labels.specs.Settle.{Moved}
 
 -- One of the n entries is v.
@@ -27,12 +29,13 @@ unknown (e ∷ L) = 1 - (never - e) + unknown L
 
 -- The entries are distinct and have labels, and there is room for every node that has none.
 pub record Frontier (L F : List ℕ) (n : ℕ) : Type 0 where
-  pub long : length F ≡ 512
+  pub long : length F ≡ mostNodes
   pub distinct : (j k : ℕ) → j < n → k < n → getD F j 0 ≡ getD F k 0 → j ≡ k
   pub known : (k : ℕ) → k < n → label L (getD F k 0) < never
-  pub room : n + unknown L ≤ 512
+  pub room : n + unknown L ≤ mostNodes
 
--- From the labels L to M, which are no higher, the n entries of F grew to the m entries of G: all stay, and those are added that got their first label.
+-- From the labels L to M, which are no higher, the n entries of F grew to the m entries of G: all stay, and
+-- those are added that got their first label.
 pub record Grown (L M F G : List ℕ) (n m : ℕ) : Type 0 where
   pub falls : (v : ℕ) → label M v ≤ label L v
   pub stay : (v : ℕ) → Held F n v → Held G m v
@@ -42,9 +45,12 @@ pub record Grown (L M F G : List ℕ) (n m : ℕ) : Type 0 where
 
 -- a node with a label has a place among the labels
 pub known-in : (L : List ℕ) (v : ℕ) → label L v < never → v < length L
-known-in L v h = elim (decLt v (length L)) [ yes l ↦ l | no l ↦ absurd (omega (arith, List·getD-eq-default L never {n = v} (omega arith))) ]
+known-in L v h =
+    elim (decLt v (length L))
+    [ yes l ↦ l | no l ↦ absurd (omega (arith, List·getD-eq-default L never {n = v} (omega arith))) ]
 
-unknown-set : (L : List ℕ) (v e : ℕ) → v < length L → unknown (set L v e) + (1 - (never - label L v)) ≡ unknown L + (1 - (never - e))
+unknown-set : (L : List ℕ) (v e : ℕ) → v < length L
+    → unknown (set L v e) + (1 - (never - label L v)) ≡ unknown L + (1 - (never - e))
 unfolding unknown
 unknown-set [] v e l = absurd (omega arith)
 unknown-set (d ∷ L) zero e l = omega arith
@@ -60,11 +66,19 @@ module _ (L : List ℕ) (v e : ℕ) (l : v < length L) (h : e < label L v) where
 
   -- the only one that is
   lowered-other : (w : ℕ) → never ≤ label L w → label (set L v e) w < never → w ≡ v
-  lowered-other w m k = elim (ℕ-discrete w v) [ yes q ↦ q | no q ↦ absurd (omega (arith, getD-set-other L v w e never q)) ]
+  lowered-other w m k =
+      elim (ℕ-discrete w v) [ yes q ↦ q | no q ↦ absurd (omega (arith, getD-set-other L v w e never q)) ]
 
 -- FOR `relax`: nothing is lowered
 pub grown-same : (L F : List ℕ) (n : ℕ) → Grown L L F F n n
-grown-same L F n = record { falls = λ v. le-refl _; stay = λ v h. h; new = λ v m k. absurd (omega arith); no-more = λ v h. inl h; sum = refl }
+grown-same L F n =
+    record {
+      falls = λ v. le-refl _;
+      stay = λ v h. h;
+      new = λ v m k. absurd (omega arith);
+      no-more = λ v h. inl h;
+      sum = refl;
+    }
 
 module _ {L F : List ℕ} {n : ℕ} (f : Frontier L F n) where
   -- an entry of the frontier is a place among the labels
@@ -72,7 +86,7 @@ module _ {L F : List ℕ} {n : ℕ} (f : Frontier L F n) where
   entry-in k v l e = rw e (known-in L (getD F k 0) (f .known k l))
 
   -- and its own place is one of the table's
-  pub entry-place : (k : ℕ) → k < n → k < 512
+  pub entry-place : (k : ℕ) → k < n → k < mostNodes
   entry-place k l = omega (arith, f .room)
 
   module _ {v e : ℕ} (l : v < length L) (h : e < getD L v 0) where
@@ -85,7 +99,9 @@ module _ {L F : List ℕ} {n : ℕ} (f : Frontier L F n) where
       grown-known = record {
         falls = lowered-falls L v e l less;
         stay = λ w i. i;
-        new = λ w m i. let q = lowered-other L v e l less w m i in absurd (omega (arith, label-at L v l, rw q at m));
+        new =
+            λ w m i. let q = lowered-other L v e l less w m i in absurd
+            (omega (arith, label-at L v l, rw q at m));
         no-more = λ w i. inl i;
         sum = omega (arith, unknown-set L v e l, label-at L v l);
       }
@@ -100,7 +116,7 @@ module _ {L F : List ℕ} {n : ℕ} (f : Frontier L F n) where
 
     -- a label is lowered that was not
     module _ (k : never ≤ getD L v 0) (small : e < never) where
-      pub push-room : n < 512
+      pub push-room : n < mostNodes
       push-room = omega (arith, unknown-set L v e l, label-at L v l, f .room)
 
       here : getD (set F n v) n 0 ≡ v
@@ -116,8 +132,14 @@ module _ {L F : List ℕ} {n : ℕ} (f : Frontier L F n) where
       pub grown-new : Grown L (set L v e) F (set F n v) n (n + 1)
       grown-new = record {
         falls = lowered-falls L v e l less;
-        stay = λ w i. record { place = i .place; inside = omega (arith, i .inside); is = there (i .place) (i .inside) ∙ i .is };
-        new = λ w m i. record { place = n; inside = omega arith; is = here ∙ sym (lowered-other L v e l less w m i) };
+        stay = λ w i. record {
+          place = i .place;
+          inside = omega (arith, i .inside);
+          is = there (i .place) (i .inside)
+              ∙ i .is;
+        };
+        new = λ w m i. record
+            { place = n; inside = omega arith; is = here ∙ sym (lowered-other L v e l less w m i) };
         no-more = λ w i. elim (decLt (i .place) n) [
           | yes q ↦ inl (record { place = i .place; inside = q; is = sym (there (i .place) q) ∙ i .is })
           | no q ↦
@@ -139,10 +161,13 @@ module _ {L F : List ℕ} {n : ℕ} (f : Frontier L F n) where
         room = omega (arith, unknown-set L v e l, label-at L v l, f .room);
       }
         where
-          go : (j i : ℕ) → j < n + 1 → i < n + 1 → getD (set F n v) j 0 ≡ getD (set F n v) i 0 → Dec (j < n) → Dec (i < n) → j ≡ i
+          go : (j i : ℕ) → j < n + 1 → i < n + 1 → getD (set F n v) j 0 ≡ getD (set F n v) i 0 → Dec (j < n)
+              → Dec (i < n) → j ≡ i
           go j i a b q (yes c) (yes d) = f .distinct j i c d (sym (there j c) ∙ q ∙ there i d)
-          go j i a b q (yes c) (no d) = let z : i ≡ n = omega arith in absurd (apart j c (sym (there j c) ∙ q ∙ rw z here))
-          go j i a b q (no c) (yes d) = let z : j ≡ n = omega arith in absurd (apart i d (sym (there i d) ∙ sym q ∙ rw z here))
+          go j i a b q (yes c) (no d) =
+              let z : i ≡ n = omega arith in absurd (apart j c (sym (there j c) ∙ q ∙ rw z here))
+          go j i a b q (no c) (yes d) =
+              let z : j ≡ n = omega arith in absurd (apart i d (sym (there i d) ∙ sym q ∙ rw z here))
           go j i a b q (no c) (no d) = omega arith
 
   -- FOR `reach`: the last entry in the place of entry i, which is u
@@ -169,7 +194,8 @@ module _ {L F : List ℕ} {n : ℕ} (f : Frontier L F n) where
     unfolding from
     from-in j m = go (ℕ-discrete j i)
       where
-        go : (d : Dec (j ≡ i)) → (elim d [ yes q ↦ n - 1 | no q ↦ j ] < n) × (elim d [ yes q ↦ n - 1 | no q ↦ j ] ≢ i)
+        go : (d : Dec (j ≡ i))
+            → (elim d [ yes q ↦ n - 1 | no q ↦ j ] < n) × (elim d [ yes q ↦ n - 1 | no q ↦ j ] ≢ i)
         go (yes q) = (omega arith, λ z. omega arith)
         go (no q) = (omega arith, q)
 
@@ -177,7 +203,8 @@ module _ {L F : List ℕ} {n : ℕ} (f : Frontier L F n) where
     unfolding from
     from-apart j k a b = go (ℕ-discrete j i) (ℕ-discrete k i)
       where
-        go : (c : Dec (j ≡ i)) (d : Dec (k ≡ i)) → _≡_ {A = ℕ} (elim c [ yes q ↦ n - 1 | no q ↦ j ]) (elim d [ yes q ↦ n - 1 | no q ↦ k ]) → j ≡ k
+        go : (c : Dec (j ≡ i)) (d : Dec (k ≡ i))
+            → _≡_ {A = ℕ} (elim c [ yes q ↦ n - 1 | no q ↦ j ]) (elim d [ yes q ↦ n - 1 | no q ↦ k ]) → j ≡ k
         go (yes c) (yes d) q = omega arith
         go (yes c) (no d) q = omega arith
         go (no c) (yes d) q = omega arith
@@ -186,15 +213,23 @@ module _ {L F : List ℕ} {n : ℕ} (f : Frontier L F n) where
     pub front-out : Frontier L (set F i (getD F (n - 1) 0)) (n - 1)
     front-out = record {
       long = length-set F i _ ∙ f .long;
-      distinct = λ j k a b q. from-apart j k a b (f .distinct (from j) (from k) (from-in j a .0) (from-in k b .0) (sym (was j) ∙ q ∙ was k));
+      distinct =
+          λ j k a b q. from-apart j k a b
+          (f .distinct (from j) (from k) (from-in j a .0) (from-in k b .0) (sym (was j) ∙ q ∙ was k));
       known = λ j a. rw (was j) (f .known (from j) (from-in j a .0));
       room = omega (arith, f .room);
     }
 
     out-stay : (v : ℕ) → Held F n v → v ≢ u → Held rest (n - 1) v
     out-stay v h ne = elim (ℕ-discrete (h .place) (n - 1)) [
-      | yes q ↦ record { place = i; inside = omega (arith, other); is = getD-set-same F i _ 0 fits ∙ rw (← q) (h .is) }
-      | no q ↦ record { place = h .place; inside = omega (arith, h .inside); is = getD-set-other F i (h .place) _ 0 other ∙ h .is }
+      | yes q ↦ record
+          { place = i; inside = omega (arith, other); is = getD-set-same F i _ 0 fits ∙ rw (← q) (h .is) }
+      | no q ↦ record {
+        place = h .place;
+        inside = omega (arith, h .inside);
+        is = getD-set-other F i (h .place) _ 0 other
+            ∙ h .is;
+      }
     ]
       where
         other : h .place ≢ i
@@ -202,11 +237,19 @@ module _ {L F : List ℕ} {n : ℕ} (f : Frontier L F n) where
 
     out-no-more : (v : ℕ) → Held rest (n - 1) v → Held F n v × (v ≢ u)
     out-no-more v h = (
-      record { place = from (h .place); inside = from-in (h .place) (h .inside) .0; is = sym (was (h .place)) ∙ h .is },
-      λ q. from-in (h .place) (h .inside) .1 (f .distinct (from (h .place)) i (from-in (h .place) (h .inside) .0) l (sym (was (h .place)) ∙ h .is ∙ q ∙ e)),
+      record {
+        place = from (h .place);
+        inside = from-in (h .place) (h .inside) .0;
+        is = sym (was (h .place))
+            ∙ h .is;
+      },
+      λ q. from-in (h .place) (h .inside) .1
+          (f .distinct (from (h .place)) i (from-in (h .place) (h .inside) .0) l
+          (sym (was (h .place)) ∙ h .is ∙ q ∙ e)),
     )
 
-    pub out-moved : {M G : List ℕ} {m : ℕ} → Grown L M (set F i (getD F (n - 1) 0)) G (n - 1) m → Moved L M (Held F n) (Held G m) u
+    pub out-moved : {M G : List ℕ} {m : ℕ} → Grown L M (set F i (getD F (n - 1) 0)) G (n - 1) m
+        → Moved L M (Held F n) (Held G m) u
     out-moved g = record {
       stay = λ v h ne. g .stay v (out-stay v h ne);
       new = g .new;
@@ -214,11 +257,13 @@ module _ {L F : List ℕ} {n : ℕ} (f : Frontier L F n) where
     }
 
 -- FOR THE WALK over the arcs out of a node: one step more
-pub grown-then : {L M N F G H : List ℕ} {n m k : ℕ} → Grown L M F G n m → Grown M N G H m k → Grown L N F H n k
+pub grown-then : {L M N F G H : List ℕ} {n m k : ℕ} → Grown L M F G n m → Grown M N G H m k
+    → Grown L N F H n k
 grown-then {L} {M} a b = record {
   falls = λ v. le-trans (b .falls v) (a .falls v);
   stay = λ v h. b .stay v (a .stay v h);
-  new = λ v h i. elim (decLt (label M v) never) [ yes l ↦ b .stay v (a .new v h l) | no l ↦ b .new v (omega arith) i ];
+  new = λ v h i. elim
+      (decLt (label M v) never) [ yes l ↦ b .stay v (a .new v h l) | no l ↦ b .new v (omega arith) i ];
   no-more = λ v h. ⊎-elim (λ w. a .no-more v w) (λ w. inr (le-trans w (a .falls v))) (b .no-more v h);
   sum = b .sum ∙ a .sum;
 }

@@ -1,5 +1,6 @@
--- The labels of a search: relaxing and settling (Relax, Settle), the frontier and its nearest node (Frontier, Nearest), what the code rests on (Ready), the walk
--- over the arcs out of a node (Walk), and the whole (Reach).
+-- The labels of a search: relaxing and settling (Relax, Settle), the frontier and its nearest node (Frontier,
+-- Nearest), what the code rests on (Ready), the walk over the arcs out of a node (Walk), and the whole
+-- (Reach).
 pub mod Relax
 pub mod Settle
 pub mod Frontier

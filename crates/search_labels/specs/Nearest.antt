@@ -1,5 +1,5 @@
--- The nearest node of the frontier, found by one pass over its entries: the invariant of the pass (`Least`), and what it has found (`Picked`).
--- Of nodes that are equally near, any will do.
+-- The nearest node of the frontier, found by one pass over its entries: the invariant of the pass (`Least`),
+-- and what it has found (`Picked`). Of nodes that are equally near, any will do.
 use mathlib.Core.Path.{_≡_, _∙_, ap}
 use mathlib.Core.List.{List}
 use Prim.Native.Nat.{ℕ, _+_, _≤_, _<_}
@@ -34,18 +34,23 @@ module _ {L F : List ℕ} {n : ℕ} (f : Frontier L F n) where
   }
 
   -- the next entry's label is less, or not
-  pub least-less : (k r m v : ℕ) → Least L F k r m → k < n → v ≡ getD F k 0 → getD L v 0 < m → Least L F (k + 1) k (getD L v 0)
+  pub least-less : (k r m v : ℕ) → Least L F k r m → k < n → v ≡ getD F k 0 → getD L v 0 < m
+      → Least L F (k + 1) k (getD L v 0)
   least-less k r m v h l e c = record {
     within = omega arith;
     is = read k v l e;
-    least = λ j d. elim (ℕ-discrete j k) [ yes q ↦ rw q (omega (arith, read k v l e)) | no q ↦ omega (arith, h .least j (omega arith)) ];
+    least = λ j d. elim
+        (ℕ-discrete j k)
+        [ yes q ↦ rw q (omega (arith, read k v l e)) | no q ↦ omega (arith, h .least j (omega arith)) ];
   }
 
-  pub least-more : (k r m v : ℕ) → Least L F k r m → k < n → v ≡ getD F k 0 → m ≤ getD L v 0 → Least L F (k + 1) r m
+  pub least-more : (k r m v : ℕ) → Least L F k r m → k < n → v ≡ getD F k 0 → m ≤ getD L v 0
+      → Least L F (k + 1) r m
   least-more k r m v h l e c = record {
     within = omega (arith, h .within);
     is = h .is;
-    least = λ j d. elim (ℕ-discrete j k) [ yes q ↦ rw q (omega (arith, read k v l e)) | no q ↦ h .least j (omega arith) ];
+    least = λ j d. elim
+        (ℕ-discrete j k) [ yes q ↦ rw q (omega (arith, read k v l e)) | no q ↦ h .least j (omega arith) ];
   }
 
 -- after the last entry

@@ -1,4 +1,5 @@
--- What the search leaves in the labels (`Reached`), and the laws by which its loop comes to it: how it starts, a turn, and its two ends.
+-- What the search leaves in the labels (`Reached`), and the laws by which its loop comes to it: how it
+-- starts, a turn, and its two ends.
 use mathlib.Core.Path.{_≡_, refl, sym, _∙_}
 use mathlib.Core.Logic.{_≢_}
 use mathlib.Core.List.{List, [], _∷_}
@@ -13,6 +14,7 @@ use Rattle.theory_paths.specs.Graph.{Graph, Permit}
 use Rattle.theory_paths.specs.Drive.{path-takes}
 use Rattle.theory_paths.specs.Earliest.{never, Exact}
 use Rattle.theory_paths.specs.Labels.{label, label-at}
+use Rattle.network.specs.Limits.{mostNodes}
 use Rattle.network.specs.declared.header.Layout.{Layout}
 use Rattle.network.specs.Decode.{decode}
 use Rattle.network.specs.Town.{graphOf}
@@ -39,10 +41,11 @@ pub record Started (nodes s x : ℕ) (L : List ℕ) : Type 0 where
 -- In the loop.
 pub record Searching (g : Graph) (p : Permit) (s x : ℕ) (L F : List ℕ) (n : ℕ) : Type 0 where
   pub left : Leaving g s x
-  pub kept : Search g p s x L (Held F n)
+  pub kept : Search g (left .most) p s x L (Held F n)
   pub front : Frontier L F n
 
-pub started : (nodes s x : ℕ) (old new : List ℕ) → length old ≡ nodes → s < nodes → Filled 0 nodes (λ _. never) old new → Started nodes s x (set new s x)
+pub started : (nodes s x : ℕ) (old new : List ℕ) → length old ≡ nodes → s < nodes
+    → Filled 0 nodes (λ _. never) old new → Started nodes s x (set new s x)
 started nodes s x old new l h f =
     let k = f .long in
     record {
@@ -70,9 +73,9 @@ module _ {g : Graph} {s x : ℕ} (d : Leaving g s x) where
   pub small : x < never
   small = omega (arith, d .early)
 
-  one-entry : {L : List ℕ} → Started (g .nodes) s x L → Frontier L (set (replicate 512 0) 0 s) 1
+  one-entry : {L : List ℕ} → Started (g .nodes) s x L → Frontier L (set (replicate mostNodes 0) 0 s) 1
   one-entry {L} a = record {
-    long = length-set (replicate 512 0) 0 s ∙ length-replicate {A = ℕ} 512 0;
+    long = length-set (replicate mostNodes 0) 0 s ∙ length-replicate {A = ℕ} mostNodes 0;
     distinct = λ j k l m q. omega arith;
     known = λ k l. let z : k ≡ 0 = omega arith in rw z known;
     room = omega (arith, unknown-less L s known, a .size, d .few);
@@ -81,14 +84,17 @@ module _ {g : Graph} {s x : ℕ} (d : Leaving g s x) where
       known : label L s < never
       known = omega (arith, a .source, small)
 
-pub search-start : {file L : List ℕ} {l : Layout} {p : Permit} {s x : ℕ} → Town file l → s < l .nodes → x < l .period
-    → Started (l .nodes) s x L → Searching (graphOf (decode file)) p s x L (set (replicate 512 0) 0 s) 1
+pub search-start : {file L : List ℕ} {l : Layout} {p : Permit} {s x : ℕ} → Town file l → s < l .nodes
+    → x < l .period
+    → Started (l .nodes) s x L → Searching (graphOf (decode file)) p s x L (set (replicate mostNodes 0) 0 s) 1
 search-start t h k a =
     let d = leaving t h k in
     let b = rw (t .sizes .nodes) at a in
     record {
       left = d;
-      kept = start (d .ok) (d .bounded) (d .node) (small d) (b .size) (b .source) (b .others) (record { place = 0; inside = omega arith; is = refl });
+      kept =
+          start (d .ok) (d .bounded) (d .node) (small d) (b .size) (b .source) (b .others)
+          (record { place = 0; inside = omega arith; is = refl });
       front = one-entry d b;
     }
 
@@ -131,7 +137,8 @@ module _ {g : Graph} {p : Permit} {s x : ℕ} where
       turn w =
           let d = c .left in
           let o : Held F n (getD F i 0) = record { place = i; inside = k .within; is = refl } in
-          record { left = d; kept = settle (d .ok) (d .bounded) (d .node) (small d) (c .kept) o known (k .nearest) (w .relaxed) (w .moved); front = w .front }
+          let s = settle (d .ok) (d .bounded) (d .node) (small d) (c .kept) o known (k .nearest) in
+          record { left = d; kept = s (w .relaxed) (w .moved); front = w .front }
 
 -- the labels are as many as the nodes
 pub search-size : {file : List ℕ} {l : Layout} {p : Permit} {s x : ℕ} {L F : List ℕ} {n : ℕ} → Town file l

@@ -1,5 +1,6 @@
--- What every function of a search rests on: a town, the mask of permitted arcs and the table of the arcs' first points (`Ready`). From it: no label is late
--- (`Early`), in a graph that is left within the first period (`Leaving`).
+-- What every function of a search rests on: a town, the mask of permitted arcs and the table of the arcs'
+-- first points (`Ready`). From it: no label is late (`Early`), in a graph that is left within the first
+-- period (`Leaving`).
 use mathlib.Core.Path.{_≡_}
 use mathlib.Core.List.{List}
 use Prim.Native.Nat.{ℕ, _≤_, _<_}
@@ -12,6 +13,7 @@ use Rattle.theory_paths.specs.Graph.{Graph, Lawful, Bounded, Permit}
 use Rattle.theory_paths.specs.Earliest.{never}
 use Rattle.theory_paths.specs.Labels.{label, label-at}
 use Rattle.network.specs.declared.header.Layout.{Layout}
+use Rattle.network.specs.Limits.{mostPeriod, mostNodes}
 use Rattle.network.specs.Network.{start}
 use Rattle.network.specs.Decode.{decode}
 use Rattle.network.specs.Town.{graphOf, town-bounded}
@@ -32,32 +34,38 @@ pub record Ready (file : List ℕ) (l : Layout) (mask starts : List ℕ) : Type 
 pub record Early (L : List ℕ) : Type 0 where
   pub upto : (v : ℕ) → label L v < never → label L v ≤ lastTick
 
--- s is left at tick x, in a lawful graph with few nodes, and early enough that no label is late.
+-- s is left at tick x, in a lawful graph with few nodes, and early enough for its longest travel that no
+-- label is late.
 pub record Leaving (g : Graph) (s x : ℕ) : Type 0 where
   pub ok : Lawful g
-  pub bounded : Bounded g
-  pub few : g .nodes ≤ 512
+  pub most : ℕ
+  pub bounded : Bounded g most
+  pub few : g .nodes ≤ mostNodes
   pub node : s < g .nodes
-  pub early : latest g x ≤ lastTick
+  pub early : latest g most x ≤ lastTick
 
 pub ready-of : {file : List ℕ} {l : Layout} {mask old starts : List ℕ} → Town file l → l .arcs ≤ length mask
     → Filled 0 (l .arcs) (start (decode file)) old starts → Ready file l mask starts
 ready-of t m f = record { town = t; masked = m; first = λ a h. f .written a (omega arith) h }
 
-pub leaving : {file : List ℕ} {l : Layout} (t : Town file l) {s x : ℕ} → s < l .nodes → x < l .period → Leaving (graphOf (decode file)) s x
+pub leaving : {file : List ℕ} {l : Layout} (t : Town file l) {s x : ℕ} → s < l .nodes → x < l .period
+    → Leaving (graphOf (decode file)) s x
 leaving {file} t h k = record {
   ok = lawful t;
+  most = decode file .period;
   bounded = town-bounded (t .sound);
   few = omega (arith, t .sizes .nodes, t .small .nodes-most);
   node = omega (arith, t .sizes .nodes);
   early =
-      let n : graphOf (decode file) .nodes ≤ 512 = omega (arith, t .sizes .nodes, t .small .nodes-most) in
-      let p : graphOf (decode file) .period ≤ 2880 = omega (arith, t .sizes .period, t .small .period-most) in
+      let n : graphOf (decode file) .nodes ≤ mostNodes =
+      omega (arith, t .sizes .nodes, t .small .nodes-most) in
+      let p : decode file .period ≤ mostPeriod = omega (arith, t .sizes .period, t .small .period-most) in
       omega (arith, mul-le-mul n p, t .small .period-most);
 }
 
 -- of an arc's entry in the table of first points
-pub first-read : {file : List ℕ} {l : Layout} {mask starts : List ℕ} → Ready file l mask starts → (a : ℕ) → a < l .arcs → getD starts a 0 ≡ start (decode file) a
+pub first-read : {file : List ℕ} {l : Layout} {mask starts : List ℕ} → Ready file l mask starts → (a : ℕ)
+    → a < l .arcs → getD starts a 0 ≡ start (decode file) a
 first-read w = w .first
 
 -- of a node's place in the labels

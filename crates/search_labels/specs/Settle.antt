@@ -1,6 +1,7 @@
--- A search that settles the nearest node first (Dijkstra's). The frontier holds the nodes that have a label and are not settled. A settled node's
--- label is never improved, so once no node of the frontier is nearer than the target, the labels are exact up to the target's.
--- The steps: `start`, `settle`, `nearest-exact`. How the frontier is held does not matter here: it is a predicate.
+-- A search that settles the nearest node first (Dijkstra's). The frontier holds the nodes that have a label
+-- and are not settled. A settled node's label is never improved, so once no node of the frontier is nearer
+-- than the target, the labels are exact up to the target's. The steps: `start`, `settle`, `nearest-exact`.
+-- How the frontier is held does not matter here: it is a predicate.
 use mathlib.Core.Path.{_≡_, _∙_}
 use mathlib.Core.Logic.{_≢_, _⊎_, inl, inr, ⊎-elim}
 use mathlib.Core.List.{List}
@@ -25,18 +26,18 @@ Settled L In u = (label L u < never) × (¬ In u)
 abbrev pub Nearest : List ℕ → (ℕ → Type 0) → ℕ → Type 0
 Nearest L In t = (v : ℕ) → In v → label L t ≤ label L v
 
--- The last tick at which a label can stand.
-abbrev pub latest : Graph → ℕ → ℕ
-latest g x = x + g .nodes * g .period
+-- The last tick at which a label can stand, where no arc takes longer than `most`.
+abbrev pub latest : Graph → ℕ → ℕ → ℕ
+latest g most x = x + g .nodes * most
 
--- What the search keeps: every label is an arrival, no settled node's label is above one of the frontier, and every permitted arc out of a
--- settled node is obeyed.
-pub record Search (g : Graph) (p : Permit) (s x : ℕ) (L : List ℕ) (In : ℕ → Type 0) : Type 0 where
+-- What the search keeps: every label is an arrival, no settled node's label is above one of the frontier, and
+-- every permitted arc out of a settled node is obeyed.
+pub record Search (g : Graph) (most : ℕ) (p : Permit) (s x : ℕ) (L : List ℕ) (In : ℕ → Type 0) : Type 0 where
   pub size : length L ≡ g .nodes
   pub source : label L s ≤ x
   pub capped : (v : ℕ) → label L v ≤ never
   pub sound : (v : ℕ) → label L v < never → Arrival g p s x v (label L v)
-  pub early : (v : ℕ) → label L v < never → label L v ≤ latest g x
+  pub early : (v : ℕ) → label L v < never → label L v ≤ latest g most x
   pub order : (u v : ℕ) → Settled L In u → In v → label L u ≤ label L v
   pub closed : (u a : ℕ) → ArcFrom g p u a → Settled L In u → label L (g .head a) ≤ ends g a (label L u)
 
@@ -50,15 +51,19 @@ one-more : (n P : ℕ) → 0 < n → (n - 1) * P + P ≡ n * P
 one-more zero P h = absurd (omega arith)
 one-more (suc n) P h = rw (sub-one, suc-mul)
 
-module _ {g : Graph} (ok : Lawful g) (b : Bounded g) {p : Permit} {s x : ℕ} (n : s < g .nodes) (h : x < never) where
+module _ {g : Graph} (ok : Lawful g) {most : ℕ} (b : Bounded g most) {p : Permit} {s x : ℕ} (n : s < g .nodes)
+    (h : x < never) where
   -- start: the source's label is x, no other is known, and the frontier has the source
-  pub start : {L : List ℕ} {In : ℕ → Type 0} → length L ≡ g .nodes → label L s ≡ x → ((v : ℕ) → v ≢ s → label L v ≡ never) → In s → Search g p s x L In
+  pub start : {L : List ℕ} {In : ℕ → Type 0} → length L ≡ g .nodes → label L s ≡ x
+      → ((v : ℕ) → v ≢ s → label L v ≡ never) → In s → Search g most p s x L In
   start {L} {In} k e o c = record {
     size = k;
     source = omega arith;
     capped = λ v. elim (ℕ-discrete v s) [ yes q ↦ rw q (omega arith) | no q ↦ omega (arith, o v q) ];
-    sound = λ v l. elim (ℕ-discrete v s) [ yes q ↦ rw (q, e) arrival-start | no q ↦ absurd (omega (arith, o v q)) ];
-    early = λ v l. elim (ℕ-discrete v s) [ yes q ↦ rw q (omega arith) | no q ↦ absurd (omega (arith, o v q)) ];
+    sound = λ v l. elim
+        (ℕ-discrete v s) [ yes q ↦ rw (q, e) arrival-start | no q ↦ absurd (omega (arith, o v q)) ];
+    early =
+        λ v l. elim (ℕ-discrete v s) [ yes q ↦ rw q (omega arith) | no q ↦ absurd (omega (arith, o v q)) ];
     order = λ u v d. absurd (none u d);
     closed = λ u a f d. absurd (none u d);
   }
@@ -66,7 +71,7 @@ module _ {g : Graph} (ok : Lawful g) (b : Bounded g) {p : Permit} {s x : ℕ} (n
       none : (u : ℕ) → Settled L In u → ⊥
       none u d = elim (ℕ-discrete u s) [ yes q ↦ d .1 (rw q c) | no q ↦ omega (arith, o u q, d .0) ]
 
-  module _ {L : List ℕ} {In : ℕ → Type 0} (i : Search g p s x L In) where
+  module _ {L : List ℕ} {In : ℕ → Type 0} (i : Search g most p s x L In) where
     -- stop early, or run dry: where no node of the frontier is nearer than t, the labels are exact up to t's
     pub nearest-exact : (t : ℕ) → Nearest L In t → Exact g p s x (label L) (label L t)
     nearest-exact t m = closed-exact ok (record {
@@ -76,7 +81,7 @@ module _ {g : Graph} (ok : Lawful g) (b : Bounded g) {p : Permit} {s x : ℕ} (n
     }) h
 
     -- so the nearest node's label is one that a path of fewer arcs than nodes has
-    nearest-early : (u : ℕ) → Nearest L In u → label L u < never → label L u ≤ x + (g .nodes - 1) * g .period
+    nearest-early : (u : ℕ) → Nearest L In u → label L u < never → label L u ≤ x + (g .nodes - 1) * most
     nearest-early u m l =
         let e = nearest-exact u m .earliest u (le-refl _) l in
         let q = arrive-bound ok b x n (e .arrival .leads) in
@@ -87,10 +92,14 @@ module _ {g : Graph} (ok : Lawful g) (b : Bounded g) {p : Permit} {s x : ℕ} (n
         (r : Relaxed g p u (label L u) (g .arcs) L M) (f : Moved L M In Out u) where
       -- a label that is not above u's is never improved, and no label that is above it falls to it
       kept : (v : ℕ) → label L v ≤ label L u → label M v ≡ label L v
-      kept v k = ⊎-elim (λ e. e) (λ w. absurd (omega (arith, r .less v, w .at, arc-takes ok (label L u) (w .from)))) (r .from v)
+      kept v k =
+          ⊎-elim (λ e. e) (λ w. absurd (omega (arith, r .less v, w .at, arc-takes ok (label L u) (w .from))))
+          (r .from v)
 
       above : (v : ℕ) → label L u ≤ label L v → label L u ≤ label M v
-      above v k = ⊎-elim (λ e. omega arith) (λ w. omega (arith, w .at, arc-takes ok (label L u) (w .from))) (r .from v)
+      above v k =
+          ⊎-elim (λ e. omega arith) (λ w. omega (arith, w .at, arc-takes ok (label L u) (w .from)))
+          (r .from v)
 
       above-out : (v : ℕ) → Out v → label L u ≤ label M v
       above-out v o = above v (⊎-elim (λ w. m v (w .0)) (λ w. omega arith) (f .no-more v o))
@@ -108,14 +117,18 @@ module _ {g : Graph} (ok : Lawful g) (b : Bounded g) {p : Permit} {s x : ℕ} (n
       low : (v : ℕ) → Settled M Out v → label L v ≤ label L u
       low v d = ⊎-elim (λ q. rw q (le-refl _)) (λ w. i .order v u w c) (was v d)
 
-      pub settle : Search g p s x M Out
+      pub settle : Search g most p s x M Out
       settle = record {
         size = r .size ∙ i .size;
         source = omega (arith, r .less s, i .source);
         capped = λ v. omega (arith, r .less v, i .capped v);
-        sound = λ v k. ⊎-elim (λ e. rw e (i .sound v (omega arith))) (λ w. rw (w .at, ← (w .enters)) (arrival-then (i .sound u l) (w .from))) (r .from v);
+        sound =
+            λ v k. ⊎-elim (λ e. rw e (i .sound v (omega arith)))
+            (λ w. rw (w .at, ← (w .enters)) (arrival-then (i .sound u l) (w .from))) (r .from v);
         early = λ v k. ⊎-elim (λ e. omega (arith, i .early v (omega arith)))
-            (λ w. omega (arith, w .at, arc-ends ok b (label L u) (w .from), nearest-early u m l, one-more (g .nodes) (g .period) (omega arith))) (r .from v);
+            (λ w.
+            let k = one-more (g .nodes) most (omega arith) in
+            omega (arith, w .at, arc-ends ok b (label L u) (w .from), nearest-early u m l)) (r .from v);
         order = λ v w d o. omega (arith, kept v (low v d), low v d, above-out w o);
         closed = λ v a e d. rw (kept v (low v d)) (⊎-elim
             (λ q. rw q (r .least a (rw q at e) (e .listed)))

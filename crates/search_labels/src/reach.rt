@@ -1,8 +1,11 @@
-// The labels of every node that may lie on an earliest path to the target: the nearest node of the frontier is settled, and the permitted arcs
-// out of it are relaxed, again and again, until it is the target or the frontier is empty.
-use crate::NEVER;
+// The labels of every node that may lie on an earliest path to the target: the nearest node of the frontier
+// is settled, and the permitted arcs out of it are relaxed, again and again, until it is the target or the
+// frontier is empty.
 use crate::frontier;
 use network::header::Layout;
+use network::limits::MOST_ARCS;
+use network::limits::MOST_NODES;
+use network::limits::NEVER;
 use network::read;
 use search_arcs::chain;
 use search_arcs::chain::End;
@@ -22,22 +25,24 @@ ghost use Rattle.search_labels.specs.Frontier.{Frontier};
 ghost use Rattle.search_labels.specs.Walk.{Stepped, Spread};
 ghost use Rattle.search_labels.specs.Reach.{Started, Reached};
 
-// Relaxes one arc, taken at a tick: a head that gets its first label goes into the frontier. Answers the frontier's size.
+// Relaxes one arc, taken at a tick: a head that gets its first label goes into the frontier. Answers the
+// frontier's size.
 fn relax(
     file: &[u8],
     l: Layout,
     mask: &[u8],
-    starts: &[u16; 2048],
+    starts: &[u16; MOST_ARCS],
     arc: usize,
     tick: u32,
     labels: &mut [u32],
-    frontier: &mut [u16; 512],
+    frontier: &mut [u16; MOST_NODES],
     size: usize,
 ) -> usize
     requires { ⌜ Ready (now file) l (now mask) (now starts) ⌝ }
     requires { ⌜ (arc < l .arcs) × (tick ≤ lastTick) × (length (now labels) ≡ l .nodes) ⌝ }
     requires { ⌜ Frontier (now labels) (now frontier) size ⌝ }
-    ensures { λ r. ⌜ Stepped (graphOf (decode (now (file .entry)))) (permitOf (now (mask .entry))) tick arc (now (labels .entry)) (now (labels .exit)) (now (frontier .entry)) (now (frontier .exit)) size r ⌝ }
+    ensures { λ r. ⌜ Stepped (graphOf (decode (now (file .entry)))) (permitOf (now (mask .entry))) tick arc
+        (now (labels .entry)) (now (labels .exit)) (now (frontier .entry)) (now (frontier .exit)) size r ⌝ }
 {
     if mask[arc] != 1 {
         return size;
@@ -60,24 +65,28 @@ fn relax(
     size + 1
 }
 
-// Takes entry i, a nearest node, out of the frontier, and relaxes the permitted arcs out of it, taken at its label. Answers the frontier's size.
+// Takes entry i, a nearest node, out of the frontier, and relaxes the permitted arcs out of it, taken at its
+// label. Answers the frontier's size.
 fn settle(
     file: &[u8],
     l: Layout,
     mask: &[u8],
-    starts: &[u16; 2048],
-    first: &[u16; 512],
-    next: &[u16; 2048],
+    starts: &[u16; MOST_ARCS],
+    first: &[u16; MOST_NODES],
+    next: &[u16; MOST_ARCS],
     i: usize,
     labels: &mut [u32],
-    frontier: &mut [u16; 512],
+    frontier: &mut [u16; MOST_NODES],
     size: usize,
 ) -> usize
     requires { ⌜ Ready (now file) l (now mask) (now starts) ⌝ }
     requires { ⌜ Chained (tail (decode (now file))) (l .nodes) (l .arcs) 0 (now first) (now next) ⌝ }
-    requires { ⌜ (i < size) × (length (now labels) ≡ l .nodes) × (label (now labels) (getD (now frontier) i 0) ≤ lastTick) ⌝ }
+    requires { ⌜ (i < size) × (length (now labels) ≡ l .nodes) ×
+        (label (now labels) (getD (now frontier) i 0) ≤ lastTick) ⌝ }
     requires { ⌜ Frontier (now labels) (now frontier) size ⌝ }
-    ensures { λ r. ⌜ Spread (graphOf (decode (now (file .entry)))) (permitOf (now (mask .entry))) (getD (now (frontier .entry)) i 0) (now (labels .entry)) (now (labels .exit)) (now (frontier .entry)) (now (frontier .exit)) size r ⌝ }
+    ensures { λ r. ⌜ Spread (graphOf (decode (now (file .entry)))) (permitOf (now (mask .entry)))
+        (getD (now (frontier .entry)) i 0) (now (labels .entry)) (now (labels .exit)) (now (frontier .entry))
+        (now (frontier .exit)) size r ⌝ }
 {
     let u = wide(frontier[i]);
     let last = size - 1;
@@ -108,9 +117,9 @@ fn settle_all(
     file: &[u8],
     l: Layout,
     mask: &[u8],
-    starts: &[u16; 2048],
-    first: &[u16; 512],
-    next: &[u16; 2048],
+    starts: &[u16; MOST_ARCS],
+    first: &[u16; MOST_NODES],
+    next: &[u16; MOST_ARCS],
     source: usize,
     target: usize,
     labels: &mut [u32],
@@ -119,9 +128,11 @@ fn settle_all(
     requires { ⌜ Chained (tail (decode (now file))) (l .nodes) (l .arcs) 0 (now first) (now next) ⌝ }
     requires { ⌜ (source < l .nodes) × (label (now labels) source < l .period) ⌝ }
     requires { ⌜ Started (l .nodes) source (label (now labels) source) (now labels) ⌝ }
-    ensures { λ _. ⌜ Reached (graphOf (decode (now (file .entry)))) (permitOf (now (mask .entry))) source target (now (labels .exit)) × (label (now (labels .exit)) source ≡ label (now (labels .entry)) source) ⌝ }
+    ensures { λ _. ⌜ Reached (graphOf (decode (now (file .entry))))
+        (permitOf (now (mask .entry))) source target (now (labels .exit)) ×
+        (label (now (labels .exit)) source ≡ label (now (labels .entry)) source) ⌝ }
 {
-    let mut frontier = [0u16; 512];
+    let mut frontier = [0u16; MOST_NODES];
     frontier[0] = source as u16;
     let mut size = 1;
     while 0 < size {
@@ -149,7 +160,7 @@ pub fn reach(
     file: &[u8],
     l: Layout,
     mask: &[u8],
-    starts: &[u16; 2048],
+    starts: &[u16; MOST_ARCS],
     source: usize,
     target: usize,
     departure: u32,
@@ -157,10 +168,12 @@ pub fn reach(
 )
     requires { ⌜ Ready (now file) l (now mask) (now starts) ⌝ }
     requires { ⌜ (source < l .nodes) × (departure < l .period) × (length (now labels) ≡ l .nodes) ⌝ }
-    ensures { λ _. ⌜ Reached (graphOf (decode (now (file .entry)))) (permitOf (now (mask .entry))) source target (now (labels .exit)) × (label (now (labels .exit)) source ≡ departure) ⌝ }
+    ensures { λ _. ⌜ Reached (graphOf (decode (now (file .entry))))
+        (permitOf (now (mask .entry))) source target (now (labels .exit)) ×
+        (label (now (labels .exit)) source ≡ departure) ⌝ }
 {
-    let mut first = [chain::NONE; 512];
-    let mut next = [chain::NONE; 2048];
+    let mut first = [chain::NONE; MOST_NODES];
+    let mut next = [chain::NONE; MOST_ARCS];
     chain::chain(file, l, End::Tail, &mut first, &mut next);
     start(labels, source, departure);
     settle_all(file, l, mask, starts, &first, &next, source, target, labels);

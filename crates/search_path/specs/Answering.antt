@@ -1,5 +1,5 @@
--- The laws by which the search comes to its answer, from the labels that it left: exact up to the target's, they tell and show what the
--- true labels do. In the shape of the needs of `tell`, `answer` and `search`.
+-- The laws by which the search comes to its answer, from the labels that it left: exact up to the target's,
+-- they tell and show what the true labels do. In the shape of the needs of `tell`, `search_nodes` and `search`.
 use mathlib.Core.Path.{_≡_, sym, _∙_}
 use mathlib.Core.Logic.{_≢_}
 use mathlib.Core.List.{List, _++_}
@@ -24,20 +24,26 @@ use Rattle.network.specs.Town.{graphOf}
 use Rattle.search_labels.specs.Reach.{Reached, small}
 use Rattle.search_path.specs.Path.{Listed}
 use Rattle.search_path.specs.Answer.{Answered, Told, entryOf}
-use Rattle.search_path.specs.declared.Outcome.{Outcome}
-use Rattle.search_path.specs.declared.Outcome.the-variants.{Arrived, NoWay, Short}
+use Rattle.file_refusals.specs.declared.Refusal.{Refusal}
+use Rattle.file_refusals.specs.Refusal.{refusal}
+use Rattle.search_path.specs.declared.answer.Answer.{Answer}
+use Rattle.search_path.specs.declared.answer.Answer.the-variants.{Arrived, Refused}
 
 -- a list that is written whole
-filled-all : (f : ℕ → ℕ) (n : ℕ) (old new : List ℕ) → length old ≡ n → length new ≡ n → ((k : ℕ) → k < n → getD new k 0 ≡ f k) → Filled 0 n f old new
+filled-all : (f : ℕ → ℕ) (n : ℕ) (old new : List ℕ) → length old ≡ n → length new ≡ n
+    → ((k : ℕ) → k < n → getD new k 0 ≡ f k) → Filled 0 n f old new
 filled-all f n old new l m h = record {
   long = m ∙ sym l;
   written = λ k a b. h k b;
   before = λ k a. absurd (omega arith);
-  after = λ k a. List·getD-eq-default new 0 {n = k} (omega arith) ∙ sym (List·getD-eq-default old 0 {n = k} (omega arith));
+  after =
+      λ k a. List·getD-eq-default new 0 {n = k} (omega arith) ∙ sym
+      (List·getD-eq-default old 0 {n = k} (omega arith));
 }
 
 -- a part from the front, written whole, said of the whole list
-filled-front : (f : ℕ → ℕ) (n : ℕ) (old part : List ℕ) → n ≤ length old → Filled 0 n f (take n old) part → Filled 0 n f old (part ++ drop n old)
+filled-front : (f : ℕ → ℕ) (n : ℕ) (old part : List ℕ) → n ≤ length old → Filled 0 n f (take n old) part
+    → Filled 0 n f old (part ++ drop n old)
 filled-front f n old part l h = record {
   long = length-front old part n (h .long);
   written = λ k a b. List·getD-append part (drop n old) 0 k (omega (arith, size)) ∙ h .written k a b;
@@ -55,44 +61,60 @@ filled-front f n old part l h = record {
         rw (← e) (getD-append-add part (drop n old) (k - n) 0 ∙ getD-drop n old (k - n) 0 ∙ rw (e, q))
 
 -- FOR `search`: from the part of the list of arrivals to the whole
-pub answered-front : (g : Graph) (p : Permit) (s x t n : ℕ) (old part roads₀ roads : List ℕ) (r : Outcome) → n ≡ g .nodes → n ≤ length old
-    → Answered g p s x t (take n old) part roads₀ roads r → Answered g p s x t old (part ++ drop n old) roads₀ roads r
+pub answered-front : (g : Graph) (p : Permit) (s x t n : ℕ) (old part roads₀ roads : List ℕ) (r : Answer)
+    → n ≡ g .nodes → n ≤ length old
+    → Answered g p s x t (take n old) part roads₀ roads r
+    → Answered g p s x t old (part ++ drop n old) roads₀ roads r
 answered-front g p s x t n old part roads₀ roads r e l a =
     let f = shown (labels g p s x) t in
     let h = fill-end f (take n old) 0 (g .nodes) n part (a .shows) (omega arith) (omega arith) in
-    record { shows = fill-end f old 0 n (g .nodes) _ (filled-front f n old part l h) (omega arith) (omega arith); told = a .told }
+    record {
+      shows = fill-end f old 0 n (g .nodes) _ (filled-front f n old part l h) (omega arith) (omega arith);
+      told = a .told;
+    }
 
 -- FOR `tell`: the target has a place among the labels, and its label is known where it is not never
-pub in-labels : {file L : List ℕ} {l : Layout} {p : Permit} {s t : ℕ} → Town file l → Reached (graphOf (decode file)) p s t L
+pub in-labels : {file L : List ℕ} {l : Layout} {p : Permit} {s t : ℕ} → Town file l
+    → Reached (graphOf (decode file)) p s t L
     → t < l .nodes → t < length L
 in-labels w r h = omega (arith, r .size, w .sizes .nodes)
 
-pub read-known : {file L : List ℕ} {l : Layout} {p : Permit} {s t : ℕ} → Town file l → Reached (graphOf (decode file)) p s t L
+pub read-known : {file L : List ℕ} {l : Layout} {p : Permit} {s t : ℕ} → Town file l
+    → Reached (graphOf (decode file)) p s t L
     → t < l .nodes → getD L t 0 ≢ never → label L t < never
 read-known {L = L} {t = t} w r h ne = let e = label-at L t (in-labels w r h) in omega (arith, r .capped t)
 
 -- where nothing is written, it does not matter what
 nothing-filled : (f h : ℕ → ℕ) {old new : List ℕ} → Filled 0 0 f old new → Filled 0 0 h old new
-nothing-filled f h a = record { long = a .long; written = λ k l m. absurd (omega arith); before = a .before; after = a .after }
+nothing-filled f h a =
+    record { long = a .long; written = λ k l m. absurd (omega arith); before = a .before; after = a .after }
 
 -- the three answers, from the labels
 module _ {g : Graph} {p : Permit} {s : ℕ} (t : ℕ) {L roads₀ : List ℕ} (l : t < length L) where
-  pub told-none : getD L t 0 ≡ never → Told g p s t L roads₀ roads₀ NoWay
-  told-none e = record { outcome = rw (← (label-at L t l), eq-eqb _ never e); writes = fill-none _ roads₀ 0 }
+  pub told-none : (r : Refusal) → getD L t 0 ≡ never → r ≡ refusal 28 0
+      → Told g p s t L roads₀ roads₀ (Refused r)
+  told-none r e f =
+      record { answer = rw (← (label-at L t l), eq-eqb _ never e, f); writes = fill-none _ roads₀ 0 }
 
-  module _ (count : ℕ) {roads : List ℕ} (ne : getD L t 0 ≢ never) (h : Listed (chosen g p s L t) roads₀ roads count) where
-    pub told-short : length roads < count → Told g p s t L roads₀ roads Short
-    told-short m =
+  module _ (count : ℕ) {roads : List ℕ} (ne : getD L t 0 ≢ never)
+      (h : Listed (chosen g p s L t) roads₀ roads count) where
+    pub told-short : (r : Refusal) → length roads < count → r ≡ refusal 29 0
+        → Told g p s t L roads₀ roads (Refused r)
+    told-short r m f =
         let o = lt-ltb (length roads₀) count (omega (arith, h .writes .long)) in
         record {
-          outcome = rw (← (label-at L t l), ne-eqb _ never ne, ← (h .total), o);
+          answer = rw (← (label-at L t l), ne-eqb _ never ne, ← (h .total), o, f);
           writes = nothing-filled _ _ (rw o at (h .writes));
         }
 
-    pub told-way : count ≤ length roads → Told g p s t L roads₀ roads (Arrived (record { tick = getD L t 0; count = count }))
+    pub told-way : count ≤ length roads
+        → Told g p s t L roads₀ roads (Arrived (record { tick = getD L t 0; count = count }))
     told-way m =
         let o = le-ltb (length roads₀) count (omega (arith, h .writes .long)) in
-        record { outcome = rw (← (label-at L t l), ne-eqb _ never ne, ← (h .total), o); writes = rw o at (h .writes) }
+        record {
+          answer = rw (← (label-at L t l), ne-eqb _ never ne, ← (h .total), o);
+          writes = rw o at (h .writes);
+        }
 
 -- FOR `answer`: from the labels L that the search left to the true labels
 module _ {g : Graph} {s x : ℕ} (d : Leaving g s x) (p : Permit) where
@@ -102,13 +124,16 @@ module _ {g : Graph} {s x : ℕ} (d : Leaving g s x) (p : Permit) where
   pub true-capped : (v : ℕ) → label (labels g p s x) v ≤ never
   true-capped = labels-capped (d .ok) p s x (d .node) (le-of-lt (small d))
 
-told-never : {g : Graph} {p : Permit} {s t : ℕ} (L M : List ℕ) {roads₀ roads : List ℕ} (r : Outcome) → label L t ≡ never → label M t ≡ never
+told-never : {g : Graph} {p : Permit} {s t : ℕ} (L M : List ℕ) {roads₀ roads : List ℕ} (r : Answer)
+    → label L t ≡ never → label M t ≡ never
     → Told g p s t L roads₀ roads r → Told g p s t M roads₀ roads r
 told-never {g} {p} {s} {t} L M r e f q =
-    let z : r ≡ NoWay = rw e at (q .outcome) in
-    record { outcome = rw f z; writes = rw z (nothing-filled (entryOf (chosen g p s L t)) (entryOf (chosen g p s M t)) (rw z at (q .writes))) }
+    let z : r ≡ Refused (refusal 28 0) = rw e at (q .answer) in
+    let w = nothing-filled (entryOf (chosen g p s L t)) (entryOf (chosen g p s M t)) (rw z at (q .writes)) in
+    record { answer = rw f z; writes = rw z w }
 
-module _ {g : Graph} {p : Permit} {s x t : ℕ} (d : Leaving g s x) (l : t < g .nodes) {L : List ℕ} (r : Reached g p s t L) (q : label L s ≡ x) where
+module _ {g : Graph} {p : Permit} {s x t : ℕ} (d : Leaving g s x) (l : t < g .nodes) {L : List ℕ}
+    (r : Reached g p s t L) (q : label L s ≡ x) where
   abbrev true-labels : List ℕ
   true-labels = labels g p s x
 
@@ -118,22 +143,27 @@ module _ {g : Graph} {p : Permit} {s x t : ℕ} (d : Leaving g s x) (l : t < g .
   tick-same : label true-labels t ≡ label L t
   tick-same = target-same L true-labels t exact (true-exact d p) (r .capped) (true-capped d p)
 
-  shows-same : {old new : List ℕ} → length old ≡ g .nodes → Filled 0 (length L) (shown L t) L new → Filled 0 (g .nodes) (shown true-labels t) old new
+  shows-same : {old new : List ℕ} → length old ≡ g .nodes → Filled 0 (length L) (shown L t) L new
+      → Filled 0 (g .nodes) (shown true-labels t) old new
   shows-same {old} {new} k f =
       filled-all (shown true-labels t) (g .nodes) old new k (f .long ∙ r .size)
-      (λ v b. f .written v (omega arith) (omega (arith, r .size)) ∙ shown-same L true-labels t exact (true-exact d p) (r .capped) (true-capped d p) v)
+      (λ v b. f .written v (omega arith) (omega (arith, r .size))
+      ∙ shown-same L true-labels t exact (true-exact d p) (r .capped) (true-capped d p) v)
 
-  told-same : {roads₀ roads : List ℕ} {o : Outcome} → Told g p s t L roads₀ roads o → Told g p s t true-labels roads₀ roads o
+  told-same : {roads₀ roads : List ℕ} {o : Answer} → Told g p s t L roads₀ roads o
+      → Told g p s t true-labels roads₀ roads o
   told-same {o = o} h = elim (decLt (label L t) never) [
     | yes m ↦
-        let e = chosen-same (d .ok) L true-labels exact (true-exact d p) (record { node = l; upto = le-refl _; known = m }) m in
-        record { outcome = rw (tick-same, ← e) (h .outcome); writes = rw (← e) (h .writes) }
+        let e = chosen-same (d .ok) L true-labels exact (true-exact d p)
+        (record { node = l; upto = le-refl _; known = m }) m in
+        record { answer = rw (tick-same, ← e) (h .answer); writes = rw (← e) (h .writes) }
     | no m ↦
         let e : label L t ≡ never = omega (arith, r .capped t) in
         told-never L true-labels o e (tick-same ∙ e) h
   ]
 
-pub answered : (mask : List ℕ) {file old L new roads₀ roads : List ℕ} {l : Layout} {s x t : ℕ} {o : Outcome} → Town file l
+pub answered : (mask : List ℕ) {file old L new roads₀ roads : List ℕ} {l : Layout} {s x t : ℕ} {o : Answer}
+    → Town file l
     → s < l .nodes → t < l .nodes → x < l .period → length old ≡ l .nodes
     → Reached (graphOf (decode file)) (permitOf mask) s t L × (label L s ≡ x)
     → Told (graphOf (decode file)) (permitOf mask) s t L roads₀ roads o
@@ -142,7 +172,10 @@ pub answered : (mask : List ℕ) {file old L new roads₀ roads : List ℕ} {l :
 answered mask w a b c k r h f =
     let d = leaving w a c in
     let m = w .sizes .nodes in
-    record { shows = shows-same d (omega arith) (r .0) (r .1) (omega arith) f; told = told-same d (omega arith) (r .0) (r .1) h }
+    record {
+      shows = shows-same d (omega arith) (r .0) (r .1) (omega arith) f;
+      told = told-same d (omega arith) (r .0) (r .1) h;
+    }
 
 -- for `search tells` at the needs of `tell`
 pub ruleset tells = (told-none, told-short, told-way, read-known, in-labels)

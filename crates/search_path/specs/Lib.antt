@@ -1,5 +1,5 @@
--- What the contracts of this crate cite. `Answer` says what a search answers and `Promise` what that means.
--- The others name what the internal functions compute, in the order in which they build on each other.
+-- What the contracts of this crate cite. `Answer` says what a search answers, `Promise` and `Shows` what that
+-- means. The others name what the internal functions compute, in the order in which they build on each other.
 pub mod Says
 pub mod Trim
 pub mod Answer
@@ -8,3 +8,4 @@ pub mod Back
 pub mod Path
 pub mod Answering
 pub mod Promise
+pub mod Shows

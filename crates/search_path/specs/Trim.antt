@@ -1,5 +1,5 @@
--- What a search stopped at its target shows: the labels before the target's, the target's own, and no other. It is the same by any labels
--- that are exact up to the target's.
+-- What a search stopped at its target shows: the labels before the target's, the target's own, and no other.
+-- It is the same by any labels that are exact up to the target's.
 use mathlib.Core.Path.{_≡_, refl, sym, _∙_}
 use mathlib.Core.Bool.{Bool, true, false, cond, _||_}
 use mathlib.Core.List.{List}
@@ -23,18 +23,22 @@ shownOf e b v t = cond (ltb e b || eqb v t) e never
 unfoldable pub shown : List ℕ → ℕ → ℕ → ℕ
 shown L t v = shownOf (label L v) (label L t) v t
 
-pub shown-at : (L : List ℕ) (t v : ℕ) → t < length L → v < length L → shownOf (getD L v 0) (getD L t 0) v t ≡ shown L t v
+pub shown-at : (L : List ℕ) (t v : ℕ) → t < length L → v < length L
+    → shownOf (getD L v 0) (getD L t 0) v t ≡ shown L t v
 unfolding shown
 shown-at L t v l m = rw (label-at L v m, label-at L t l)
 
 -- FOR THE PASS over the labels: one more is shown
-pub trim-more : (L new : List ℕ) (t v b e : ℕ) → Filled 0 v (shown L t) L new → t < length L → v < length L → b ≡ getD L t 0
+pub trim-more : (L new : List ℕ) (t v b e : ℕ) → Filled 0 v (shown L t) L new → t < length L → v < length L
+    → b ≡ getD L t 0
     → e ≡ shownOf (getD new v 0) b v t → Filled 0 (v + 1) (shown L t) L (set new v e)
 trim-more L new t v b e f l m q z =
-    fill-up (shown L t) L 0 v e new f (omega arith) m (z ∙ rw (q, f .after v (le-refl v)) (shown-at L t v l m))
+    fill-up (shown L t) L 0 v e new f (omega arith) m
+    (z ∙ rw (q, f .after v (le-refl v)) (shown-at L t v l m))
 
 -- with no way to t, every label is shown
-pub shown-all : (L : List ℕ) (t : ℕ) → label L t ≡ never → ((v : ℕ) → label L v ≤ never) → (v : ℕ) → shown L t v ≡ label L v
+pub shown-all : (L : List ℕ) (t : ℕ) → label L t ≡ never → ((v : ℕ) → label L v ≤ never) → (v : ℕ)
+    → shown L t v ≡ label L v
 unfolding shown
 shown-all L t e c v = elim (decLt (label L v) never) [
   | yes l ↦ rw (lt-ltb (label L v) (label L t) (omega arith))
@@ -45,7 +49,8 @@ shown-all L t e c v = elim (decLt (label L v) never) [
     go true q = refl
     go false q = sym q
 
-module _ {g : Graph} {p : Permit} {s x : ℕ} (L M : List ℕ) (t : ℕ) (e : Exact g p s x (label L) (label L t)) (f : Exact g p s x (label M) never)
+module _ {g : Graph} {p : Permit} {s x : ℕ} (L M : List ℕ) (t : ℕ) (e : Exact g p s x (label L) (label L t))
+    (f : Exact g p s x (label M) never)
     (c : (v : ℕ) → label L v ≤ never) (d : (v : ℕ) → label M v ≤ never) where
   pub target-same : label M t ≡ label L t
   target-same = elim (decLt (label L t) never) [
@@ -62,10 +67,14 @@ module _ {g : Graph} {p : Permit} {s x : ℕ} (L M : List ℕ) (t : ℕ) (e : Ex
       own false q = refl
 
       go : Dec (label L v < label L t) → Dec (label M v < label M t)
-          → cond (ltb (label L v) (label L t) || eqb v t) (label L v) never ≡ cond (ltb (label M v) (label M t) || eqb v t) (label M v) never
+          → cond (ltb (label L v) (label L t) || eqb v t) (label L v) never ≡ cond
+          (ltb (label M v) (label M t) || eqb v t) (label M v) never
       go (yes l) h =
           let q = exact-same e f v (le-of-lt l) (omega (arith, c t)) (omega (arith, c t)) in
           rw (q, target-same, lt-ltb (label L v) (label L t) l)
       go (no l) (yes m) =
-          absurd (omega (arith, target-same, exact-same f e v (d v) (omega (arith, d t)) (omega (arith, target-same))))
-      go (no l) (no m) = rw (le-ltb (label L v) (label L t) (omega arith), le-ltb (label M v) (label M t) (omega arith)) (own (eqb v t) refl)
+          absurd (omega
+          (arith, target-same, exact-same f e v (d v) (omega (arith, d t)) (omega (arith, target-same))))
+      go (no l) (no m) =
+          rw (le-ltb (label L v) (label L t) (omega arith), le-ltb (label M v) (label M t) (omega arith))
+          (own (eqb v t) refl)

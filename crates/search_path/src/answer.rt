@@ -1,4 +1,5 @@
-// What a trip answers: the tick of arrival with the count of roads, or a refusal with its number and three places.
+// What a trip answers: the tick of arrival with the count of roads, or a refusal with its number and three
+// places.
 use file_refusals::Refusal;
 
 pub struct Arrival {

@@ -1,11 +1,19 @@
-// search_path: the earliest arrival over permitted arcs and the chosen path, of a sound network file that is read in place. It owns the answer of a search and
-// its meaning (specs/Answer.antt, specs/Promise.antt).
+// search_path: the earliest arrival over permitted arcs and the chosen path, of a sound network file that is
+// read in place. It owns the answer of a search (28 and 29 among them) and its meaning (specs/Answer,
+// specs/Promise, specs/Shows).
 //   answer what a trip answers
 //   path   the chosen path, from the labels
-// It may call `search_labels` for the labels, `search_arcs` for the arcs at a node and their ends, and `network` for the entries of the file; it cites `theory_loops` and `theory_paths`.
+// It may call `search_labels` for the labels, `search_arcs` for the arcs at a node and their ends, `network`
+// for the entries of the file and `file_refusals` to refuse; it cites `theory_loops` and `theory_paths`.
+use crate::answer::Answer;
+use crate::answer::Arrival;
+use file_refusals::number::NO_WAY;
+use file_refusals::number::ROADS_SHORT;
+use file_refusals::refuse;
 use network::header::Layout;
+use network::limits::MOST_ARCS;
+use network::limits::NEVER;
 use search_arcs::times;
-use search_labels::NEVER;
 use search_labels::reach::reach;
 
 pub mod answer;
@@ -24,19 +32,6 @@ ghost use Rattle.search_labels.specs.Reach.{Reached};
 ghost use Rattle.search_path.specs.Trim.{shown, shownOf};
 ghost use Rattle.search_path.specs.Answer.{Answered, Told};
 
-// The arrival tick at the target and the number of arcs of the chosen path.
-pub struct Trip {
-    pub tick: u32,
-    pub count: usize,
-}
-
-// What a search answers. `Short`: the list of roads is shorter than the chosen path.
-pub enum Outcome {
-    Arrived(Trip),
-    NoWay,
-    Short,
-}
-
 // What is shown of a node's label, where the target's is `limit`.
 fn shown_label(label: u32, limit: u32, v: usize, target: usize) -> u32
     ensures { λ r. ⌜ r ≡ shownOf label limit v target ⌝ }
@@ -53,7 +48,8 @@ fn shown_label(label: u32, limit: u32, v: usize, target: usize) -> u32
 // Every label that is not before the target's becomes never, except the target's own.
 fn trim(labels: &mut [u32], target: usize)
     requires { ⌜ target < length (now labels) ⌝ }
-    ensures { λ _. ⌜ Filled 0 (length (now (labels .entry))) (shown (now (labels .entry)) target) (now (labels .entry)) (now (labels .exit)) ⌝ }
+    ensures { λ _. ⌜ Filled 0 (length (now (labels .entry))) (shown (now (labels .entry)) target)
+        (now (labels .entry)) (now (labels .exit)) ⌝ }
 {
     let limit = labels[target];
     for v in 0..labels.len() {
@@ -66,26 +62,27 @@ fn tell(
     file: &[u8],
     l: Layout,
     mask: &[u8],
-    starts: &[u16; 2048],
+    starts: &[u16; MOST_ARCS],
     labels: &[u32],
     source: usize,
     target: usize,
     roads: &mut [u16],
-) -> Outcome
+) -> Answer
     requires { ⌜ Ready (now file) l (now mask) (now starts) ⌝ }
     requires { ⌜ Reached (graphOf (decode (now file))) (permitOf (now mask)) source target (now labels) ⌝ }
     requires { ⌜ target < l .nodes ⌝ }
-    ensures { λ r. ⌜ Told (graphOf (decode (now (file .entry)))) (permitOf (now (mask .entry))) source target (now (labels .entry)) (now (roads .entry)) (now (roads .exit)) r ⌝ }
+    ensures { λ r. ⌜ Told (graphOf (decode (now (file .entry)))) (permitOf (now (mask .entry))) source target
+        (now (labels .entry)) (now (roads .entry)) (now (roads .exit)) r ⌝ }
 {
     let tick = labels[target];
     if tick == NEVER {
-        return Outcome::NoWay;
+        return Answer::Refused(refuse(NO_WAY, 0));
     }
     let count = path::path(file, l, mask, starts, labels, source, target, roads);
     if roads.len() < count {
-        return Outcome::Short;
+        return Answer::Refused(refuse(ROADS_SHORT, 0));
     }
-    Outcome::Arrived(Trip { tick, count })
+    Answer::Arrived(Arrival { tick, count })
 }
 
 // The search over labels for exactly the nodes.
@@ -98,22 +95,24 @@ fn search_nodes(
     departure: u32,
     labels: &mut [u32],
     roads: &mut [u16],
-) -> Outcome
+) -> Answer
     requires { ⌜ Town (now file) l ⌝ }
     requires { ⌜ (l .arcs ≤ length (now mask)) × (length (now labels) ≡ l .nodes) ⌝ }
     requires { ⌜ (source < l .nodes) × (target < l .nodes) × (departure < l .period) ⌝ }
-    ensures { λ r. ⌜ Answered (graphOf (decode (now (file .entry)))) (permitOf (now (mask .entry))) source departure target (now (labels .entry)) (now (labels .exit)) (now (roads .entry)) (now (roads .exit)) r ⌝ }
+    ensures { λ r. ⌜ Answered (graphOf (decode (now (file .entry))))
+        (permitOf (now (mask .entry))) source departure target (now (labels .entry)) (now (labels .exit))
+        (now (roads .entry)) (now (roads .exit)) r ⌝ }
 {
-    let mut starts = [0u16; 2048];
+    let mut starts = [0u16; MOST_ARCS];
     times::first_points(file, l, &mut starts);
     reach(file, l, mask, &starts, source, target, departure, labels);
-    let outcome = tell(file, l, mask, &starts, labels, source, target, roads);
+    let answer = tell(file, l, mask, &starts, labels, source, target, roads);
     trim(labels, target);
-    outcome
+    answer
 }
 
-// The earliest arrival at the target over the permitted arcs, when the source is left at the departure, and the chosen path: `Answered` says
-// what is answered and what is left in the two lists.
+// The earliest arrival at the target over the permitted arcs, when the source is left at the departure, and
+// the chosen path: `Answered` says what is answered and what is left in the two lists.
 pub fn search(
     file: &[u8],
     l: Layout,
@@ -123,12 +122,14 @@ pub fn search(
     departure: u32,
     arrivals: &mut [u32],
     roads: &mut [u16],
-) -> Outcome
+) -> Answer
     requires { ⌜ Laid (now file) l ⌝ }
     requires { ⌜ SoundNetwork (decode (now file)) ⌝ }
     requires { ⌜ (l .arcs ≤ length (now mask)) × (l .nodes ≤ length (now arrivals)) ⌝ }
     requires { ⌜ (source < l .nodes) × (target < l .nodes) × (departure < l .period) ⌝ }
-    ensures { λ r. ⌜ Answered (graphOf (decode (now (file .entry)))) (permitOf (now (mask .entry))) source departure target (now (arrivals .entry)) (now (arrivals .exit)) (now (roads .entry)) (now (roads .exit)) r ⌝ }
+    ensures { λ r. ⌜ Answered (graphOf (decode (now (file .entry))))
+        (permitOf (now (mask .entry))) source departure target (now (arrivals .entry)) (now (arrivals .exit))
+        (now (roads .entry)) (now (roads .exit)) r ⌝ }
 {
     let nodes = l.nodes;
     search_nodes(

@@ -1,12 +1,15 @@
-// The chosen path, from the labels: back from the target, by the lowest arc into each node that explains its label. The arcs into a node are
-// walked by their chain. The path is counted first, and then written from its end, so that the list holds it from its first arc to its last.
+// The chosen path, from the labels: back from the target, by the lowest arc into each node that explains its
+// label. The arcs into a node are walked by their chain. The path is counted first, and then written from its
+// end, so that the list holds it from its first arc to its last.
 use network::header::Layout;
+use network::limits::MOST_ARCS;
+use network::limits::MOST_NODES;
+use network::limits::NEVER;
 use network::read;
 use search_arcs::chain;
 use search_arcs::chain::End;
 use search_arcs::times;
 use search_arcs::wide;
-use search_labels::NEVER;
 ghost use mathlib.Core.Path.{_≡_};
 ghost use Prim.Native.Nat.{_≤_, _<_};
 ghost use lib.ListN.{length};
@@ -21,14 +24,14 @@ ghost use Rattle.search_labels.specs.Ready.{Ready, Early, permitOf};
 ghost use Rattle.search_path.specs.Answer.{entryOf};
 ghost use Rattle.search_arcs.specs.Chain.{Chained};
 ghost use Rattle.search_labels.specs.Reach.{Reached};
-ghost use Rattle.search_path.specs.Path.{pathOf, Listed};
+ghost use Rattle.search_path.specs.Path.{chosenIn, Listed};
 
 // Does an arc into v, taken at its tail's label, end at v's?
 fn is_into(
     file: &[u8],
     l: Layout,
     mask: &[u8],
-    starts: &[u16; 2048],
+    starts: &[u16; MOST_ARCS],
     labels: &[u32],
     v: usize,
     arc: usize,
@@ -36,7 +39,8 @@ fn is_into(
     requires { ⌜ Ready (now file) l (now mask) (now starts) ⌝ }
     requires { ⌜ (v < l .nodes) × (length (now labels) ≡ l .nodes) × Early (now labels) ⌝ }
     requires { ⌜ (arc < l .arcs) × (head (decode (now file)) arc ≡ v) ⌝ }
-    ensures { λ r. ⌜ r ≡ explains (graphOf (decode (now (file .entry)))) (permitOf (now (mask .entry))) (now (labels .entry)) v arc ⌝ }
+    ensures { λ r. ⌜ r ≡ explains (graphOf (decode (now (file .entry)))) (permitOf (now (mask .entry)))
+        (now (labels .entry)) v arc ⌝ }
 {
     if mask[arc] != 1 {
         return false;
@@ -59,16 +63,17 @@ fn arc_into(
     file: &[u8],
     l: Layout,
     mask: &[u8],
-    starts: &[u16; 2048],
-    first: &[u16; 512],
-    next: &[u16; 2048],
+    starts: &[u16; MOST_ARCS],
+    first: &[u16; MOST_NODES],
+    next: &[u16; MOST_ARCS],
     labels: &[u32],
     v: usize,
 ) -> usize
     requires { ⌜ Ready (now file) l (now mask) (now starts) ⌝ }
     requires { ⌜ Chained (head (decode (now file))) (l .nodes) (l .arcs) 0 (now first) (now next) ⌝ }
     requires { ⌜ (v < l .nodes) × (length (now labels) ≡ l .nodes) × Early (now labels) ⌝ }
-    ensures { λ r. ⌜ r ≡ arcInto (graphOf (decode (now (file .entry)))) (permitOf (now (mask .entry))) (now (labels .entry)) v ⌝ }
+    ensures { λ r. ⌜ r ≡ arcInto (graphOf (decode (now (file .entry)))) (permitOf (now (mask .entry)))
+        (now (labels .entry)) v ⌝ }
 {
     let arcs = l.arcs;
     let mut a = wide(first[v]);
@@ -86,9 +91,9 @@ fn count(
     file: &[u8],
     l: Layout,
     mask: &[u8],
-    starts: &[u16; 2048],
-    first: &[u16; 512],
-    next: &[u16; 2048],
+    starts: &[u16; MOST_ARCS],
+    first: &[u16; MOST_NODES],
+    next: &[u16; MOST_ARCS],
     labels: &[u32],
     source: usize,
     target: usize,
@@ -97,7 +102,8 @@ fn count(
     requires { ⌜ Chained (head (decode (now file))) (l .nodes) (l .arcs) 0 (now first) (now next) ⌝ }
     requires { ⌜ Reached (graphOf (decode (now file))) (permitOf (now mask)) source target (now labels) ⌝ }
     requires { ⌜ (target < l .nodes) × (label (now labels) target < never) ⌝ }
-    ensures { λ r. ⌜ r ≡ length (pathOf (now (file .entry)) (now (mask .entry)) source target (now (labels .entry))) ⌝ }
+    ensures { λ r. ⌜ r ≡ length (chosenIn (now (file .entry)) (now (mask .entry)) source target
+        (now (labels .entry))) ⌝ }
 {
     let mut v = target;
     let mut count = 0;
@@ -114,9 +120,9 @@ fn write(
     file: &[u8],
     l: Layout,
     mask: &[u8],
-    starts: &[u16; 2048],
-    first: &[u16; 512],
-    next: &[u16; 2048],
+    starts: &[u16; MOST_ARCS],
+    first: &[u16; MOST_NODES],
+    next: &[u16; MOST_ARCS],
     labels: &[u32],
     source: usize,
     target: usize,
@@ -127,8 +133,10 @@ fn write(
     requires { ⌜ Chained (head (decode (now file))) (l .nodes) (l .arcs) 0 (now first) (now next) ⌝ }
     requires { ⌜ Reached (graphOf (decode (now file))) (permitOf (now mask)) source target (now labels) ⌝ }
     requires { ⌜ (target < l .nodes) × (label (now labels) target < never) ⌝ }
-    requires { ⌜ (count ≡ length (pathOf (now file) (now mask) source target (now labels))) × (count ≤ length (now roads)) ⌝ }
-    ensures { λ _. ⌜ Filled 0 count (entryOf (pathOf (now (file .entry)) (now (mask .entry)) source target (now (labels .entry)))) (now (roads .entry)) (now (roads .exit)) ⌝ }
+    requires { ⌜ (count ≡ length (chosenIn (now file) (now mask) source target (now labels))) ×
+        (count ≤ length (now roads)) ⌝ }
+    ensures { λ _. ⌜ Filled 0 count (entryOf (chosenIn (now (file .entry)) (now (mask .entry)) source target
+        (now (labels .entry)))) (now (roads .entry)) (now (roads .exit)) ⌝ }
 {
     let mut v = target;
     for n in 0..count {
@@ -143,7 +151,7 @@ pub fn path(
     file: &[u8],
     l: Layout,
     mask: &[u8],
-    starts: &[u16; 2048],
+    starts: &[u16; MOST_ARCS],
     labels: &[u32],
     source: usize,
     target: usize,
@@ -152,10 +160,11 @@ pub fn path(
     requires { ⌜ Ready (now file) l (now mask) (now starts) ⌝ }
     requires { ⌜ Reached (graphOf (decode (now file))) (permitOf (now mask)) source target (now labels) ⌝ }
     requires { ⌜ (target < l .nodes) × (label (now labels) target < never) ⌝ }
-    ensures { λ r. ⌜ Listed (pathOf (now (file .entry)) (now (mask .entry)) source target (now (labels .entry))) (now (roads .entry)) (now (roads .exit)) r ⌝ }
+    ensures { λ r. ⌜ Listed (chosenIn (now (file .entry)) (now (mask .entry)) source target
+        (now (labels .entry))) (now (roads .entry)) (now (roads .exit)) r ⌝ }
 {
-    let mut first = [chain::NONE; 512];
-    let mut next = [chain::NONE; 2048];
+    let mut first = [chain::NONE; MOST_NODES];
+    let mut next = [chain::NONE; MOST_ARCS];
     chain::chain(file, l, End::Head, &mut first, &mut next);
     let count = count(file, l, mask, starts, &first, &next, labels, source, target);
     if roads.len() < count {

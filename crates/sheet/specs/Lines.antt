@@ -1,4 +1,5 @@
--- The lines of an input. A line ends at a line feed or at the end of the input; a last line feed begins no further line.
+-- The lines of an input. A line ends at a line feed or at the end of the input; a last line feed begins no
+-- further line.
 use mathlib.Core.Bool.{Bool, true, false, cond}
 use mathlib.Core.List.{List, [], _∷_, _++_}
 use Prim.Native.Nat.{ℕ}

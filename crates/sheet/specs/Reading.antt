@@ -1,5 +1,6 @@
--- The input taken a byte at a time, up to the 64th line: what is printed at each byte, and at the end. Over the input as a whole that is the texts of its
--- first 64 lines (`reads-lines`), whatever text a line has: `say` gives it.
+-- The input taken a byte at a time, up to the 64th line: what is printed at each byte, and at the end. Over
+-- the input as a whole that is the texts of its first 64 lines (`reads-lines`), whatever text a line has:
+-- `say` gives it.
 use mathlib.Core.Path.{_≡_, refl, sym, _∙_, ap}
 use mathlib.Core.Logic.{_≢_}
 use mathlib.Core.Bool.{true, false, cond, not}
@@ -22,12 +23,18 @@ use Rattle.sheet.specs.Lines.{isEmpty, linesFrom}
 unfoldable pub beginning : List ℕ → List ℕ → Reading
 beginning network plan = record { lines = cond (reads network plan) 0 64; begun = false; scan = fresh }
 
--- the state after one more byte: a line feed ends a line, any other byte goes on with one; after the 64th line nothing is read
+-- the state after one more byte: a line feed ends a line, any other byte goes on with one; after the 64th
+-- line nothing is read
 unfoldable pub stepped : Reading → ℕ → Reading
 stepped r b =
     cond (leb 64 (r .lines)) r
     (cond (eqb b 10) (record { lines = r .lines + 1; begun = false; scan = fresh })
     (record { lines = r .lines; begun = true; scan = scanned (r .scan) b }))
+
+-- the state after bytes of the input, one after the other
+unfoldable pub steppedAll : Reading → List ℕ → Reading
+steppedAll r [] = r
+steppedAll r (b ∷ bs) = steppedAll (stepped r b) bs
 
 module _ (say : Line → List ℕ) where
   -- what is printed at that byte: at a line feed the text of the line
@@ -73,29 +80,38 @@ abbrev after : ℕ → List ℕ → Reading
 after n w = record { lines = n; begun = not (isEmpty w); scan = scannedAll fresh w }
 
 module _ (say : Line → List ℕ) where
-  at-end : (n : ℕ) (w : List ℕ) → n < 64 → runText say (after n w) [] ≡ textsOf say (take (64 - n) (linesFrom w []))
+  at-end : (n : ℕ) (w : List ℕ) → n < 64
+      → runText say (after n w) [] ≡ textsOf say (take (64 - n) (linesFrom w []))
   unfolding runText endText textsOf linesFrom
   at-end n w l =
       let q : 64 - n ≡ suc (63 - n) = omega arith in
       rw (lt-leb 64 n l, q) (by w)
     where
-      by : (w : List ℕ) → cond (not (isEmpty w)) (say (lineOf w)) [] ≡ textsOf say (take (suc (63 - n)) (cond (isEmpty w) [] (w ∷ [])))
+      by : (w : List ℕ) → cond (not (isEmpty w)) (say (lineOf w)) []
+          ≡ textsOf say (take (suc (63 - n)) (cond (isEmpty w) [] (w ∷ [])))
       by [] = refl
-      by (b ∷ w) = sym (ap (λ (lines : List (List ℕ)). say (lineOf (b ∷ w)) ++ textsOf say lines) (take-nil (63 - n)) ∙ append-nil (say (lineOf (b ∷ w))))
+      by (b ∷ w) =
+          let text = say (lineOf (b ∷ w)) in
+          sym
+          (ap (λ (lines : List (List ℕ)). text ++ textsOf say lines) (take-nil (63 - n)) ∙ append-nil text)
 
-  at-line-feed : (n b : ℕ) (w bs : List ℕ) → n < 64 → b ≡ 10 → runText say (after (n + 1) []) bs ≡ textsOf say (take (64 - (n + 1)) (linesFrom [] bs))
+  at-line-feed : (n b : ℕ) (w bs : List ℕ) → n < 64 → b ≡ 10
+      → runText say (after (n + 1) []) bs ≡ textsOf say (take (64 - (n + 1)) (linesFrom [] bs))
       → runText say (after n w) (b ∷ bs) ≡ textsOf say (take (64 - n) (linesFrom w (b ∷ bs)))
   unfolding runText stepText stepped textsOf linesFrom scannedAll
   at-line-feed n b w bs l e ih =
       let q : 64 - n ≡ suc (64 - (n + 1)) = omega arith in
       rw (e, lt-leb 64 n l, q) (ap (λ (t : List ℕ). say (lineOf w) ++ t) ih)
 
-  at-byte : (n b : ℕ) (w bs : List ℕ) → n < 64 → b ≢ 10 → runText say (after n (w ++ (b ∷ []))) bs ≡ textsOf say (take (64 - n) (linesFrom (w ++ (b ∷ [])) bs))
+  at-byte : (n b : ℕ) (w bs : List ℕ) → n < 64 → b ≢ 10
+      → runText say (after n (w ++ (b ∷ []))) bs ≡ textsOf say (take (64 - n) (linesFrom (w ++ (b ∷ [])) bs))
       → runText say (after n w) (b ∷ bs) ≡ textsOf say (take (64 - n) (linesFrom w (b ∷ bs)))
   unfolding runText stepText stepped linesFrom
-  at-byte n b w bs l e ih = rw (lt-leb 64 n l, ne-eqb b 10 e) (rw (more-begun w b, more-scanned fresh w b) at ih)
+  at-byte n b w bs l e ih =
+      rw (lt-leb 64 n l, ne-eqb b 10 e) (rw (more-begun w b, more-scanned fresh w b) at ih)
 
-  pub reads-lines : (bs w : List ℕ) (n : ℕ) → runText say (after n w) bs ≡ textsOf say (take (64 - n) (linesFrom w bs))
+  pub reads-lines : (bs w : List ℕ) (n : ℕ)
+      → runText say (after n w) bs ≡ textsOf say (take (64 - n) (linesFrom w bs))
   reads-lines [] w n = elim (decLt n 64) [
     | yes l ↦ at-end n w l
     | no l ↦ full say [] (after n w) (omega arith) ∙ sym (none say (linesFrom w []) n (omega arith))
@@ -105,5 +121,6 @@ module _ (say : Line → List ℕ) where
       | yes e ↦ at-line-feed n b w bs l e (reads-lines bs [] (n + 1))
       | no e ↦ at-byte n b w bs l e (reads-lines bs (w ++ (b ∷ [])) n)
     ]
-    | no l ↦ full say (b ∷ bs) (after n w) (omega arith) ∙ sym (none say (linesFrom w (b ∷ bs)) n (omega arith))
+    | no l ↦ full say (b ∷ bs) (after n w) (omega arith)
+        ∙ sym (none say (linesFrom w (b ∷ bs)) n (omega arith))
   ]

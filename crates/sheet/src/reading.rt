@@ -1,15 +1,16 @@
-// The run sheet, a byte of the input at a time: what is stored at the start, at each byte and at the end is the sheet (specs/Sheet.antt, `sheet-bytes`).
-// Each step stores its text from the first lent byte on. Nothing of the input is kept but a small state, so a line may be of any length.
+// The run sheet, a byte of the input at a time: what is stored at the start, at each byte and at the end is
+// the sheet (specs/Sheet.antt, `sheet-bytes`). Each step stores its text from the first lent byte on. Nothing
+// of the input is kept but a small state, so a line may be of any length.
 use sheet_line::line::Scan;
 use sheet_line::line::fresh;
 use sheet_line::line::scan_byte;
+use sheet_text::answer::put_line;
 use sheet_text::head::put_head;
-use sheet_text::trip::put_line;
 ghost use mathlib.Core.Path.{_≡_};
 ghost use mathlib.Core.Bool.{cond};
 ghost use Prim.Native.Nat.{_≤_};
 ghost use lib.ListN.{length};
-ghost use Rattle.sheet_line.specs.Text.{Printed};
+ghost use Rattle.sheet_text.specs.Printed.{Printed, mostLine};
 ghost use Rattle.sheet_text.specs.Head.{headText};
 ghost use Rattle.sheet.specs.Reading.{beginning};
 ghost use Rattle.sheet.specs.Reading.{stepped, stepText, endText};
@@ -18,7 +19,8 @@ ghost use Rattle.sheet_text.specs.TripText.{lineText};
 // How many lines are answered; further ones are not read.
 pub const LINES: u32 = 64;
 
-// How far the input is read: how many lines have ended, whether one more has begun, and what its bytes come to.
+// How far the input is read: how many lines have ended, whether one more has begun, and what its bytes come
+// to.
 pub struct Reading {
     pub lines: u32,
     pub begun: bool,
@@ -40,8 +42,9 @@ fn lines_before(reads: bool) -> u32
 
 // Before the first byte of the input: the first line of the sheet.
 pub fn begin(network: &[u8], plan: &[u8], out: &mut [u8]) -> Step
-    requires { ⌜ 4096 ≤ length (now out) ⌝ }
-    ensures text { λ r. ⌜ Printed (now (out .entry)) (now (out .exit)) (r .length) (headText (now (network .entry)) (now (plan .entry))) ⌝ }
+    requires { ⌜ mostLine ≤ length (now out) ⌝ }
+    ensures text { λ r. ⌜ Printed (now (out .entry)) (now (out .exit)) (r .length)
+        (headText (now (network .entry)) (now (plan .entry))) ⌝ }
     ensures reading { λ r. ⌜ r .reading ≡ beginning (now (network .entry)) (now (plan .entry)) ⌝ }
 {
     let head = put_head(network, plan, out);
@@ -57,8 +60,9 @@ pub fn begin(network: &[u8], plan: &[u8], out: &mut [u8]) -> Step
 
 // One byte of the input: at a line feed the text of the line.
 pub fn take_byte(network: &[u8], plan: &[u8], reading: Reading, byte: u8, out: &mut [u8]) -> Step
-    requires { ⌜ 4096 ≤ length (now out) ⌝ }
-    ensures text { λ r. ⌜ Printed (now (out .entry)) (now (out .exit)) (r .length) (stepText (lineText (now (network .entry)) (now (plan .entry))) reading byte) ⌝ }
+    requires { ⌜ mostLine ≤ length (now out) ⌝ }
+    ensures text { λ r. ⌜ Printed (now (out .entry)) (now (out .exit)) (r .length)
+        (stepText (lineText (now (network .entry)) (now (plan .entry))) reading byte) ⌝ }
     ensures reading { λ r. ⌜ r .reading ≡ stepped reading byte ⌝ }
 {
     let scan = reading.scan;
@@ -88,8 +92,9 @@ pub fn take_byte(network: &[u8], plan: &[u8], reading: Reading, byte: u8, out: &
 
 // The end of the input: the text of a line that has begun.
 pub fn finish(network: &[u8], plan: &[u8], reading: Reading, out: &mut [u8]) -> usize
-    requires { ⌜ 4096 ≤ length (now out) ⌝ }
-    ensures { λ r. ⌜ Printed (now (out .entry)) (now (out .exit)) r (endText (lineText (now (network .entry)) (now (plan .entry))) reading) ⌝ }
+    requires { ⌜ mostLine ≤ length (now out) ⌝ }
+    ensures { λ r. ⌜ Printed (now (out .entry)) (now (out .exit)) r
+        (endText (lineText (now (network .entry)) (now (plan .entry))) reading) ⌝ }
 {
     let scan = reading.scan;
     if LINES <= reading.lines {

@@ -1,6 +1,4 @@
--- Texts and numbers as bytes (Text, Number), and what a line is (Line, Scanning, LineExact).
-pub mod Text
-pub mod Number
+-- What a line is (Line), and what its bytes come to one after the other (Scanning, LineExact).
 pub mod Line
 pub mod Scanning
 pub mod LineExact

@@ -1,11 +1,19 @@
--- A line that asks for a trip: three decimal numbers, one space apart, each of 32 bits. Leading zeros are allowed, and any number of them.
+-- A line that asks for a trip: three decimal numbers, one space apart, each of 32 bits. Leading zeros are
+-- allowed, and any number of them.
 use mathlib.Core.Path.{_≡_}
 use mathlib.Core.Bool.{true}
 use mathlib.Core.List.{List, _∷_, _++_}
 use Prim.Native.Nat.{ℕ, _^_, _≤_, _<_}
 use lib.ListN.{length}
 use Rattle.sheet_line.specs.declared.line.Asking.{Asking}
-use Rattle.sheet_line.specs.Number.{areDigits, valueOf, decimal, decimal-some, decimal-digits, value-decimal}
+use Rattle.text_numbers.specs.Number.{
+  areDigits,
+  valueOf,
+  decimal,
+  decimal-some,
+  decimal-digits,
+  value-decimal,
+}
 
 -- the greatest number that a line may hold
 abbrev pub limit : ℕ

@@ -1,4 +1,5 @@
--- A line read a byte at a time: what the bytes so far come to, by a state of six numbers and flags, and what the line is once it has ended.
+-- A line read a byte at a time: what the bytes so far come to, by a state of six numbers and flags, and what
+-- the line is once it has ended.
 use mathlib.Core.Bool.{true, false, cond}
 use mathlib.Core.List.{List, [], _∷_}
 use Prim.Native.Nat.{ℕ, _+_, _-_, _*_}
@@ -20,8 +21,10 @@ ruledOut = record { bad = true; fields = 0; some = false; value = 0; first = 0; 
 unfoldable pub spaceScanned : Scan → Scan
 spaceScanned s =
     cond (s .some)
-    (cond (eqb (s .fields) 0) (record { bad = false; fields = 1; some = false; value = 0; first = s .value; second = 0 })
-    (cond (eqb (s .fields) 1) (record { bad = false; fields = 2; some = false; value = 0; first = s .first; second = s .value })
+    (cond (eqb (s .fields) 0)
+    (record { bad = false; fields = 1; some = false; value = 0; first = s .value; second = 0 })
+    (cond (eqb (s .fields) 1)
+    (record { bad = false; fields = 2; some = false; value = 0; first = s .first; second = s .value })
     ruledOut))
     ruledOut
 
@@ -31,7 +34,14 @@ digitScanned s b =
     cond (ltb b 48) ruledOut
     (cond (ltb 57 b) ruledOut
     (cond (ltb limit (10 * s .value + (b - 48))) ruledOut
-    (record { bad = false; fields = s .fields; some = true; value = 10 * s .value + (b - 48); first = s .first; second = s .second })))
+    (record {
+      bad = false;
+      fields = s .fields;
+      some = true;
+      value = 10 * s .value + (b - 48);
+      first = s .first;
+      second = s .second;
+    })))
 
 -- one more byte
 unfoldable pub scanned : Scan → ℕ → Scan

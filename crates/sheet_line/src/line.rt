@@ -1,5 +1,5 @@
-// A line of the input: it asks for a trip, or it is of another shape. It is read a byte at a time into a small state, so that it may be of any length:
-// any number of leading zeros is allowed.
+// A line of the input: it asks for a trip, or it is of another shape. It is read a byte at a time into a
+// small state, so that it may be of any length: any number of leading zeros is allowed.
 ghost use mathlib.Core.Path.{_≡_};
 ghost use Rattle.sheet_line.specs.Scanning;
 ghost use Rattle.sheet_line.specs.Scanning.{scanned, spaceScanned, digitScanned};
@@ -19,8 +19,8 @@ pub enum Line {
     Other,
 }
 
-// What the bytes of a line so far come to: whether they rule out a trip; how many numbers a space has ended, and their values; whether the number
-// that is being read has a digit, and its value.
+// What the bytes of a line so far come to: whether they rule out a trip; how many numbers a space has ended,
+// and their values; whether the number that is being read has a digit, and its value.
 pub struct Scan {
     pub bad: bool,
     pub fields: u32,

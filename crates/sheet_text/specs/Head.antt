@@ -1,4 +1,5 @@
--- The first line of the sheet: the check, or `too large` where a file has more bytes than the sheet takes. Lines are read only where the plan is accepted.
+-- The first line of the sheet: the check, or `too large` where a file has more bytes than the sheet takes.
+-- Lines are read only where the plan is accepted.
 use mathlib.Core.Bool.{Bool, true, false, cond}
 use mathlib.Core.List.{List, [], _∷_, _++_}
 use Prim.Native.Nat.{ℕ}
@@ -7,7 +8,7 @@ use lib.Dec.{ltb}
 use Rattle.plan_check.specs.declared.answer.Checking.{Checking}
 use Rattle.plan_check.specs.declared.answer.Checking.the-variants.{Accepted, Refused}
 use Rattle.plan_check.specs.CheckPlan.{checking}
-use Rattle.sheet_line.specs.Text.{ascii, lineFeed}
+use Rattle.text_numbers.specs.Text.{ascii, lineFeed}
 use Rattle.sheet_text.specs.Numbers.{spaced}
 
 -- the most bytes that a file may have
@@ -17,7 +18,8 @@ most = 24576
 -- the check's verdict: of a refusal its number and three places
 unfoldable pub verdictText : Checking → List ℕ
 verdictText Accepted = ascii "plan accepted\n"
-verdictText (Refused r) = ascii "plan refused" ++ spaced (r .number ∷ r .first ∷ r .second ∷ r .third ∷ []) ++ lineFeed
+verdictText (Refused r) =
+    ascii "plan refused" ++ spaced (r .number ∷ r .first ∷ r .second ∷ r .third ∷ []) ++ lineFeed
 
 unfoldable pub isAccepted : Checking → Bool
 isAccepted Accepted = true

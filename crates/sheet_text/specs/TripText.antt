@@ -1,5 +1,5 @@
--- The text of a line of the input: for a line that asks for a trip from, to, leave, and then arrive, road count and roads, or `refused` and its number;
--- for a line of another shape `refused 32` alone.
+-- The text of a line of the input: for a line that asks for a trip from, to, leave, and then arrive, road
+-- count and roads, or `refused` and its number; for a line of another shape `refused 32` alone.
 use mathlib.Core.List.{List, [], _∷_, _++_}
 use Prim.Native.Nat.{ℕ}
 use Rattle.search_path.specs.declared.answer.Answer.{Answer}
@@ -8,16 +8,16 @@ use Rattle.trip.specs.Calls.{flaggedCall, flaggedPath}
 use Rattle.sheet_line.specs.declared.line.Asking.{Asking}
 use Rattle.sheet_line.specs.declared.line.Line.{Line}
 use Rattle.sheet_line.specs.declared.line.Line.the-variants.{Asks, Other}
-use Rattle.sheet_line.specs.Text.{ascii, lineFeed}
-use Rattle.sheet_line.specs.Number.{decimal}
+use Rattle.text_numbers.specs.Text.{ascii, lineFeed}
+use Rattle.text_numbers.specs.Number.{decimal}
 use Rattle.sheet_text.specs.Numbers.{spaced}
 
 -- the flagged trip that a line asks for, with fresh lists: its answer, and the chosen path
 unfoldable pub tripOf : List ℕ → List ℕ → Asking → Answer
 tripOf network plan a = flaggedCall network plan (a .from) (a .to) (a .leave)
 
-unfoldable pub pathOf : List ℕ → List ℕ → Asking → List ℕ
-pathOf network plan a = flaggedPath network plan (a .from) (a .to) (a .leave)
+unfoldable pub pathFor : List ℕ → List ℕ → Asking → List ℕ
+pathFor network plan a = flaggedPath network plan (a .from) (a .to) (a .leave)
 
 -- from, to, leave
 unfoldable pub askingText : Asking → List ℕ
@@ -29,7 +29,7 @@ answerText (Arrived r) roads = spaced (r .tick ∷ r .count ∷ roads) ++ lineFe
 answerText (Refused r) roads = ascii " refused" ++ spaced (r .number ∷ []) ++ lineFeed
 
 unfoldable pub tripText : List ℕ → List ℕ → Asking → List ℕ
-tripText network plan a = askingText a ++ answerText (tripOf network plan a) (pathOf network plan a)
+tripText network plan a = askingText a ++ answerText (tripOf network plan a) (pathFor network plan a)
 
 unfoldable pub lineText : List ℕ → List ℕ → Line → List ℕ
 lineText network plan (Asks a) = tripText network plan a

@@ -1,17 +1,18 @@
-// The first line of the sheet, stored in lent bytes: the check, or `too large` where a file has more than 24,576 bytes. Lines of the input are read only
-// where the plan is accepted.
-use crate::text::end_line;
-use crate::text::put_numbers;
-use crate::text::put_text;
+// The first line of the sheet, stored in lent bytes: the check, or `too large` where a file has more than
+// 24,576 bytes. Lines of the input are read only where the plan is accepted.
+use crate::numbers::put_numbers;
 use file_refusals::Refusal;
 use plan_check::answer::Checking;
 use plan_check::check::check_plan;
+use text_numbers::text::end_line;
+use text_numbers::text::put_text;
 ghost use mathlib.Core.Path.{_≡_};
 ghost use mathlib.Core.Bool.{false};
 ghost use Prim.Native.Nat.{_≤_};
 ghost use lib.ListN.{length};
 ghost use Rattle.plan_check.specs.declared.answer.Checking.the-variants as verdict;
-ghost use Rattle.sheet_line.specs.Text.{Stored, ascii};
+ghost use Rattle.text_numbers.specs.Text.{Stored, ascii};
+ghost use Rattle.sheet_text.specs.Printed.{mostLine};
 ghost use Rattle.sheet_text.specs.Head.{verdictText, isAccepted, headText, reads};
 
 // The most bytes that a file may have.
@@ -25,9 +26,10 @@ pub struct Head {
 
 // `plan refused`, the number and its three places.
 fn put_refusal(out: &mut [u8], r: Refusal) -> usize
-    requires { ⌜ 4096 ≤ length (now out) ⌝ }
-    ensures text { λ n. ⌜ Stored (now (out .entry)) (now (out .exit)) 0 n (verdictText (verdict.Refused r)) ⌝ }
-    ensures room { λ n. ⌜ n ≤ 4096 ⌝ }
+    requires { ⌜ mostLine ≤ length (now out) ⌝ }
+    ensures text { λ n. ⌜ Stored (now (out .entry)) (now (out .exit)) 0 n
+        (verdictText (verdict.Refused r)) ⌝ }
+    ensures room { λ n. ⌜ n ≤ mostLine ⌝ }
 {
     let next = put_text(out, 0, b"plan refused");
     let numbers = [r.number, r.first, r.second, r.third];
@@ -37,9 +39,9 @@ fn put_refusal(out: &mut [u8], r: Refusal) -> usize
 
 // The check's verdict.
 fn put_verdict(out: &mut [u8], checked: Checking) -> Head
-    requires { ⌜ 4096 ≤ length (now out) ⌝ }
+    requires { ⌜ mostLine ≤ length (now out) ⌝ }
     ensures text { λ r. ⌜ Stored (now (out .entry)) (now (out .exit)) 0 (r .length) (verdictText checked) ⌝ }
-    ensures room { λ r. ⌜ r .length ≤ 4096 ⌝ }
+    ensures room { λ r. ⌜ r .length ≤ mostLine ⌝ }
     ensures lines { λ r. ⌜ r .reads ≡ isAccepted checked ⌝ }
 {
     match checked {
@@ -56,9 +58,9 @@ fn put_verdict(out: &mut [u8], checked: Checking) -> Head
 
 // A file is too large.
 fn put_too_large(out: &mut [u8]) -> Head
-    requires { ⌜ 4096 ≤ length (now out) ⌝ }
+    requires { ⌜ mostLine ≤ length (now out) ⌝ }
     ensures text { λ r. ⌜ Stored (now (out .entry)) (now (out .exit)) 0 (r .length) (ascii "too large\n") ⌝ }
-    ensures room { λ r. ⌜ r .length ≤ 4096 ⌝ }
+    ensures room { λ r. ⌜ r .length ≤ mostLine ⌝ }
     ensures lines { λ r. ⌜ r .reads ≡ false ⌝ }
 {
     Head {
@@ -69,9 +71,10 @@ fn put_too_large(out: &mut [u8]) -> Head
 
 // The first line.
 pub fn put_head(network: &[u8], plan: &[u8], out: &mut [u8]) -> Head
-    requires { ⌜ 4096 ≤ length (now out) ⌝ }
-    ensures text { λ r. ⌜ Stored (now (out .entry)) (now (out .exit)) 0 (r .length) (headText (now (network .entry)) (now (plan .entry))) ⌝ }
-    ensures room { λ r. ⌜ r .length ≤ 4096 ⌝ }
+    requires { ⌜ mostLine ≤ length (now out) ⌝ }
+    ensures text { λ r. ⌜ Stored (now (out .entry)) (now (out .exit)) 0 (r .length)
+        (headText (now (network .entry)) (now (plan .entry))) ⌝ }
+    ensures room { λ r. ⌜ r .length ≤ mostLine ⌝ }
     ensures lines { λ r. ⌜ r .reads ≡ reads (now (network .entry)) (now (plan .entry)) ⌝ }
 {
     if MOST < network.len() {

@@ -1,4 +1,5 @@
--- What a loop leaves that writes a part of a lent list: each entry of the part has its value, and all the rest is as it was.
+-- What a loop leaves that writes a part of a lent list: each entry of the part has its value, and all the
+-- rest is as it was.
 use mathlib.Core.Path.{_≡_, refl, sym, ap, subst, _∙_}
 use mathlib.Core.List.{List, [], _∷_, _++_}
 use Prim.Native.Nat.{ℕ, zero, suc, _+_, _-_, _≤_, _<_, zero-le}
@@ -18,10 +19,17 @@ pub record Filled (a b : ℕ) (f : ℕ → ℕ) (old new : List ℕ) : Type 0 wh
 module _ (f : ℕ → ℕ) (old : List ℕ) where
   -- nothing is written yet
   pub fill-none : (a : ℕ) → Filled a a f old old
-  fill-none a = record { long = refl; written = λ k l m. absurd (omega arith); before = λ k l. refl; after = λ k l. refl }
+  fill-none a =
+      record {
+        long = refl;
+        written = λ k l m. absurd (omega arith);
+        before = λ k l. refl;
+        after = λ k l. refl;
+      }
 
   -- one more entry, at the part's end
-  pub fill-up : (a i v : ℕ) (new : List ℕ) → Filled a i f old new → a ≤ i → i < length old → v ≡ f i → Filled a (i + 1) f old (set new i v)
+  pub fill-up : (a i v : ℕ) (new : List ℕ) → Filled a i f old new → a ≤ i → i < length old → v ≡ f i
+      → Filled a (i + 1) f old (set new i v)
   fill-up a i v new h l m e =
       record {
         long = length-set new i v ∙ h .long;
@@ -34,7 +42,8 @@ module _ (f : ℕ → ℕ) (old : List ℕ) where
       }
 
   -- one more entry, before the part's start
-  pub fill-down : (i b v : ℕ) (new : List ℕ) → Filled (i + 1) b f old new → i < b → i < length old → v ≡ f i → Filled i b f old (set new i v)
+  pub fill-down : (i b v : ℕ) (new : List ℕ) → Filled (i + 1) b f old new → i < b → i < length old → v ≡ f i
+      → Filled i b f old (set new i v)
   fill-down i b v new h l m e =
       record {
         long = length-set new i v ∙ h .long;
@@ -47,7 +56,8 @@ module _ (f : ℕ → ℕ) (old : List ℕ) where
       }
 
   -- the same in a loop that counts i down and then writes
-  pub fill-back : (i b v : ℕ) (new : List ℕ) → Filled i b f old new → 0 < i → i ≤ b → b ≤ length old → v ≡ f (i - 1) → Filled (i - 1) b f old (set new (i - 1) v)
+  pub fill-back : (i b v : ℕ) (new : List ℕ) → Filled i b f old new → 0 < i → i ≤ b → b ≤ length old
+      → v ≡ f (i - 1) → Filled (i - 1) b f old (set new (i - 1) v)
   fill-back i b v new h l m n e =
       let q : i ≡ i - 1 + 1 = omega arith in
       fill-down (i - 1) b v new (subst (λ (k : ℕ). Filled k b f old new) q h) (omega arith) (omega arith) e
@@ -58,11 +68,6 @@ module _ (f : ℕ → ℕ) (old : List ℕ) where
 
   pub fill-start : (a i b : ℕ) (new : List ℕ) → Filled i b f old new → i ≤ a → a ≤ i → Filled a b f old new
   fill-start a i b new h l m = let e : i ≡ a = omega arith in rw e at h
-
--- said with another name for the values
-pub fill-same : (f g : ℕ → ℕ) (old new : List ℕ) (a b : ℕ) → ((k : ℕ) → f k ≡ g k) → Filled a b f old new → Filled a b g old new
-fill-same f g old new a b e h =
-    record { long = h .long; written = λ k l m. h .written k l m ∙ e k; before = h .before; after = h .after }
 
 -- for `search fills` at the needs of such a loop
 pub ruleset fills = (fill-none, fill-up, fill-down, fill-back, fill-end, fill-start, zero-le, lt-of-lt-of-le)
@@ -91,18 +96,23 @@ tab-list (a ∷ w) = ap (λ (l : List ℕ). a ∷ l) (tab-list w)
 
 -- where nothing is written, nothing has changed
 pub filled-none : (f : ℕ → ℕ) (a : ℕ) (old new : List ℕ) → Filled a a f old new → new ≡ old
-filled-none f a old new h = ext-getD 0 new old (h .long) (λ k m. elim (decLt k a) [ yes q ↦ h .before k q | no q ↦ h .after k (omega arith) ])
+filled-none f a old new h =
+    ext-getD 0 new old (h .long)
+    (λ k m. elim (decLt k a) [ yes q ↦ h .before k q | no q ↦ h .after k (omega arith) ])
 
 -- a list whose first entries have become these values: the others stay
 abbrev pub overwritten : List ℕ → List ℕ → List ℕ
 overwritten values old = values ++ drop (length values) old
 
 -- the same said by one list equation, for a caller that puts the list into another definition
-pub filled-list : (f : ℕ → ℕ) (n : ℕ) (old new : List ℕ) → n ≤ length old → Filled 0 n f old new → new ≡ tab n f ++ drop n old
+pub filled-list : (f : ℕ → ℕ) (n : ℕ) (old new : List ℕ) → n ≤ length old → Filled 0 n f old new
+    → new ≡ tab n f ++ drop n old
 filled-list f n old new l h =
-    ext-getD 0 new (tab n f ++ drop n old) (h .long ∙ simp (length-append, length-drop, length-tab) (omega arith))
+    ext-getD 0 new (tab n f ++ drop n old)
+    (h .long ∙ simp (length-append, length-drop, length-tab) (omega arith))
     (λ k m. elim (decLt k n) [
-      | yes q ↦ h .written k (omega arith) q ∙ sym (List·getD-append (tab n f) (drop n old) 0 k (rw length-tab q) ∙ getD-tab n f k q)
+      | yes q ↦ h .written k (omega arith) q
+          ∙ sym (List·getD-append (tab n f) (drop n old) 0 k (rw length-tab q) ∙ getD-tab n f k q)
       | no q ↦ h .after k (omega arith) ∙ sym (past k (omega arith))
     ])
   where
@@ -113,7 +123,8 @@ filled-list f n old new l h =
         rw (← e) (getD-append-add (tab n f) (drop n old) (k - n) 0 ∙ getD-drop n old (k - n) 0 ∙ rw (e, w))
 
 -- and back
-pub list-filled : (f : ℕ → ℕ) (n : ℕ) (old : List ℕ) → n ≤ length old → Filled 0 n f old (tab n f ++ drop n old)
+pub list-filled : (f : ℕ → ℕ) (n : ℕ) (old : List ℕ) → n ≤ length old
+    → Filled 0 n f old (tab n f ++ drop n old)
 list-filled f n old l = record {
   long = simp (length-append, length-drop, length-tab) (omega arith);
   written = λ k _ m. List·getD-append (tab n f) (drop n old) 0 k (rw length-tab m) ∙ getD-tab n f k m;
@@ -121,5 +132,6 @@ list-filled f n old l = record {
   after = λ k m.
       let e : length (tab n f) + (k - n) ≡ k = omega (arith, length-tab n f) in
       let w : n + (k - n) ≡ k = omega arith in
-      (rw e at (getD-append-add (tab n f) (drop n old) (k - n) 0)) ∙ getD-drop n old (k - n) 0 ∙ ap (λ (i : ℕ). getD old i 0) w;
+      (rw e at (getD-append-add (tab n f) (drop n old) (k - n) 0)) ∙ getD-drop n old (k - n) 0
+      ∙ ap (λ (i : ℕ). getD old i 0) w;
 }

@@ -1,4 +1,5 @@
--- The first index below a bound at which a test holds, with its laws: what every loop cites that is left at the first failing index.
+-- The first index below a bound at which a test holds, with its laws: what every loop cites that is left at
+-- the first failing index.
 use mathlib.Core.Path.{_≡_, refl, sym, _∙_}
 use mathlib.Core.Logic.{_↔_}
 use mathlib.Core.Bool.{Bool, true, false, cond}
@@ -35,18 +36,24 @@ module _ (p : ℕ → Bool) where
       let l : r < n = ltb-true r n e in
       record { within = omega (arith, h .within); before = h .before; at = λ _. h .at l }
   more n r false true e f h =
-      record { within = omega arith; before = λ k l. h .before k (omega (arith, ltb-false r n e)); at = λ _. f }
+      record {
+        within = omega arith;
+        before = λ k l. h .before k (omega (arith, ltb-false r n e));
+        at = λ _. f;
+      }
   more n r false false e f h =
       record {
         within = omega arith;
-        before = λ k l. below-more (λ j. p j ≡ false) n (λ j m. h .before j (omega (arith, ltb-false r n e))) f k (omega arith);
+        before = λ k l. below-more (λ j. p j ≡ false) n
+            (λ j m. h .before j (omega (arith, ltb-false r n e))) f k (omega arith);
         at = λ l. absurd (omega arith);
       }
 
   -- `first` is the first
   pub first-first : (n : ℕ) → First n p (first n p)
   unfolding first
-  first-first zero = record { within = omega arith; before = λ k l. absurd (omega arith); at = λ l. absurd (omega arith) }
+  first-first zero =
+      record { within = omega arith; before = λ k l. absurd (omega arith); at = λ l. absurd (omega arith) }
   first-first (suc n) = more n (first n p) (ltb (first n p) n) (p n) refl refl (first-first n)
 
   -- and nothing else is
@@ -55,10 +62,15 @@ module _ (p : ℕ → Bool) where
 
   below : (n a b : ℕ) → First n p a → First n p b → b ≤ a
   below n a b f g =
-      elim (decLe b a) [ yes h ↦ h | no h ↦ absurd (clash (p a) (f .at (omega (arith, g .within))) (g .before a (omega arith))) ]
+      elim (decLe b a) [
+        | yes h ↦ h
+        | no h ↦
+            absurd (clash (p a) (f .at (omega (arith, g .within))) (g .before a (omega arith)))
+      ]
 
   pub first-is : (n r : ℕ) → First n p r → r ≡ first n p
-  first-is n r f = le-antisymm (below n (first n p) r (first-first n) f) (below n r (first n p) f (first-first n))
+  first-is n r f =
+      le-antisymm (below n (first n p) r (first-first n) f) (below n r (first n p) f (first-first n))
 
   -- FOR A CALLER: at most n; none below n; the one found; none before it
   pub first-le : (n : ℕ) → first n p ≤ n
@@ -68,7 +80,8 @@ module _ (p : ℕ → Bool) where
   clear n e k l = first-first n .before k (omega arith)
 
   pub all-clear : (n : ℕ) → ((k : ℕ) → k < n → p k ≡ false) → first n p ≡ n
-  all-clear n h = sym (first-is n n (record { within = omega arith; before = h; at = λ l. absurd (omega arith) }))
+  all-clear n h =
+      sym (first-is n n (record { within = omega arith; before = h; at = λ l. absurd (omega arith) }))
 
   pub found : (n : ℕ) → first n p < n → p (first n p) ≡ true
   found n l = first-first n .at l
@@ -86,7 +99,8 @@ module _ (p : ℕ → Bool) where
   pub any-found : (n : ℕ) → any n p ≡ true → (k : ℕ) × (k < n) × (p k ≡ true)
   any-found n e = let l : first n p < n = ltb-true (first n p) n e in (first n p, l, found n l)
 
-  -- FOR A LOOP that counts i up to n, with the invariant `(i ≤ n) × (first i p ≡ i)`: p is false at every index passed
+  -- FOR A LOOP that counts i up to n, with the invariant `(i ≤ n) × (first i p ≡ i)`: p is false at every
+  -- index passed
   pub none-yet : first 0 p ≡ 0
   unfolding first
   none-yet = refl
@@ -95,7 +109,11 @@ module _ (p : ℕ → Bool) where
   pass i e h =
       sym
       (first-is (i + 1) (i + 1)
-      (record { within = omega arith; before = below-more _ _ (clear i e) h; at = λ l. absurd (omega arith) }))
+      (record {
+        within = omega arith;
+        before = below-more _ _ (clear i e) h;
+        at = λ l. absurd (omega arith);
+      }))
 
   pub stop : (n i : ℕ) → first i p ≡ i → i < n → p i ≡ true → i ≡ first n p
   stop n i e l h = first-is n i (record { within = omega arith; before = clear i e; at = λ _. h })
@@ -109,7 +127,11 @@ module _ (p : ℕ → Bool) where
   -- the same loop with a yes or no for its answer
   pub some : (n i : ℕ) → i < n → p i ≡ true → true ≡ any n p
   some n i l h =
-      elim (decLe n (first n p)) [ yes m ↦ absurd (clash (p i) h (least n i (omega arith))) | no m ↦ sym (lt-ltb (first n p) n (omega arith)) ]
+      elim (decLe n (first n p)) [
+        | yes m ↦ absurd (clash (p i) h (least n i (omega arith)))
+        | no m ↦
+            sym (lt-ltb (first n p) n (omega arith))
+      ]
 
   pub none : (n i : ℕ) → first i p ≡ i → i ≤ n → n ≤ i → false ≡ any n p
   none n i e l h = sym (le-ltb (first n p) n (omega (arith, done n i e l h)))
@@ -122,11 +144,14 @@ module _ (p : ℕ → Bool) where
   no-any n i e l h = sym (none n i e l h)
 
 -- one index more
-pub first-more : (k : ℕ) (p : ℕ → Bool) → first (suc k) p ≡ cond (ltb (first k p) k) (first k p) (cond (p k) k (suc k))
+pub first-more : (k : ℕ) (p : ℕ → Bool)
+    → first (suc k) p ≡ cond (ltb (first k p) k) (first k p) (cond (p k) k (suc k))
 unfolding first
 first-more k p = go (ltb (first k p) k) (p k)
   where
-    go : (a b : Bool) → (elim a [ true ↦ first k p | false ↦ elim b [ true ↦ k | false ↦ suc k ] ]) ≡ cond a (first k p) (cond b k (suc k))
+    go : (a b : Bool)
+        → (elim a [ true ↦ first k p | false ↦ elim b [ true ↦ k | false ↦ suc k ] ])
+        ≡ cond a (first k p) (cond b k (suc k))
     go true b = refl
     go false true = refl
     go false false = refl
@@ -146,4 +171,21 @@ pub told : (t u b : Bool) → t ≡ u → t ≡ b → u ≡ b
 told t u b e f = sym e ∙ f
 
 -- for `search firsts` at the needs of such a loop
-pub ruleset firsts = (none-yet, pass, stop, done, end, some, none, yes-any, no-any, told, le-leb, lt-leb, lt-ltb, le-ltb, eq-eqb, ne-eqb)
+pub ruleset firsts = (
+  none-yet,
+  pass,
+  stop,
+  done,
+  end,
+  some,
+  none,
+  yes-any,
+  no-any,
+  told,
+  le-leb,
+  lt-leb,
+  lt-ltb,
+  le-ltb,
+  eq-eqb,
+  ne-eqb,
+)

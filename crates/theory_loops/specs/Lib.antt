@@ -6,3 +6,4 @@ pub mod Fill
 pub mod Total
 pub mod Select
 pub mod Stores
+pub mod Parts

@@ -1,4 +1,5 @@
--- The indices below a bound at which a test holds, in rising order, and what a loop leaves that writes them to a list's front.
+-- The indices below a bound at which a test holds, in rising order, and what a loop leaves that writes them
+-- to a list's front.
 use mathlib.Core.Path.{_≡_, refl, _∙_}
 use mathlib.Core.Bool.{Bool, true, false}
 use mathlib.Core.List.{List, [], _∷_, _++_, append-assoc}
@@ -18,9 +19,11 @@ select (suc n) p =
     elim (p n) [ true ↦ r ++ (n ∷ []) | false ↦ r ]
 
 -- one more at the end of the front
-pub front-more : (xs old : List ℕ) (v : ℕ) → length xs < length old → set (overwritten xs old) (length xs) v ≡ overwritten (xs ++ (v ∷ [])) old
+pub front-more : (xs old : List ℕ) (v : ℕ) → length xs < length old
+    → set (overwritten xs old) (length xs) v ≡ overwritten (xs ++ (v ∷ [])) old
 front-more xs old v l =
-    rw (drop-cons old (length xs) 0 l, append-assoc, length-append xs (v ∷ []), add-one) (set-append-seam xs (getD old (length xs) 0) (drop (suc (length xs)) old) v)
+    rw (drop-cons old (length xs) 0 l, append-assoc, length-append xs (v ∷ []), add-one)
+    (set-append-seam xs (getD old (length xs) 0) (drop (suc (length xs)) old) v)
 
 -- FOR THE LOOP: the first c entries are the indices selected so far
 pub record Chosen (n : ℕ) (p : ℕ → Bool) (c : ℕ) (old new : List ℕ) : Type 0 where
@@ -42,17 +45,25 @@ module _ (p : ℕ → Bool) (old : List ℕ) where
   unfolding select
   choose-none = record { count = refl; list = refl; few = omega arith; long = refl }
 
-  pub choose-yes : (n c : ℕ) (new : List ℕ) → Chosen n p c old new → c < length old → p n ≡ true → Chosen (n + 1) p (c + 1) old (set new c n)
+  pub choose-yes : (n c : ℕ) (new : List ℕ) → Chosen n p c old new → c < length old → p n ≡ true
+      → Chosen (n + 1) p (c + 1) old (set new c n)
   choose-yes n c new h l t =
       record {
         count = rw (select-yes p n t, length-append) (omega (arith, h .count));
-        list = rw (select-yes p n t, h .list, h .count) (front-more (select n p) old n (omega (arith, h .count)));
+        list = rw (select-yes p n t, h .list, h .count)
+            (front-more (select n p) old n (omega (arith, h .count)));
         few = omega (arith, h .few);
         long = length-set new c n ∙ h .long;
       }
 
   pub choose-no : (n c : ℕ) (new : List ℕ) → Chosen n p c old new → p n ≡ false → Chosen (n + 1) p c old new
-  choose-no n c new h t = record { count = rw (select-no p n t) (h .count); list = rw (select-no p n t) (h .list); few = omega (arith, h .few); long = h .long }
+  choose-no n c new h t =
+      record {
+        count = rw (select-no p n t) (h .count);
+        list = rw (select-no p n t) (h .list);
+        few = omega (arith, h .few);
+        long = h .long;
+      }
 
   pub choose-end : (n m c : ℕ) (new : List ℕ) → Chosen n p c old new → n ≤ m → m ≤ n → Chosen m p c old new
   choose-end n m c new h l k = let e : n ≡ m = omega arith in rw e at h
@@ -83,7 +94,8 @@ module _ (p : ℕ → Bool) where
   entries-more n true e h i l = rw (next-yes n e) (elim (decLt i (length (select n p))) [
     | yes k ↦ rw (List·getD-append (select n p) (n ∷ []) 0 i k) (wider (h i k))
     | no k ↦
-        let q : i ≡ length (select n p) = omega (arith, length-append (select n p) (n ∷ []), rw (next-yes n e) at l) in
+        let q : i ≡ length (select n p) =
+        omega (arith, length-append (select n p) (n ∷ []), rw (next-yes n e) at l) in
         rw (q, getD-append-seam (select n p) n [] 0) (record { below = omega arith; passes = e; rank = refl })
   ])
   entries-more n false e h i l = rw (next-no n e) (wider (h i (rw (next-no n e) at l)))
@@ -102,7 +114,9 @@ module _ (p : ℕ → Bool) where
   rank-next n false e = rw (next-no n e) (le-refl _)
 
   pub rank-grows : (m n : ℕ) → m ≤ n → length (select m p) ≤ length (select n p)
-  rank-grows m n l = le-ind (λ k. length (select m p) ≤ length (select k p)) (le-refl _) (λ k _ h. le-trans h (rank-next k (p k) refl)) n l
+  rank-grows m n l =
+      le-ind (λ k. length (select m p) ≤ length (select k p)) (le-refl _)
+      (λ k _ h. le-trans h (rank-next k (p k) refl)) n l
 
   pub rank-rises : (m n : ℕ) → m < n → p m ≡ true → length (select m p) < length (select n p)
   rank-rises m n l e = omega (arith, rank-yes m e, rank-grows (suc m) n l)
@@ -114,15 +128,23 @@ module _ (p : ℕ → Bool) where
       let s : Selected n p (length (select v p)) w = selected n (length (select v p)) (rank-rises v n l e) in
       elim (decLt w v) [
         | yes k ↦ absurd (omega (arith, s .rank, rank-rises w v k (s .passes)))
-        | no k ↦ elim (decLt v w) [ yes h ↦ absurd (omega (arith, s .rank, rank-rises v w h e)) | no h ↦ omega arith ]
+        | no k ↦ elim
+            (decLt v w) [ yes h ↦ absurd (omega (arith, s .rank, rank-rises v w h e)) | no h ↦ omega arith ]
       ]
 
   -- and the list rises
-  pub select-rises : (n i j : ℕ) → i < j → j < length (select n p) → getD (select n p) i 0 < getD (select n p) j 0
+  pub select-rises : (n i j : ℕ) → i < j → j < length (select n p)
+      → getD (select n p) i 0 < getD (select n p) j 0
   select-rises n i j l m =
       let v = getD (select n p) i 0 in
       let w = getD (select n p) j 0 in
       elim (decLt v w) [
         | yes k ↦ k
-        | no k ↦ absurd (omega (arith, rank-grows w v (omega arith), selected n i (omega arith) .rank, selected n j m .rank))
+        | no k ↦ absurd
+            (omega (
+              arith,
+              rank-grows w v (omega arith),
+              selected n i (omega arith) .rank,
+              selected n j m .rank,
+            ))
       ]

@@ -1,4 +1,5 @@
--- Texts stored one after the other: what several runs of stores leave is what one run leaves of all the values.
+-- Texts stored one after the other: what several runs of stores leave is what one run leaves of all the
+-- values.
 use mathlib.Core.Path.{_≡_, refl, _∙_, ap}
 use mathlib.Core.List.{List, [], _∷_, _++_}
 use Prim.Native.Nat.{ℕ, zero, suc, _+_, _≤_}
@@ -15,7 +16,8 @@ sets-append (x ∷ xs) ys l i =
     ap (λ (k : ℕ). sets (sets (set l i x) (suc i) xs) k ys) q ∙ sets-append xs ys (set l i x) (suc i)
 
 -- FOR CODE that stores a text after another: j is where the first ends
-pub stored-next : (xs ys l m n : List ℕ) (i j : ℕ) → m ≡ sets l i xs → j ≡ i + length xs → n ≡ sets m j ys → n ≡ sets l i (xs ++ ys)
+pub stored-next : (xs ys l m n : List ℕ) (i j : ℕ) → m ≡ sets l i xs → j ≡ i + length xs → n ≡ sets m j ys
+    → n ≡ sets l i (xs ++ ys)
 stored-next xs ys l m n i j e f g = g ∙ rw (e, f) (sets-append xs ys l i)
 
 -- a run from the start leaves the rest

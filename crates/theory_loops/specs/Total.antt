@@ -1,4 +1,5 @@
--- The sum of a function's values below a bound, with its laws: running starts, such as the first point of each arc.
+-- The sum of a function's values below a bound, with its laws: running starts, such as the first point of
+-- each arc.
 use mathlib.Core.Path.{_≡_, refl}
 use Prim.Native.Nat.{ℕ, zero, suc, _+_, _*_, _≤_, _<_}
 use native.Mathlib.Numerals.{add-one}
@@ -22,13 +23,8 @@ module _ (f : ℕ → ℕ) where
   pub total-end : (s i n : ℕ) → s ≡ total i f → i ≤ n → n ≤ i → s ≡ total n f
   total-end s i n e l m = let q : i ≡ n = omega arith in rw q at e
 
-  -- each value at most m: the sum at most n times m
-  pub total-most : (m n : ℕ) → ((i : ℕ) → i < n → f i ≤ m) → total n f ≤ m * n
-  unfolding total
-  total-most m zero h = omega arith
-  total-most m (suc n) h = omega (arith, total-most m n (λ i l. h i (omega arith)), h n (omega arith))
-
-  -- the parts lie one behind the other: part i ends where part i + 1 starts, and no later than any later part's start
+  -- the parts lie one behind the other: part i ends where part i + 1 starts, and no later than any later
+  -- part's start
   pub total-part : (i n : ℕ) → i < n → total i f + f i ≤ total n f
   unfolding total
   total-part i zero l = absurd (omega arith)

@@ -1,4 +1,5 @@
--- The first failing triple: labelled loops over three ranges, left at the first indices at which a test holds, the first range weighing most.
+-- The first failing triple: labelled loops over three ranges, left at the first indices at which a test
+-- holds, the first range weighing most.
 use mathlib.Core.Path.{_≡_}
 use mathlib.Core.Logic.{_↔_}
 use mathlib.Core.Bool.{Bool, true, false, cond}
@@ -21,11 +22,14 @@ thirdOf l m n p = first n (p (firstOf l m n p) (secondOf l m n p))
 
 -- a rung that is taken at the first triple at which p holds, with an answer made of its indices
 unfoldable pub firstTripleRung : {A : Type 0} → (ℕ → ℕ → ℕ → A) → ℕ → ℕ → ℕ → (ℕ → ℕ → ℕ → Bool) → A → A
-firstTripleRung f l m n p b = cond (anyTriple l m n p) (f (firstOf l m n p) (secondOf l m n p) (thirdOf l m n p)) b
+firstTripleRung f l m n p b =
+    cond (anyTriple l m n p) (f (firstOf l m n p) (secondOf l m n p) (thirdOf l m n p)) b
 
 module _ (p : ℕ → ℕ → ℕ → Bool) (l m n : ℕ) where
-  -- FOR THE LOOPS, each with the invariant of a first: nothing before i, at i nothing before j, there nothing before k, and the test holds
-  module _ (i j k : ℕ) (ei : first i (λ i. any m (λ j. any n (p i j))) ≡ i) (li : i < l) (ej : first j (λ j. any n (p i j)) ≡ j) (lj : j < m)
+  -- FOR THE LOOPS, each with the invariant of a first: nothing before i, at i nothing before j, there nothing
+  -- before k, and the test holds
+  module _ (i j k : ℕ) (ei : first i (λ i. any m (λ j. any n (p i j))) ≡ i) (li : i < l)
+      (ej : first j (λ j. any n (p i j)) ≡ j) (lj : j < m)
       (ek : first k (p i j) ≡ k) (lk : k < n) (h : p i j k ≡ true) where
     at-second : any n (p i j) ≡ true
     at-second = yes-any (p i j) n k lk h
@@ -61,6 +65,9 @@ module _ (p : ℕ → ℕ → ℕ → Bool) (l m n : ℕ) where
   -- FOR A READER: no triple passes exactly where the test is false at every triple in range
   pub triple-clear : (anyTriple l m n p ≡ false) ↔ ((i j k : ℕ) → i < l → j < m → k < n → p i j k ≡ false)
   triple-clear = (
-    λ e i j k li lj lk. any-clear (p i j) n .0 (any-clear (λ j. any n (p i j)) m .0 (any-clear (λ i. any m (λ j. any n (p i j))) l .0 e i li) j lj) k lk,
-    λ h. any-clear _ l .1 (λ i li. any-clear _ m .1 (λ j lj. any-clear (p i j) n .1 (λ k lk. h i j k li lj lk))),
+    λ e i j k li lj lk. any-clear (p i j) n .0
+        (any-clear (λ j. any n (p i j)) m .0 (any-clear (λ i. any m (λ j. any n (p i j))) l .0 e i li) j lj)
+        k lk,
+    λ h. any-clear _ l .1
+        (λ i li. any-clear _ m .1 (λ j lj. any-clear (p i j) n .1 (λ k lk. h i j k li lj lk))),
   )

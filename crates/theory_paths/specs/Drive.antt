@@ -1,5 +1,6 @@
--- Driving along a path: a later departure never ends earlier (`later`), waiting never helps (`waiting`), and k periods later everything
--- ends k periods later (`driven-shift`). Also: a path takes a tick at least for each arc, paths join, and a permitted path is a path.
+-- Driving along a path: a later departure never ends earlier (`later`), waiting never helps (`waiting`), and
+-- k periods later everything ends k periods later (`driven-shift`). Also: a path takes a tick at least for
+-- each arc, paths join, and a permitted path is a path.
 use mathlib.Core.Path.{_≡_, refl, sym, _∙_, ap}
 use mathlib.Core.Logic.{_↔_}
 use mathlib.Core.List.{List, [], _∷_, _++_}
@@ -7,7 +8,23 @@ use Prim.Native.Nat.{ℕ, _+_, _*_, _/_, _%_, _≤_, _<_}
 use native.Mathlib.Nat.{le-refl, le-trans, add-mul-mod-self-right, mod-add-div', mod-lt}
 use native.Mathlib.Omega.{arith}
 use lib.ListN.{length}
-use Rattle.theory_paths.specs.Graph.{Graph, Lawful, Bounded, ends, Permit, all, ArcFrom, IsPath, stop, step, driven, waited, Arrival, EarliestArrival, Reachable}
+use Rattle.theory_paths.specs.Graph.{
+  Graph,
+  Lawful,
+  Bounded,
+  ends,
+  Permit,
+  all,
+  ArcFrom,
+  IsPath,
+  stop,
+  step,
+  driven,
+  waited,
+  Arrival,
+  EarliestArrival,
+  Reachable,
+}
 
 module _ (g : Graph) where
   -- k periods later an arc ends k periods later, and so does a path
@@ -20,8 +37,10 @@ module _ (g : Graph) where
   driven-shift (a ∷ w) x k = rw (ends-shift a x k) (driven-shift w (ends g a x) k)
 
   -- so a path's travel is known from the tick within the period
-  pub driven-mod : (w : List ℕ) (x : ℕ) → driven g w x ≡ driven g w (x % g .period) + x / g .period * g .period
-  driven-mod w x = ap (driven g w) (sym (mod-add-div' x (g .period))) ∙ driven-shift w (x % g .period) (x / g .period)
+  pub driven-mod : (w : List ℕ) (x : ℕ)
+      → driven g w x ≡ driven g w (x % g .period) + x / g .period * g .period
+  driven-mod w x =
+      ap (driven g w) (sym (mod-add-div' x (g .period))) ∙ driven-shift w (x % g .period) (x / g .period)
 
   pub driven-append : (v w : List ℕ) (x : ℕ) → driven g (v ++ w) x ≡ driven g w (driven g v x)
   driven-append [] w x = refl
@@ -43,7 +62,8 @@ module _ {g : Graph} {p : Permit} where
   path-append (step f i) j = step f (path-append i j)
 
   -- an arrival, and one arc more
-  pub arrival-then : {s x u b a : ℕ} → Arrival g p s x u b → ArcFrom g p u a → Arrival g p s x (g .head a) (ends g a b)
+  pub arrival-then : {s x u b a : ℕ} → Arrival g p s x u b → ArcFrom g p u a
+      → Arrival g p s x (g .head a) (ends g a b)
   arrival-then {x = x} {a = a} r f = record {
     path = r .path ++ a ∷ [];
     leads = path-append (r .leads) (step f (stop refl));
@@ -57,7 +77,8 @@ module _ {g : Graph} {p : Permit} where
   earliest-le e r = omega (arith, e .least (r .path) (r .leads), r .at)
 
   -- where from y every path ends later than from x, or earlier, by the same, so does the earliest arrival
-  pub earliest-move : {s x y t b c : ℕ} → ((w : List ℕ) → driven g w y + b ≡ driven g w x + c) → EarliestArrival g p s x t b → EarliestArrival g p s y t c
+  pub earliest-move : {s x y t b c : ℕ} → ((w : List ℕ) → driven g w y + b ≡ driven g w x + c)
+      → EarliestArrival g p s x t b → EarliestArrival g p s y t c
   earliest-move m e =
       let r = e .arrival in
       record {
@@ -66,8 +87,12 @@ module _ {g : Graph} {p : Permit} where
       }
 
   -- k periods later the earliest arrival is k periods later
-  pub earliest-shift : {s x t b : ℕ} (k : ℕ) → EarliestArrival g p s x t b ↔ EarliestArrival g p s (x + k * g .period) t (b + k * g .period)
-  earliest-shift {x = x} k = (earliest-move (λ w. omega (arith, driven-shift g w x k)), earliest-move (λ w. omega (arith, driven-shift g w x k)))
+  pub earliest-shift : {s x t b : ℕ} (k : ℕ)
+      → EarliestArrival g p s x t b ↔ EarliestArrival g p s (x + k * g .period) t (b + k * g .period)
+  earliest-shift {x = x} k = (
+    earliest-move (λ w. omega (arith, driven-shift g w x k)),
+    earliest-move (λ w. omega (arith, driven-shift g w x k)),
+  )
 
   module _ (ok : Lawful g) where
     pub arc-node : {u a : ℕ} → ArcFrom g p u a → u < g .nodes
@@ -77,7 +102,7 @@ module _ {g : Graph} {p : Permit} where
     unfolding ends
     arc-takes {a = a} x f = omega (arith, ok .takes a (x % g .period) (f .listed) (mod-lt x (ok .positive)))
 
-    pub arc-ends : Bounded g → {u a : ℕ} (x : ℕ) → ArcFrom g p u a → ends g a x ≤ x + g .period
+    pub arc-ends : {most : ℕ} → Bounded g most → {u a : ℕ} (x : ℕ) → ArcFrom g p u a → ends g a x ≤ x + most
     unfolding ends
     arc-ends b {a = a} x f = omega (arith, b a (x % g .period) (f .listed) (mod-lt x (ok .positive)))
 
@@ -85,10 +110,12 @@ module _ {g : Graph} {p : Permit} where
     path-takes x (stop e) = omega arith
     path-takes x (step {a = a} f i) = omega (arith, arc-takes x f, path-takes (ends g a x) i)
 
-    pub path-bound : Bounded g → {s t : ℕ} {w : List ℕ} (x : ℕ) → IsPath g p s t w → driven g w x ≤ x + length w * g .period
+    pub path-bound : {most : ℕ} → Bounded g most → {s t : ℕ} {w : List ℕ} (x : ℕ) → IsPath g p s t w
+        → driven g w x ≤ x + length w * most
     unfolding ends
     path-bound b x (stop e) = omega arith
-    path-bound b x (step {a = a} f i) = omega (arith, b a (x % g .period) (f .listed) (mod-lt x (ok .positive)), path-bound b (ends g a x) i)
+    path-bound b x (step {a = a} f i) =
+        omega (arith, b a (x % g .period) (f .listed) (mod-lt x (ok .positive)), path-bound b (ends g a x) i)
 
     -- later departure never ends earlier
     pub later : {s t x y : ℕ} {w : List ℕ} → IsPath g p s t w → x ≤ y → driven g w x ≤ driven g w y
@@ -96,13 +123,18 @@ module _ {g : Graph} {p : Permit} where
     later (step {a = a} f i) h = later i (ok .fifo a (f .listed) h)
 
     -- waiting never helps
-    pub waiting : {s t : ℕ} {w : List ℕ} (x : ℕ) (ds : List ℕ) → IsPath g p s t w → driven g w x ≤ waited g w ds x
+    pub waiting : {s t : ℕ} {w : List ℕ} (x : ℕ) (ds : List ℕ) → IsPath g p s t w
+        → driven g w x ≤ waited g w ds x
     waiting x ds (stop e) = le-refl _
     waiting x [] (step {a = a} f i) = waiting (ends g a x) [] i
-    waiting x (d ∷ ds) (step {a = a} f i) = le-trans (later i (ok .fifo a (f .listed) (omega arith))) (waiting (ends g a (x + d)) ds i)
+    waiting x (d ∷ ds) (step {a = a} f i) =
+        le-trans (later i (ok .fifo a (f .listed) (omega arith))) (waiting (ends g a (x + d)) ds i)
 
-    pub earliest-waiting : {s x t b : ℕ} {w : List ℕ} (ds : List ℕ) → EarliestArrival g p s x t b → IsPath g p s t w → b ≤ waited g w ds x
+    pub earliest-waiting : {s x t b : ℕ} {w : List ℕ} (ds : List ℕ) → EarliestArrival g p s x t b
+        → IsPath g p s t w → b ≤ waited g w ds x
     earliest-waiting {x = x} {w = w} ds e i = le-trans (e .least w i) (waiting x ds i)
 
-    pub earliest-later : {s x y t b c : ℕ} → x ≤ y → EarliestArrival g p s x t b → EarliestArrival g p s y t c → b ≤ c
-    earliest-later h e f = let r = f .arrival in omega (arith, e .least (r .path) (r .leads), later (r .leads) h, r .at)
+    pub earliest-later : {s x y t b c : ℕ} → x ≤ y → EarliestArrival g p s x t b
+        → EarliestArrival g p s y t c → b ≤ c
+    earliest-later h e f = let r = f .arrival in
+        omega (arith, e .least (r .path) (r .leads), later (r .leads) h, r .at)

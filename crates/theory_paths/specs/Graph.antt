@@ -1,12 +1,13 @@
--- Time-dependent graphs, the paths in them, and what it is to arrive earliest. Definitions alone: what every theorem of this crate is about.
--- Document 01's words: a node is a place, an arc a road, a path a way; an earliest arrival is a least arrival.
+-- Time-dependent graphs, the paths in them, and what it is to arrive earliest. Definitions alone: what every
+-- theorem of this crate is about. Document 01's words: a node is a place, an arc a road, a path a way; an
+-- earliest arrival is a least arrival.
 use mathlib.Core.Path.{_≡_}
 use mathlib.Core.Bool.{Bool, true}
 use mathlib.Core.List.{List, [], _∷_}
 use Prim.Native.Nat.{ℕ, _+_, _%_, _≤_, _<_}
 
--- Nodes and arcs are numbered from 0. Arc a leads from its tail to its head, and `travel a x` is how many ticks it takes when it is taken
--- at tick x of the period.
+-- Nodes and arcs are numbered from 0. Arc a leads from its tail to its head, and `travel a x` is how many
+-- ticks it takes when it is taken at tick x of the period.
 pub record Graph : Type 0 where
   pub period : ℕ
   pub nodes : ℕ
@@ -15,12 +16,13 @@ pub record Graph : Type 0 where
   pub head : ℕ → ℕ
   pub travel : ℕ → ℕ → ℕ
 
--- The tick at which arc a, taken at tick x, ends. Ticks go on for ever, day after day, and the travel repeats with the period.
+-- The tick at which arc a, taken at tick x, ends. Ticks go on for ever, day after day, and the travel repeats
+-- with the period.
 unfoldable pub ends : Graph → ℕ → ℕ → ℕ
 ends g a x = x + g .travel a (x % g .period)
 
--- What a graph must meet: arcs join nodes, every arc takes a tick or more, and who takes an arc later never ends earlier (FIFO, over all
--- ticks, the days laid end to end).
+-- What a graph must meet: arcs join nodes, every arc takes a tick or more, and who takes an arc later never
+-- ends earlier (FIFO, over all ticks, the days laid end to end).
 pub record Lawful (g : Graph) : Type 0 where
   pub positive : 0 < g .period
   pub tails : (a : ℕ) → a < g .arcs → g .tail a < g .nodes
@@ -28,9 +30,9 @@ pub record Lawful (g : Graph) : Type 0 where
   pub takes : (a x : ℕ) → a < g .arcs → x < g .period → 1 ≤ g .travel a x
   pub fifo : (a : ℕ) {x y : ℕ} → a < g .arcs → x ≤ y → ends g a x ≤ ends g a y
 
--- No arc takes longer than the period.
-abbrev pub Bounded : Graph → Type 0
-Bounded g = (a x : ℕ) → a < g .arcs → x < g .period → g .travel a x ≤ g .period
+-- No arc takes longer than so many ticks.
+abbrev pub Bounded : Graph → ℕ → Type 0
+Bounded g most = (a x : ℕ) → a < g .arcs → x < g .period → g .travel a x ≤ most
 
 -- Which arcs are permitted; and the permission of all.
 abbrev pub Permit : Type 0
@@ -45,7 +47,8 @@ pub record ArcFrom (g : Graph) (p : Permit) (u a : ℕ) : Type 0 where
   pub permitted : p a ≡ true
   pub leaves : g .tail a ≡ u
 
--- The list of arcs is a permitted path from s to t: the empty list from a node to itself, else a permitted arc out of s and a path from its head.
+-- The list of arcs is a permitted path from s to t: the empty list from a node to itself, else a permitted
+-- arc out of s and a path from its head.
 pub data IsPath (g : Graph) (p : Permit) : ℕ → ℕ → List ℕ → Type 0 where
   stop : {s t : ℕ} → s ≡ t → IsPath g p s t []
   step : {s t a : ℕ} {w : List ℕ} → ArcFrom g p s a → IsPath g p (g .head a) t w → IsPath g p s t (a ∷ w)
@@ -55,7 +58,8 @@ abbrev pub driven : Graph → List ℕ → ℕ → ℕ
 driven g [] x = x
 driven g (a ∷ w) x = driven g w (ends g a x)
 
--- The same with waits: before each arc the next number of ticks of the list is stood, and none once the list has run out.
+-- The same with waits: before each arc the next number of ticks of the list is stood, and none once the list
+-- has run out.
 abbrev pub waited : Graph → List ℕ → List ℕ → ℕ → ℕ
 waited g [] ds x = x
 waited g (a ∷ w) [] x = waited g w [] (ends g a x)

@@ -1,6 +1,7 @@
--- Earliest arrivals that compute: the labels after as many rounds of relaxation as there are nodes. After k rounds a label is the least arrival
--- over the permitted paths of at most k arcs, and fewer arcs than nodes are enough (Simple). So a label is the earliest arrival
--- (`labels-earliest`), and `never` exactly where there is no path (`labels-never`).
+-- Earliest arrivals that compute: the labels after as many rounds of relaxation as there are nodes. After k
+-- rounds a label is the least arrival over the permitted paths of at most k arcs, and fewer arcs than nodes
+-- are enough (Simple). So a label is the earliest arrival (`labels-earliest`), and `never` exactly where
+-- there is no path (`labels-never`).
 use mathlib.Core.Path.{_≡_, refl, sym, _∙_, ap}
 use mathlib.Core.Logic.{_≢_, _⊎_, inl, inr, _↔_}
 use mathlib.Core.Bool.{Bool, true, false, cond, true≢false}
@@ -11,7 +12,20 @@ use native.Mathlib.Omega.{arith}
 use native.Mathlib.Decide.{ℕ-discrete, decLe, le-ind}
 use lib.ListN.{length, getD, set, replicate, length-set, length-replicate, length-append}
 use lib.Seq.{getD-set-same, getD-set-other, ext-getD}
-use Rattle.theory_paths.specs.Graph.{Graph, Lawful, Bounded, ends, Permit, ArcFrom, IsPath, stop, step, driven, EarliestArrival, Reachable}
+use Rattle.theory_paths.specs.Graph.{
+  Graph,
+  Lawful,
+  Bounded,
+  ends,
+  Permit,
+  ArcFrom,
+  IsPath,
+  stop,
+  step,
+  driven,
+  EarliestArrival,
+  Reachable,
+}
 use Rattle.theory_paths.specs.Drive.{driven-append, path-append, arc-takes, path-takes}
 use Rattle.theory_paths.specs.Earliest.{never, Exact, exact-equal, exact-never}
 use Rattle.theory_paths.specs.Simple.{shorten}
@@ -79,34 +93,52 @@ record Became (g : Graph) (p : Permit) (L : List ℕ) (k u m n : ℕ) : Type 0 w
 
 module _ (g : Graph) (p : Permit) (L : List ℕ) where
   relax-size : (a : ℕ) (N : List ℕ) → length (relax g p L a N) ≡ length N
-  relax-size a N = elim (p a) as (λ q. length (cond q (lowered N (g .head a) (offer g L a)) N) ≡ length N) [ true ↦ simp length-set | false ↦ refl ]
+  relax-size a N =
+      elim (p a) as (λ q. length (cond q (lowered N (g .head a) (offer g L a)) N) ≡ length N)
+      [ true ↦ simp length-set | false ↦ refl ]
 
   relaxed-size : (k : ℕ) → length (relaxed g p L k) ≡ length L
   unfolding relaxed
   relaxed-size zero = refl
   relaxed-size (suc a) = relax-size a (relaxed g p L a) ∙ relaxed-size a
 
-  relax-entry : (a : ℕ) (N : List ℕ) → g .head a < length N → (u : ℕ) → Entry g p L a u (label N u) (label (relax g p L a N) u)
+  relax-entry : (a : ℕ) (N : List ℕ) → g .head a < length N → (u : ℕ)
+      → Entry g p L a u (label N u) (label (relax g p L a N) u)
   relax-entry a N l u = go (p a) refl (ℕ-discrete (g .head a) u)
     where
-      go : (q : Bool) → p a ≡ q → Dec (g .head a ≡ u) → Entry g p L a u (label N u) (label (cond q (lowered N (g .head a) (offer g L a)) N) u)
+      go : (q : Bool) → p a ≡ q → Dec (g .head a ≡ u)
+          → Entry g p L a u (label N u) (label (cond q (lowered N (g .head a) (offer g L a)) N) u)
       go false z d = untouched (λ y. absurd (true≢false (sym y ∙ z))) refl
-      go true z (no ne) = untouched (λ y. ne) (getD-set-other N (g .head a) u (min (label N (g .head a)) (offer g L a)) never (λ e. ne (sym e)))
-      go true z (yes e) = touched z e (rw (← e) (getD-set-same N (g .head a) (min (label N (g .head a)) (offer g L a)) never l))
+      go true z (no ne) =
+          untouched (λ y. ne)
+          (getD-set-other N (g .head a) u (min (label N (g .head a)) (offer g L a)) never (λ e. ne (sym e)))
+      go true z (yes e) =
+          touched z e
+          (rw (← e) (getD-set-same N (g .head a) (min (label N (g .head a)) (offer g L a)) never l))
 
   wider : {k u m n o : ℕ} → o ≡ n → (n ≡ m) ⊎ Offered g p L k u n → (o ≡ m) ⊎ Offered g p L (suc k) u o
   wider e (inl q) = inl (e ∙ q)
-  wider e (inr r) = inr (record { arc = r .arc; below = le-step (r .below); permitted = r .permitted; enters = r .enters; at = e ∙ r .at })
+  wider e (inr r) =
+      inr (record {
+        arc = r .arc;
+        below = le-step (r .below);
+        permitted = r .permitted;
+        enters = r .enters;
+        at = e
+            ∙ r .at;
+      })
 
   became-step : {k u m n o : ℕ} → Became g p L k u m n → Entry g p L k u n o → Became g p L (suc k) u m o
   became-step {k} {u} {m} {n} {o} r (untouched q e) = record {
     less = omega (arith, r .less);
-    least = upto (λ a. p a ≡ true → g .head a ≡ u → o ≤ offer g L a) (λ y d. absurd (q y d)) (λ a l y d. omega (arith, r .least a l y d));
+    least = upto (λ a. p a ≡ true → g .head a ≡ u → o ≤ offer g L a) (λ y d. absurd (q y d))
+        (λ a l y d. omega (arith, r .least a l y d));
     from = wider e (r .from);
   }
   became-step {k} {u} {m} {n} {o} r (touched z h e) = record {
     less = omega (arith, r .less);
-    least = upto (λ a. p a ≡ true → g .head a ≡ u → o ≤ offer g L a) (λ y d. omega arith) (λ a l y d. omega (arith, r .least a l y d));
+    least = upto (λ a. p a ≡ true → g .head a ≡ u → o ≤ offer g L a) (λ y d. omega arith)
+        (λ a l y d. omega (arith, r .least a l y d));
     from = go (decLe n (offer g L k));
   }
     where
@@ -114,10 +146,13 @@ module _ (g : Graph) (p : Permit) (L : List ℕ) where
       go (yes l) = wider (omega arith) (r .from)
       go (no l) = inr (record { arc = k; below = le-refl _; permitted = z; enters = h; at = omega arith })
 
-  became : (k u : ℕ) → ((a : ℕ) → a < k → g .head a < length L) → Became g p L k u (label L u) (label (relaxed g p L k) u)
+  became : (k u : ℕ) → ((a : ℕ) → a < k → g .head a < length L)
+      → Became g p L k u (label L u) (label (relaxed g p L k) u)
   unfolding relaxed
   became zero u h = record { less = le-refl _; least = λ a l. absurd (omega arith); from = inl refl }
-  became (suc k) u h = became-step (became k u (λ a l. h a (omega arith))) (relax-entry k (relaxed g p L k) (rw (relaxed-size k) (h k (le-refl _))) u)
+  became (suc k) u h =
+      became-step (became k u (λ a l. h a (omega arith)))
+      (relax-entry k (relaxed g p L k) (rw (relaxed-size k) (h k (le-refl _))) u)
 
 -- Some permitted path of at most k arcs from s to t, driven from tick x, ends at b.
 pub record Within (g : Graph) (p : Permit) (s x t k b : ℕ) : Type 0 where
@@ -126,7 +161,8 @@ pub record Within (g : Graph) (p : Permit) (s x t k b : ℕ) : Type 0 where
   pub within : length path ≤ k
   pub at : driven g path x ≡ b
 
-extend : {g : Graph} {p : Permit} {s x k b a : ℕ} → Within g p s x (g .tail a) k b → ArcFrom g p (g .tail a) a → Within g p s x (g .head a) (suc k) (ends g a b)
+extend : {g : Graph} {p : Permit} {s x k b a : ℕ} → Within g p s x (g .tail a) k b
+    → ArcFrom g p (g .tail a) a → Within g p s x (g .head a) (suc k) (ends g a b)
 extend {g} {x = x} {a = a} r f = record {
   path = r .path ++ a ∷ [];
   leads = path-append (r .leads) (step f (stop refl));
@@ -158,14 +194,17 @@ module _ {g : Graph} (ok : Lawful g) (p : Permit) (s x : ℕ) where
   round k u = became g p (rounds g p s x k) (g .arcs) u (λ a l. rw (rounds-size k) (ok .heads a l))
 
   rounds-less : (m k u : ℕ) → k ≤ m → after m u ≤ after k u
-  rounds-less m k u h = le-ind (λ j. after j u ≤ after k u) (le-refl _) (λ j l r. le-trans (round j u .less) r) m h
+  rounds-less m k u h =
+      le-ind (λ j. after j u ≤ after k u) (le-refl _) (λ j l r. le-trans (round j u .less) r) m h
 
   -- after as many rounds more as a path has arcs, its end's label is no later than the path
-  along : {u t y : ℕ} {w : List ℕ} (k m : ℕ) → IsPath g p u t w → k + length w ≤ m → after k u ≤ y → after m t ≤ driven g w y
+  along : {u t y : ℕ} {w : List ℕ} (k m : ℕ) → IsPath g p u t w → k + length w ≤ m → after k u ≤ y
+      → after m t ≤ driven g w y
   along {t = t} k m (stop e) h l = le-trans (rounds-less m k t (omega arith)) (rw e at l)
   along k m (step {a = a} f i) h l =
       along (suc k) m i (omega arith)
-      (le-trans (round k (g .head a) .least a (f .listed) (f .permitted) refl) (ok .fifo a (f .listed) (rw (f .leaves) l)))
+      (le-trans (round k (g .head a) .least a (f .listed) (f .permitted) refl)
+      (ok .fifo a (f .listed) (rw (f .leaves) l)))
 
   module _ (n : s < g .nodes) where
     start : after 0 s ≡ x
@@ -174,10 +213,12 @@ module _ {g : Graph} (ok : Lawful g) (p : Permit) (s x : ℕ) where
 
     start-other : (v : ℕ) → v ≢ s → after 0 v ≡ never
     unfolding rounds
-    start-other v ne = getD-set-other (replicate (g .nodes) never) s v x never ne ∙ label-replicate (g .nodes) v
+    start-other v ne =
+        getD-set-other (replicate (g .nodes) never) s v x never ne ∙ label-replicate (g .nodes) v
 
     -- after k rounds a label is the least arrival over the permitted paths of at most k arcs
-    pub rounds-least : {t : ℕ} {w : List ℕ} (k : ℕ) → IsPath g p s t w → length w ≤ k → label (rounds g p s x k) t ≤ driven g w x
+    pub rounds-least : {t : ℕ} {w : List ℕ} (k : ℕ) → IsPath g p s t w → length w ≤ k
+        → label (rounds g p s x k) t ≤ driven g w x
     rounds-least k i h = along 0 k i (omega arith) (le-of-eq start)
 
     pub rounds-sound : (k v : ℕ) → after k v < never → Within g p s x v k (after k v)
@@ -188,12 +229,17 @@ module _ {g : Graph} (ok : Lawful g) (p : Permit) (s x : ℕ) where
         go (no ne) = absurd (omega (arith, start-other v ne))
     rounds-sound (suc k) v h = go (rounds-sound k) (round k v .from)
       where
-        go : ((v : ℕ) → after k v < never → Within g p s x v k (after k v)) → (after (suc k) v ≡ after k v) ⊎ Offered g p (rounds g p s x k) (g .arcs) v (after (suc k) v)
+        go : ((v : ℕ) → after k v < never → Within g p s x v k (after k v))
+            → (after (suc k) v ≡ after k v) ⊎ Offered g p (rounds g p s x k) (g .arcs) v (after (suc k) v)
             → Within g p s x v (suc k) (after (suc k) v)
-        go ih (inl e) = let r = ih v (omega arith) in record { path = r .path; leads = r .leads; within = le-step (r .within); at = r .at ∙ sym e }
+        go ih (inl e) = let r = ih v (omega arith) in
+            record { path = r .path; leads = r .leads; within = le-step (r .within); at = r .at ∙ sym e }
         go ih (inr o) =
-            let f : ArcFrom g p (g .tail (o .arc)) (o .arc) = record { listed = o .below; permitted = o .permitted; leaves = refl } in
-            rw (o .at, ← (o .enters)) (extend (ih (g .tail (o .arc)) (omega (arith, o .at, arc-takes ok (after k (g .tail (o .arc))) f))) f)
+            let f : ArcFrom g p (g .tail (o .arc)) (o .arc) =
+            record { listed = o .below; permitted = o .permitted; leaves = refl } in
+            rw (o .at, ← (o .enters))
+            (extend (ih (g .tail (o .arc))
+            (omega (arith, o .at, arc-takes ok (after k (g .tail (o .arc))) f))) f)
 
     labels-least : {t : ℕ} {w : List ℕ} → IsPath g p s t w → label (labels g p s x) t ≤ driven g w x
     unfolding labels
@@ -204,10 +250,14 @@ module _ {g : Graph} (ok : Lawful g) (p : Permit) (s x : ℕ) where
     pub labels-exact : x < never → Exact g p s x (label (labels g p s x)) never
     unfolding labels
     labels-exact h = record {
-      source = let r = rounds-sound (g .nodes) s (omega (arith, labels-least (stop refl))) in omega (arith, labels-least (stop refl), r .at, path-takes ok x (r .leads));
+      source = let r = rounds-sound (g .nodes) s (omega (arith, labels-least (stop refl))) in
+          omega (arith, labels-least (stop refl), r .at, path-takes ok x (r .leads));
       earliest = λ t k l.
           let r = rounds-sound (g .nodes) t l in
-          record { arrival = record { path = r .path; leads = r .leads; at = r .at }; least = λ w i. labels-least i };
+          record {
+            arrival = record { path = r .path; leads = r .leads; at = r .at };
+            least = λ w i. labels-least i;
+          };
       least = λ t w i l. labels-least i;
     }
 
@@ -219,14 +269,13 @@ module _ {g : Graph} (ok : Lawful g) (p : Permit) (s x : ℕ) where
         go (yes q) = rw q (omega (arith, rounds-less (g .nodes) 0 s (omega arith), start))
         go (no q) = omega (arith, rounds-less (g .nodes) 0 t (omega arith), start-other t q)
 
-    -- any list of exact labels is this one
-    pub labels-unique : x < never → (M : List ℕ) → length M ≡ g .nodes → ((t : ℕ) → label M t ≤ never) → Exact g p s x (label M) never → M ≡ labels g p s x
-    labels-unique h M l c e = ext-getD never M (labels g p s x) (l ∙ sym labels-size) (λ t k. exact-equal (labels-exact h) e t (labels-capped (le-of-lt h) t) (c t))
-
-    -- a label is the earliest arrival, or never; and where no arc takes longer than the period, and x is not too late, it is never
-    -- exactly where there is no path
-    pub labels-earliest : x < never → (t : ℕ) → label (labels g p s x) t < never → EarliestArrival g p s x t (label (labels g p s x) t)
+    -- a label is the earliest arrival, or never; and where arcs take at most so long, and x is not too late,
+    -- it is never exactly where there is no path
+    pub labels-earliest : x < never → (t : ℕ) → label (labels g p s x) t < never
+        → EarliestArrival g p s x t (label (labels g p s x) t)
     labels-earliest h t l = labels-exact h .earliest t (le-of-lt l) l
 
-    pub labels-never : Bounded g → x + (g .nodes - 1) * g .period < never → (t : ℕ) → (label (labels g p s x) t ≡ never) ↔ (¬ Reachable g p s t)
-    labels-never b early t = exact-never (labels-exact (omega arith)) ok b n early t (labels-capped (omega arith) t)
+    pub labels-never : {most : ℕ} → Bounded g most → x + (g .nodes - 1) * most < never → (t : ℕ)
+        → (label (labels g p s x) t ≡ never) ↔ (¬ Reachable g p s t)
+    labels-never b early t =
+        exact-never (labels-exact (omega arith)) ok b n early t (labels-capped (omega arith) t)

@@ -1,4 +1,5 @@
--- Time-dependent paths, profiles and arc flags: `Graph` has the definitions; the other modules prove, in this order, what is used of them.
+-- Time-dependent paths, profiles and arc flags: `Graph` has the definitions; the other modules prove, in this
+-- order, what is used of them.
 pub mod Graph
 pub mod Partition
 pub mod Drive

@@ -41,7 +41,14 @@ without n [] d b = record { rest = []; distinct = tt; below = tt; one = omega ar
 without n (u ∷ l) d b = go (without n l (d .1) (b .1)) (ℕ-discrete u n)
   where
     go : Without n l → Dec (u ≡ n) → Without n (u ∷ l)
-    go r (yes e) = record { rest = l; distinct = d .1; below = lower n l (b .1) (rw e at (d .0)); one = le-refl _; fewer = λ v h. h .1 }
+    go r (yes e) =
+        record {
+          rest = l;
+          distinct = d .1;
+          below = lower n l (b .1) (rw e at (d .0));
+          one = le-refl _;
+          fewer = λ v h. h .1;
+        }
     go r (no ne) = record {
       rest = u ∷ r .rest;
       distinct = (r .fewer u (d .0), r .distinct);
@@ -85,20 +92,27 @@ module _ {g : Graph} {p : Permit} (ok : Lawful g) where
   visits-below h (stop e) = (h, tt)
   visits-below h (step {a = a} f i) = (h, visits-below (ok .heads a (f .listed)) i)
 
-  pub distinct-short : {s t : ℕ} {w : List ℕ} → s < g .nodes → IsPath g p s t w → Distinct (visits g s w) → length w < g .nodes
-  distinct-short {s} {w = w} h i d = omega (arith, pigeonhole (g .nodes) (visits g s w) d (visits-below h i), visits-length g s w)
+  pub distinct-short : {s t : ℕ} {w : List ℕ} → s < g .nodes → IsPath g p s t w → Distinct (visits g s w)
+      → length w < g .nodes
+  distinct-short {s} {w = w} h i d =
+      omega (arith, pigeonhole (g .nodes) (visits g s w) d (visits-below h i), visits-length g s w)
 
   -- if a simple path from u visits s, its rest from s
-  seek : {u t y : ℕ} {w : List ℕ} (s x : ℕ) → x ≤ y → IsPath g p u t w → Distinct (visits g u w) → (s ∉ visits g u w) ⊎ Simple g p s t x (driven g w y)
+  seek : {u t y : ℕ} {w : List ℕ} (s x : ℕ) → x ≤ y → IsPath g p u t w → Distinct (visits g u w)
+      → (s ∉ visits g u w) ⊎ Simple g p s t x (driven g w y)
   seek {u} {t} {y} s x h (stop e) d = go (ℕ-discrete s u)
     where
       go : Dec (s ≡ u) → (s ∉ (u ∷ [])) ⊎ Simple g p s t x y
       go (yes q) = inr (record { path = []; leads = stop (q ∙ e); distinct = (tt, tt); no-later = h })
       go (no q) = inl (q, tt)
-  seek {u} {t} {y} s x h (step {a = a} {w = w} f i) d = go (seek s x (omega (arith, arc-takes ok y f)) i (d .1)) (ℕ-discrete s u)
+  seek {u} {t} {y} s x h (step {a = a} {w = w} f i) d =
+      go (seek s x (omega (arith, arc-takes ok y f)) i (d .1)) (ℕ-discrete s u)
     where
-      go : (s ∉ visits g (g .head a) w) ⊎ Simple g p s t x (driven g (a ∷ w) y) → Dec (s ≡ u) → (s ∉ visits g u (a ∷ w)) ⊎ Simple g p s t x (driven g (a ∷ w) y)
-      go r (yes q) = inr (record { path = a ∷ w; leads = rw q (step f i); distinct = rw q d; no-later = later ok (step f i) h })
+      go : (s ∉ visits g (g .head a) w) ⊎ Simple g p s t x (driven g (a ∷ w) y) → Dec (s ≡ u)
+          → (s ∉ visits g u (a ∷ w)) ⊎ Simple g p s t x (driven g (a ∷ w) y)
+      go r (yes q) =
+          inr (record
+          { path = a ∷ w; leads = rw q (step f i); distinct = rw q d; no-later = later ok (step f i) h })
       go (inl k) (no q) = inl (q, k)
       go (inr r) (no q) = inr r
 
@@ -109,18 +123,44 @@ module _ {g : Graph} {p : Permit} (ok : Lawful g) where
       go : Simple g p (g .head a) t (ends g a x) (driven g (a ∷ w) x) → Simple g p s t x (driven g (a ∷ w) x)
       go r = pick (seek {y = ends g a x} s x (omega (arith, arc-takes ok x f)) (r .leads) (r .distinct))
         where
-          pick : (s ∉ visits g (g .head a) (r .path)) ⊎ Simple g p s t x (driven g (r .path) (ends g a x)) → Simple g p s t x (driven g (a ∷ w) x)
-          pick (inl k) = record { path = a ∷ r .path; leads = step f (r .leads); distinct = (k, r .distinct); no-later = r .no-later }
-          pick (inr q) = record { path = q .path; leads = q .leads; distinct = q .distinct; no-later = le-trans (q .no-later) (r .no-later) }
+          pick : (s ∉ visits g (g .head a) (r .path)) ⊎ Simple g p s t x (driven g (r .path) (ends g a x))
+              → Simple g p s t x (driven g (a ∷ w) x)
+          pick (inl k) =
+              record {
+                path = a ∷ r .path;
+                leads = step f (r .leads);
+                distinct = (k, r .distinct);
+                no-later = r .no-later;
+              }
+          pick (inr q) =
+              record {
+                path = q .path;
+                leads = q .leads;
+                distinct = q .distinct;
+                no-later = le-trans (q .no-later) (r .no-later);
+              }
 
-  pub shorten : {s t : ℕ} {w : List ℕ} (x : ℕ) → s < g .nodes → IsPath g p s t w → Short g p s t x (driven g w x)
+  pub shorten : {s t : ℕ} {w : List ℕ} (x : ℕ) → s < g .nodes → IsPath g p s t w
+      → Short g p s t x (driven g w x)
   shorten {s} x h i =
       let r = simple x i in
-      record { path = r .path; leads = r .leads; no-later = r .no-later; short = distinct-short h (r .leads) (r .distinct) }
+      record {
+        path = r .path;
+        leads = r .leads;
+        no-later = r .no-later;
+        short = distinct-short h (r .leads) (r .distinct);
+      }
 
-  -- so who can arrive at all can arrive within n - 1 periods
-  pub arrive-bound : Bounded g → {s t : ℕ} {w : List ℕ} (x : ℕ) → s < g .nodes → IsPath g p s t w → Short g p s t x (x + (g .nodes - 1) * g .period)
-  arrive-bound b x h i =
+  -- so who can arrive at all can arrive within n - 1 times the longest travel
+  pub arrive-bound : {most : ℕ} → Bounded g most → {s t : ℕ} {w : List ℕ} (x : ℕ) → s < g .nodes
+      → IsPath g p s t w
+      → Short g p s t x (x + (g .nodes - 1) * most)
+  arrive-bound {most} b x h i =
       let r = shorten x h i in
       let k : length (r .path) ≤ g .nodes - 1 = omega (arith, r .short) in
-      record { path = r .path; leads = r .leads; short = r .short; no-later = omega (arith, path-bound ok b x (r .leads), mul-le-mul-right (g .period) k) }
+      record {
+        path = r .path;
+        leads = r .leads;
+        short = r .short;
+        no-later = omega (arith, path-bound ok b x (r .leads), mul-le-mul-right most k);
+      }

@@ -1,12 +1,16 @@
-// theory_paths: time-dependent paths, earliest arrivals, profiles and arc flags, over an abstract graph. Theory alone, no code, and it calls nothing.
-// It knows no bytes and no rounding: a network file gives a `Graph`, and what is proved here then holds of it.
+// theory_paths: time-dependent paths, earliest arrivals, profiles and arc flags, over an abstract graph.
+// Theory alone, no code, and it calls nothing. It knows no bytes and no rounding: a network file gives a
+// `Graph`, and what is proved here then holds of it.
 //   Graph     the definitions that every theorem is about: graph, path, driving, waiting, earliest arrival
 //   Partition a graph whose nodes lie in cells
 //   Drive     `later`, `waiting`, `driven-shift`: FIFO along a path, waiting never helps, whole periods shift
-//   Simple    `shorten`, `arrive-bound`: a path of fewer arcs than nodes ends no later; when it ends at the latest
-//   Earliest  `earliest-unique`, `closed-exact`: labels closed below a bound are the earliest arrivals below it
+//   Simple    `shorten`, `arrive-bound`: a path of fewer arcs than nodes ends no later; when it ends at the
+//             latest
+//   Earliest  `earliest-unique`, `closed-exact`: labels closed below a bound are the earliest arrivals below
+//             it
 //   Labels    `labels-earliest`, `labels-never`: labels that compute, round by round
 //   Chosen    `chosen-path`, `chosen-empty`: the path that is told, back from the target by the lowest arcs
 //   Agree     `earliest-agree`, `labels-agree`, `chosen-agree`: only the permitted arcs matter
 //   Profiles  `profile-exact`, `toward-exact`: a profile is true exactly where it is right arc by arc
-//   Flags     `arc-flags`, `arc-flags-reach`, `checked-exact`: flagged arcs are enough exactly where the check says so
+//   Flags     `arc-flags`, `arc-flags-reach`, `checked-exact`: flagged arcs are enough exactly where the
+//             check says so

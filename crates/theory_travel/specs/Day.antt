@@ -1,6 +1,6 @@
--- The points of one day as a file has them: n points and the period. They are closed by the next day's first, (period, value of the
--- first), so that the line runs on after the last point, and then have all the laws of points in general.
--- It also has the laws by which code that has found the segment gives the value.
+-- The points of one day as a file has them: n points and the period. They are closed by the next day's first,
+-- (period, value of the first), so that the line runs on after the last point, and then have all the laws of
+-- points in general. It also has the laws by which code that has found the segment gives the value.
 use mathlib.Core.Path.{_≡_, sym, _∙_, ap}
 use mathlib.Core.Bool.{cond}
 use Prim.Native.Nat.{ℕ, suc, _+_, _-_, _%_, _≤_, _<_}
@@ -12,7 +12,17 @@ use lib.Dec.{ltb}
 use borrow.Author.Tests.{lt-ltb, le-ltb}
 use Rattle.theory_loops.specs.First.{first-same}
 use Rattle.theory_travel.specs.Line.{line}
-use Rattle.theory_travel.specs.Points.{Points, Fifo, segment, value, valueOver, value-point, value-least, value-most, fifo-over}
+use Rattle.theory_travel.specs.Points.{
+  Points,
+  Fifo,
+  segment,
+  value,
+  valueOver,
+  value-point,
+  value-least,
+  value-most,
+  fifo-over,
+}
 use Rattle.theory_travel.specs.Search.{Sorted, Last, last-at, last-next}
 
 -- f at the day's n points, and from there on e, the next day's first
@@ -100,11 +110,22 @@ segment-closed : (t : ℕ → ℕ) (n period x : ℕ) → segment (closed n t pe
 unfolding segment
 segment-closed t n period x = ap (λ (k : ℕ). k - 1) (first-same _ _ n (λ k l. rw (closed-in n t period k l)))
 
-module _ (t v : ℕ → ℕ) (n period x k r a p b q : ℕ) (at : Last t n x k) (e : r ≡ line x a p b q) (f : a ≡ t k) (g : p ≡ v k) where
+module _ (t v : ℕ → ℕ) (n period x k r a p b q : ℕ) (at : Last t n x k) (e : r ≡ line x a p b q)
+    (f : a ≡ t k) (g : p ≡ v k) where
   on-line : b ≡ closed n t period (k + 1) → q ≡ closed n v (v 0) (k + 1) → r ≡ dayValue t v n period x
   unfolding dayValue value
   on-line h i =
-      rw (segment-closed t n period x, ← at .is, ← add-one k, closed-in n t period k (at .below), closed-in n v (v 0) k (at .below), ← f, ← g, ← h, ← i)
+      rw (
+        segment-closed t n period x,
+        ← at .is,
+        ← add-one k,
+        closed-in n t period k (at .below),
+        closed-in n v (v 0) k (at .below),
+        ← f,
+        ← g,
+        ← h,
+        ← i,
+      )
       e
 
   -- the line to the next point
@@ -113,7 +134,8 @@ module _ (t v : ℕ → ℕ) (n period x k r a p b q : ℕ) (at : Last t n x k) 
 
   -- after the last point, the line to the next day's first
   pub to-first : n ≤ k + 1 → b ≡ period → q ≡ v 0 → r ≡ dayValue t v n period x
-  to-first l h i = on-line (h ∙ sym (closed-end n t period (k + 1) l)) (i ∙ sym (closed-end n v (v 0) (k + 1) l))
+  to-first l h i =
+      on-line (h ∙ sym (closed-end n t period (k + 1) l)) (i ∙ sym (closed-end n v (v 0) (k + 1) l))
 
 -- for `search readings` at the needs of such code
 pub ruleset readings = (to-next, to-first, day-positive, day-reduced, day-sorted, last-at, last-next)

@@ -1,12 +1,27 @@
--- The straight line from one point to the next, in whole ticks, rounded down. Owns all that rounding touches: the definition,
--- that it is the published line, that it stays between its ends' values, and that who starts later on it ends no earlier.
--- The other files know the line by these laws alone.
+-- The straight line from one point to the next, in whole ticks, rounded down. Owns all that rounding touches:
+-- the definition, that it is the published line, that it stays between its ends' values, and that who starts
+-- later on it ends no earlier. The other files know the line by these laws alone.
 use mathlib.Core.Path.{_≡_, sym, _∙_, ap}
 use Prim.Native.Nat.{ℕ, _+_, _-_, _*_, _/_, _≤_, _<_}
-use native.Mathlib.Nat.{le-div-iff-mul-le, div-le-of-le-mul, div-mul-le-self, lt-div-mul-add, div-eq-of-lt-le, div-lt-iff-lt-mul, mul-add-div-right, mul-le-mul-right, mul-div-cancel, mul-zero, add-zero, sub-self, le-trans}
+use native.Mathlib.Nat.{
+  le-div-iff-mul-le,
+  div-le-of-le-mul,
+  div-mul-le-self,
+  lt-div-mul-add,
+  div-eq-of-lt-le,
+  div-lt-iff-lt-mul,
+  mul-add-div-right,
+  mul-le-mul-right,
+  mul-div-cancel,
+  mul-zero,
+  add-zero,
+  sub-self,
+  le-trans,
+}
 use native.Mathlib.Omega.{arith}
 
--- from (a, v) to (b, w), read at a tick x with a ≤ x < b: each end's value counts by the ticks to the other end, so no number is negative
+-- from (a, v) to (b, w), read at a tick x with a ≤ x < b: each end's value counts by the ticks to the other
+-- end, so no number is negative
 unfoldable pub line : ℕ → ℕ → ℕ → ℕ → ℕ → ℕ
 line x a v b w = (v * (b - x) + w * (x - a)) / (b - a)
 
@@ -19,16 +34,19 @@ unfolding line cut
 line-cut x a v b w l m = let e : b - a ≡ (x - a) + (b - x) = omega arith in rw e
 
 module _ (s r : ℕ) (some : 0 < s + r) where
-  cut-floor : (v w : ℕ) → (cut s r v w * (s + r) ≤ v * r + w * s) × (v * r + w * s < (cut s r v w + 1) * (s + r))
+  cut-floor : (v w : ℕ)
+      → (cut s r v w * (s + r) ≤ v * r + w * s) × (v * r + w * s < (cut s r v w + 1) * (s + r))
   unfolding cut
-  cut-floor v w = (div-mul-le-self (v * r + w * s) (s + r), omega (arith, lt-div-mul-add {a = v * r + w * s} some))
+  cut-floor v w =
+      (div-mul-le-self (v * r + w * s) (s + r), omega (arith, lt-div-mul-add {a = v * r + w * s} some))
 
   cut-rising : (v d : ℕ) → cut s r v (v + d) ≡ v + s * d / (s + r)
   unfolding cut
   cut-rising v d = ap (λ (n : ℕ). n / (s + r)) (omega arith) ∙ mul-add-div-right some v (s * d)
 
   -- of v = w + d the drop c is taken, and g is left
-  cut-drop : (w d c g : ℕ) → g + c ≡ w + d → c * (s + r) < s * d + (s + r) → s * d ≤ c * (s + r) → cut s r (w + d) w ≡ g
+  cut-drop : (w d c g : ℕ) → g + c ≡ w + d → c * (s + r) < s * d + (s + r) → s * d ≤ c * (s + r)
+      → cut s r (w + d) w ≡ g
   unfolding cut
   cut-drop w d c g e h k =
       let f : (g + c) * (s + r) ≡ (w + d) * (s + r) = ap (λ (n : ℕ). n * (s + r)) e in
@@ -51,7 +69,8 @@ module _ (s r : ℕ) (some : 0 < s + r) where
   unfolding cut
   cut-most v w m h k = div-le-of-le-mul (s + r) (omega (arith, mul-le-mul-right r h, mul-le-mul-right s k))
 
-  -- the tick at which the travel ends is itself on a line, the one between the ticks at which the ends' travels end
+  -- the tick at which the travel ends is itself on a line, the one between the ticks at which the ends'
+  -- travels end
   cut-ends : (a v w : ℕ) → a + s + cut s r v w ≡ cut s r (a + v) (a + s + r + w)
   unfolding cut
   cut-ends a v w =
@@ -76,15 +95,17 @@ line-first a v b w h =
 
 -- The published line is v + (x − a)·(w − v)/(b − a), rounded down.
 module _ (x a v b w : ℕ) (from : a ≤ x) (to : x < b) where
-  -- the greatest whole number that is at most the published line: both sides are taken b − a times, and (x − a)·v stands
-  -- on the other side, so that one statement holds of rising and falling lines
+  -- the greatest whole number that is at most the published line: both sides are taken b − a times, and (x −
+  -- a)·v stands on the other side, so that one statement holds of rising and falling lines
   pub line-floor :
       (line x a v b w * (b - a) + (x - a) * v ≤ v * (b - a) + (x - a) * w)
       × (v * (b - a) + (x - a) * w < (line x a v b w + 1) * (b - a) + (x - a) * v)
   line-floor =
       let e : b - a ≡ (x - a) + (b - x) = omega arith in
-      rw (line-cut x a v b w from to, e)
-      (omega (arith, cut-floor (x - a) (b - x) (omega arith) v w .0), omega (arith, cut-floor (x - a) (b - x) (omega arith) v w .1))
+      rw (line-cut x a v b w from to, e) (
+        omega (arith, cut-floor (x - a) (b - x) (omega arith) v w .0),
+        omega (arith, cut-floor (x - a) (b - x) (omega arith) v w .1),
+      )
 
   -- a rising line is v and the rise so far, rounded down
   pub line-rising : v ≤ w → line x a v b w ≡ v + (x - a) * (w - v) / (b - a)
@@ -93,7 +114,8 @@ module _ (x a v b w : ℕ) (from : a ≤ x) (to : x < b) where
       let f : v + (w - v) ≡ w = omega arith in
       rw (line-cut x a v b w from to, e) (rw f at (cut-rising (x - a) (b - x) (omega arith) v (w - v)))
 
-  -- a falling line is v less the drop so far, and the drop is rounded UP: to round it down is to divide towards zero
+  -- a falling line is v less the drop so far, and the drop is rounded UP: to round it down is to divide
+  -- towards zero
   pub line-falling : w ≤ v → line x a v b w ≡ v - ((x - a) * (v - w) + (b - a - 1)) / (b - a)
   line-falling h =
       let e : b - a ≡ (x - a) + (b - x) = omega arith in
@@ -113,7 +135,8 @@ module _ (x a v b w : ℕ) (from : a ≤ x) (to : x < b) where
       let f : x + (b - x) ≡ b = omega arith in
       rw (line-cut x a v b w from to) (rw (e, f) at (cut-ends (x - a) (b - x) (omega arith) a v w))
 
-  -- a travel begun at x ends no earlier than the one begun at a, and no later than the one begun at b, where those two keep that order
+  -- a travel begun at x ends no earlier than the one begun at a, and no later than the one begun at b, where
+  -- those two keep that order
   pub ends-least : a + v ≤ b + w → a + v ≤ x + line x a v b w
   ends-least p = rw ends (cut-least (x - a) (b - x) (omega arith) (a + v) (b + w) (a + v) (omega arith) p)
 
@@ -121,7 +144,8 @@ module _ (x a v b w : ℕ) (from : a ≤ x) (to : x < b) where
   ends-most p = rw ends (cut-most (x - a) (b - x) (omega arith) (a + v) (b + w) (b + w) p (omega arith))
 
 -- and of two travels begun on one line the later ends no earlier
-pub ends-rise : (x y a v b w : ℕ) → a ≤ x → x ≤ y → y < b → a + v ≤ b + w → x + line x a v b w ≤ y + line y a v b w
+pub ends-rise : (x y a v b w : ℕ) → a ≤ x → x ≤ y → y < b → a + v ≤ b + w
+    → x + line x a v b w ≤ y + line y a v b w
 ends-rise x y a v b w l m h p =
     let e : b - y + (y - x) ≡ b - x = omega arith in
     let f : x - a + (y - x) ≡ y - a = omega arith in

@@ -1,17 +1,35 @@
--- Points in general, (t i, v i) for i from 0 to n, where point n is the next day's first: the segment that a tick lies in, the value
--- there, and the laws of values, FIFO over all days among them. The ticks and values are any functions, so that whoever reads
--- points, from lists or in place from a file, has these laws for the asking.
+-- Points in general, (t i, v i) for i from 0 to n, where point n is the next day's first: the segment that a
+-- tick lies in, the value there, and the laws of values, FIFO over all days among them. The ticks and values
+-- are any functions, so that whoever reads points, from lists or in place from a file, has these laws for the
+-- asking.
 use mathlib.Core.Path.{_≡_, refl, ap}
 use mathlib.Core.Bool.{Bool}
 use mathlib.Core.Logic.{⊎-elim}
 use Prim.Native.Nat.{ℕ, zero, suc, _+_, _-_, _*_, _/_, _%_, _≤_, _<_, zero-le}
-use native.Mathlib.Nat.{le-trans, le-of-lt, le-antisymm, eq-or-lt-of-le, mod-lt, div-add-mod', le-div-iff-mul-le, mul-le-mul-right}
+use native.Mathlib.Nat.{
+  le-trans,
+  le-of-lt,
+  le-antisymm,
+  eq-or-lt-of-le,
+  mod-lt,
+  div-add-mod',
+  le-div-iff-mul-le,
+  mul-le-mul-right,
+}
 use native.Mathlib.Decide.{ℕ-discrete, decLe}
 use native.Mathlib.Omega.{arith}
 use lib.Dec.{ltb}
 use borrow.Author.Tests.{ltb-true, ltb-false}
 use Rattle.theory_loops.specs.First.{first, first-le, found, least}
-use Rattle.theory_travel.specs.Line.{line, line-first, line-least, line-most, ends-least, ends-most, ends-rise}
+use Rattle.theory_travel.specs.Line.{
+  line,
+  line-first,
+  line-least,
+  line-most,
+  ends-least,
+  ends-most,
+  ends-rise,
+}
 
 -- the last point at or before tick x
 unfoldable pub segment : (ℕ → ℕ) → ℕ → ℕ → ℕ
@@ -94,7 +112,8 @@ module _ {t v : ℕ → ℕ} {n : ℕ} (p : Points t v n) where
   segments-climb : (x y j k : ℕ) → Segment t n x j → Segment t n y k → x ≤ y → j ≤ k
   segments-climb x y j k f g l = elim (decLe j k) [
     | yes h ↦ h
-    | no h ↦ absurd (omega (arith, f .at, g .next, ticks-climb (suc k) j (omega arith) (omega (arith, f .below))))
+    | no h ↦ absurd
+        (omega (arith, f .at, g .next, ticks-climb (suc k) j (omega arith) (omega (arith, f .below))))
   ]
 
   -- VALUES
@@ -104,7 +123,9 @@ module _ {t v : ℕ → ℕ} {n : ℕ} (p : Points t v n) where
   value-point i l =
       let here : Segment t n (t i) i = record { below = l; at = omega arith; next = p .rise i l } in
       let s = lies (t i) (omega (arith, p .rise i l, ticks-climb (suc i) n l (omega arith))) in
-      let e : segment t n (t i) ≡ i = le-antisymm (segments-climb _ _ _ _ s here (omega arith)) (segments-climb _ _ _ _ here s (omega arith)) in
+      let e : segment t n (t i) ≡ i =
+      le-antisymm (segments-climb _ _ _ _ s here (omega arith))
+      (segments-climb _ _ _ _ here s (omega arith)) in
       rw e (line-first (t i) (v i) (t (suc i)) (v (suc i)) (p .rise i l))
 
   -- a value is at least what all points have, and at most what all have
@@ -125,18 +146,24 @@ module _ {t v : ℕ → ℕ} {n : ℕ} (p : Points t v n) where
     ends-climb : (i j : ℕ) → i ≤ j → j ≤ n → t i + v i ≤ t j + v j
     ends-climb = climbs (λ i. t i + v i) n (f .kept)
 
-    -- a travel begun in the segment from point k ends no earlier than point k's, and no later than the next one's
+    -- a travel begun in the segment from point k ends no earlier than point k's, and no later than the next
+    -- one's
     piece-least : (x k : ℕ) → Segment t n x k → t k + v k ≤ x + piece t v k x
-    piece-least x k s = ends-least x (t k) (v k) (t (suc k)) (v (suc k)) (s .at) (s .next) (f .kept k (s .below))
+    piece-least x k s =
+        ends-least x (t k) (v k) (t (suc k)) (v (suc k)) (s .at) (s .next) (f .kept k (s .below))
 
     piece-most : (x k : ℕ) → Segment t n x k → x + piece t v k x ≤ t (suc k) + v (suc k)
-    piece-most x k s = ends-most x (t k) (v k) (t (suc k)) (v (suc k)) (s .at) (s .next) (f .kept k (s .below))
+    piece-most x k s =
+        ends-most x (t k) (v k) (t (suc k)) (v (suc k)) (s .at) (s .next) (f .kept k (s .below))
 
-    pieces-climb : (x y j k : ℕ) → Segment t n x j → Segment t n y k → x ≤ y → x + piece t v j x ≤ y + piece t v k y
+    pieces-climb : (x y j k : ℕ) → Segment t n x j → Segment t n y k → x ≤ y
+        → x + piece t v j x ≤ y + piece t v k y
     pieces-climb x y j k q r l =
         ⊎-elim
-        (λ e. rw e (ends-rise x y (t k) (v k) (t (suc k)) (v (suc k)) (rw e at (q .at)) l (r .next) (f .kept k (r .below))))
-        (λ m. le-trans (piece-most x j q) (le-trans (ends-climb (suc j) k m (le-of-lt (r .below))) (piece-least y k r)))
+        (λ e. rw e (ends-rise x y (t k) (v k) (t (suc k)) (v (suc k)) (rw e at (q .at)) l (r .next)
+        (f .kept k (r .below))))
+        (λ m. le-trans (piece-most x j q)
+        (le-trans (ends-climb (suc j) k m (le-of-lt (r .below))) (piece-least y k r)))
         (eq-or-lt-of-le (segments-climb x y j k q r l))
 
     -- on one day
@@ -147,11 +174,15 @@ module _ {t v : ℕ → ℕ} {n : ℕ} (p : Points t v n) where
     -- the day's first travel ends no later than any of the day, and the next day's first no earlier
     after-first : (x : ℕ) → x < t n → t 0 + v 0 ≤ x + value t v n x
     unfolding value
-    after-first x h = le-trans (ends-climb 0 (segment t n x) zero-le (le-of-lt (lies x h .below))) (piece-least x _ (lies x h))
+    after-first x h =
+        le-trans (ends-climb 0 (segment t n x) zero-le (le-of-lt (lies x h .below)))
+        (piece-least x _ (lies x h))
 
     before-next : (x : ℕ) → x < t n → x + value t v n x ≤ t n + v n
     unfolding value
-    before-next x h = le-trans (piece-most x _ (lies x h)) (ends-climb (suc (segment t n x)) n (lies x h .below) (omega arith))
+    before-next x h =
+        le-trans (piece-most x _ (lies x h))
+        (ends-climb (suc (segment t n x)) n (lies x h .below) (omega arith))
 
     -- over all days: who starts later, on the same day or another, ends no earlier
     pub fifo-over : (x y : ℕ) → x ≤ y → x + valueOver t v n x ≤ y + valueOver t v n y
@@ -162,6 +193,14 @@ module _ {t v : ℕ → ℕ} {n : ℕ} (p : Points t v n) where
         let a : x % t n < t n = mod-lt x period-some in
         let b : y % t n < t n = mod-lt y period-some in
         ⊎-elim
-        (λ e. let w : x / t n * t n ≡ y / t n * t n = ap (λ (k : ℕ). k * t n) e in omega (arith, fifo (x % t n) (y % t n) (omega arith) b))
-        (λ m. omega (arith, mul-le-mul-right (t n) m, before-next (x % t n) a, after-first (y % t n) b, p .wrap, p .start))
+        (λ e. let w : x / t n * t n ≡ y / t n * t n = ap (λ (k : ℕ). k * t n) e in
+        omega (arith, fifo (x % t n) (y % t n) (omega arith) b))
+        (λ m. omega (
+          arith,
+          mul-le-mul-right (t n) m,
+          before-next (x % t n) a,
+          after-first (y % t n) b,
+          p .wrap,
+          p .start,
+        ))
         (eq-or-lt-of-le (le-div-iff-mul-le period-some .1 (omega arith)))

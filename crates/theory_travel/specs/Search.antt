@@ -1,5 +1,6 @@
--- The binary search for the segment of a tick, over points in general: the invariant of its loop, what it has found at the end, and the
--- laws of each step in the shape of the code's needs. A reader of points, wherever they stand, writes its own loop and needs only these.
+-- The binary search for the segment of a tick, over points in general: the invariant of its loop, what it has
+-- found at the end, and the laws of each step in the shape of the code's needs. A reader of points, wherever
+-- they stand, writes its own loop and needs only these.
 use mathlib.Core.Path.{_≡_}
 use Prim.Native.Nat.{ℕ, suc, _+_, _-_, _/_, _≤_, _<_}
 use native.Mathlib.Nat.{le-of-lt, le-trans}
@@ -44,15 +45,31 @@ half a b = a + (b - a) / 2
 
 module _ (t : ℕ → ℕ) (n x : ℕ) where
   pub between-start : Sorted t n x → Between t n x 0 n
-  between-start s = record { sorted = s; apart = s .some; within = omega arith; at = s .begun; next = λ m. absurd (omega arith) }
+  between-start s =
+      record {
+        sorted = s;
+        apart = s .some;
+        within = omega arith;
+        at = s .begun;
+        next = λ m. absurd (omega arith);
+      }
 
   -- u is the tick of the point that was looked at
-  pub between-up : (a b u : ℕ) → Between t n x a b → a + 1 < b → u ≡ t (half a b) → u ≤ x → Between t n x (half a b) b
-  between-up a b u h l e m = record { sorted = h .sorted; apart = omega arith; within = h .within; at = omega arith; next = h .next }
+  pub between-up : (a b u : ℕ) → Between t n x a b → a + 1 < b → u ≡ t (half a b) → u ≤ x
+      → Between t n x (half a b) b
+  between-up a b u h l e m =
+      record { sorted = h .sorted; apart = omega arith; within = h .within; at = omega arith; next = h .next }
 
-  pub between-down : (a b u : ℕ) → Between t n x a b → a + 1 < b → u ≡ t (half a b) → x < u → Between t n x a (half a b)
+  pub between-down : (a b u : ℕ) → Between t n x a b → a + 1 < b → u ≡ t (half a b) → x < u
+      → Between t n x a (half a b)
   between-down a b u h l e m =
-      record { sorted = h .sorted; apart = omega arith; within = omega (arith, h .within); at = h .at; next = λ _. omega arith }
+      record {
+        sorted = h .sorted;
+        apart = omega arith;
+        within = omega (arith, h .within);
+        at = h .at;
+        next = λ _. omega arith;
+      }
 
   pub between-end : (a b : ℕ) → Between t n x a b → b ≤ a + 1 → Last t n x a
   unfolding segment
@@ -65,7 +82,10 @@ module _ (t : ℕ → ℕ) (n x : ℕ) where
           first-is (λ i. ltb x (t i)) n (suc a)
               (record {
                 within = omega (arith, h .within);
-                before = λ k m. le-ltb x (t k) (le-trans (climbs t a (λ i o. le-of-lt (h .sorted .rise i (omega (arith, h .within)))) k a (omega arith) (omega arith)) (h .at));
+                before = λ k m. le-ltb x (t k)
+                    (le-trans (climbs t a
+                    (λ i o. le-of-lt (h .sorted .rise i (omega (arith, h .within)))) k a (omega arith)
+                    (omega arith)) (h .at));
                 at = λ m. lt-ltb x (t (suc a)) (rw add-one at (next (omega arith)));
               }),
         );

@@ -1,122 +1,197 @@
--- The flagged trip's promises: for any well-formed plan, the earliest over its flagged arcs; and demand 3: under a plan that the check has accepted,
--- whoever made it, as good as any way over any roads with any waits (`accepted-trip`).
-use mathlib.Core.Path.{_≡_}
-use mathlib.Core.Logic.{_↔_}
+-- The flagged trip's promises, for any bytes, numbers and lists that meet its contract, a sentence of
+-- document 01 each: over the arcs with the flag of the target's cell, whatever the plan says. And demand 3:
+-- under a plan that the check has accepted, whoever made it, the trip is as good as any way over any roads
+-- with any waits (`accepted-trip`; `accepted-call` for the call with fresh lists).
+use mathlib.Core.Path.{_≡_, refl}
+use mathlib.Core.Logic.{_↔_, _⊎_}
 use mathlib.Core.List.{List}
 use Prim.Native.Nat.{ℕ, _≤_, _<_}
 use native.Mathlib.Omega.{arith}
 use lib.ListN.{length, take}
-use borrow.Author.Tests.{lt-leb, le-ltb}
-use Rattle.theory_paths.specs.Graph.{Graph, Permit, all, IsPath, driven, waited, Reachable, EarliestArrival}
+use Rattle.theory_paths.specs.Graph.{Graph, Permit, all, Reachable}
 use Rattle.theory_paths.specs.Drive.{path-all}
-use Rattle.theory_paths.specs.Labels.{labels}
-use Rattle.theory_paths.specs.Chosen.{chosen}
-use Rattle.network.specs.declared.answer.Opening.the-variants.{Opened, Refused}
+use Rattle.network.specs.declared.answer.Opening.{Opening}
 use Rattle.network.specs.declared.header.Header.{Header}
-use Rattle.network.specs.Network.{Network, nodes}
+use Rattle.network.specs.Limits.{mostNodes, mostRoads}
+use Rattle.network.specs.Network.{nodes}
 use Rattle.network.specs.Decode.{decode}
-use Rattle.file_refusals.specs.Refusal.{refusal}
-use Rattle.network.specs.Valid.{ValidFile, valid-exactly}
 use Rattle.network.specs.Town.{graphOf, partitionOf}
-use Rattle.plan_check.specs.declared.answer.Checking.the-variants.{Accepted}
+use Rattle.network.specs.Valid.{ValidFile, valid-exactly}
 use Rattle.plan.specs.declared.header.PlanHeader.{PlanHeader}
 use Rattle.plan.specs.PlanDecode.{decodePlan}
 use Rattle.plan.specs.PlanValid.{ValidPlan, plan-exactly}
-use Rattle.plan_check.specs.CheckPlan.{checking, accepted-plan}
-use Rattle.plan.specs.Plan.{towards}
-use Rattle.plan_check.specs.Promise.{accepted-trips}
+use Rattle.plan_check.specs.declared.answer.Checking.the-variants.{Accepted}
+use Rattle.plan_check.specs.CheckPlan.{checking, AcceptedPlan, accepted-plan, accepted-lawful}
+use Rattle.plan_check.specs.Promise.{FlaggedTrips, flagged-trips}
+use Rattle.search_path.specs.Says.{tripSays}
+use Rattle.search_path.specs.Shows.{ShowsBefore, ShowsAll}
 use Rattle.search_path.specs.declared.answer.Arrival.{Arrival}
 use Rattle.search_path.specs.declared.answer.Answer.{Answer}
 use Rattle.search_path.specs.declared.answer.Answer.the-variants as answer
-use Rattle.trip_call.specs.Trip.{asked, told, searched, tripAnswer, tripRoads}
 use Rattle.trip_call.specs.Drive.{drive-nodes, drive-period}
-use Rattle.trip_call.specs.Stage.{Asked}
-use Rattle.trip.specs.Flagged.{flaggedBegin}
-use Rattle.trip.specs.Promise.{Arrives, trip-arrives, trip-none, trip-home, trip-reaches}
+use Rattle.trip_call.specs.Stage.{Asked, asked-opens}
+use Rattle.trip.specs.Flagged.{flaggedBegin, flaggedArcs, FlaggedTrip}
+use Rattle.trip.specs.Calls.{flaggedCall, flaggedPath}
+use Rattle.trip.specs.Promise.{BestTrip, AsGoodAsAny, Passed, Begins, listed}
+use Rattle.trip.specs.Promise as trip
+use Rattle.trip.specs.Numbers.{flagged-begins}
 
--- a call that asks nothing wrong is not refused before its search
-asked-opens : (h : Header) (from to departure room : ℕ) → Asked h from to departure room → asked h from to departure room ≡ Opened h
-unfolding asked
-asked-opens h from to departure room q =
-    rw (lt-leb (h .nodes) from (q .from-node), lt-leb (h .nodes) to (q .to-node), lt-leb (h .period) departure (q .early), le-ltb room (h .nodes) (q .long))
+-- nothing before the search is refused of a network that validates, a well-formed plan, and a call that asks
+-- nothing wrong
+pub flagged-passes : {network plan : List ℕ} {from to departure room : ℕ} {h : Header} {k : PlanHeader}
+    (v : ValidFile network h)
+    → ValidPlan h (decode network) plan k → Asked h from to departure room
+    → Passed (flaggedBegin network plan from to departure room)
+flagged-passes {network} {plan} {from} {to} {departure} {room} {h} {k} v m q =
+    (h, rw (valid-exactly network h .1 v, plan-exactly v plan k .1 m, asked-opens h from to departure room q))
 
-module _ (network plan : List ℕ) (from to departure : ℕ) (arrivals₀ roads₀ roads : List ℕ) (a : Answer)
-    (e : a ≡ tripAnswer (flaggedBegin network plan from to departure (length arrivals₀)) (searched (decode network) (towards (partitionOf (decode network)) (decodePlan plan) to) from to departure (length roads₀)))
-    (w : roads ≡ tripRoads a (decode network) (towards (partitionOf (decode network)) (decodePlan plan) to) from to departure roads₀) where
-  abbrev n : Network
-  n = decode network
-
+-- FOR ANY PLAN, well-formed or not, accepted or not
+module _ (network plan : List ℕ) {from to departure : ℕ} {arrivals₀ arrivals₁ roads₀ roads₁ : List ℕ}
+    {a : Answer}
+    (c : FlaggedTrip network plan from to departure arrivals₀ arrivals₁ roads₀ roads₁ a) where
   abbrev g : Graph
   g = graphOf (decode network)
 
-  abbrev p : Permit
-  p = towards (partitionOf (decode network)) (decodePlan plan) to
+  abbrev flagged : Permit
+  flagged = flaggedArcs network plan to
 
-  -- FOR ANY WELL-FORMED PLAN, accepted or not
-  module _ {h : Header} (v : ValidFile network h) {k : PlanHeader} (m : ValidPlan h (decode network) plan k) (q : Asked h from to departure (length arrivals₀)) where
-    is-told : a ≡ told (searched (decode network) (towards (partitionOf (decode network)) (decodePlan plan) to) from to departure (length roads₀))
-    is-told = rw (valid-exactly network h .1 v, plan-exactly v plan k .1 m, asked-opens h from to departure (length arrivals₀) q) at e
+  abbrev path : List ℕ
+  path = flaggedPath network plan from to departure
 
-    pub flagged-no-way : (a ≡ answer.Refused (refusal 28 0)) ↔ (¬ Reachable (graphOf (decode network)) (towards (partitionOf (decode network)) (decodePlan plan) to) from to)
-    flagged-no-way = trip-none network h p from to departure arrivals₀ roads₀ roads v (q .from-node) (q .to-node) (q .early) (q .long) a is-told w
+  abbrev before : Opening
+  before = flaggedBegin network plan from to departure (length arrivals₀)
 
-    pub flagged-arrives : (r : Arrival) → a ≡ answer.Arrived r → Arrives (graphOf (decode network)) (towards (partitionOf (decode network)) (decodePlan plan) to) from departure to roads r
-    flagged-arrives = trip-arrives network h p from to departure arrivals₀ roads₀ roads v (q .from-node) (q .to-node) (q .early) (q .long) a is-told w
+  begins : Begins before g from to departure (length arrivals₀)
+  begins = flagged-begins network from to departure (length arrivals₀) plan
 
-    pub flagged-reaches : Reachable (graphOf (decode network)) (towards (partitionOf (decode network)) (decodePlan plan) to) from to
-        → length (chosen (graphOf (decode network)) (towards (partitionOf (decode network)) (decodePlan plan) to) from (labels (graphOf (decode network)) (towards (partitionOf (decode network)) (decodePlan plan) to) from departure) to) ≤ length roads₀
-        → (r : Arrival) × (a ≡ answer.Arrived r)
-    flagged-reaches = trip-reaches network h p from to departure arrivals₀ roads₀ roads v (q .from-node) (q .to-node) (q .early) (q .long) a is-told w
+  -- 28 exactly where nothing before it is refused and there is no way over flagged roads
+  pub flagged-no-way : (tripSays a .number ≡ 28) ↔ (Passed before × (¬ Reachable g flagged from to))
+  flagged-no-way = trip.trip-no-way begins flagged (length roads₀) (c .answer)
 
-    pub flagged-home : from ≡ to → a ≡ answer.Arrived (record { tick = departure; count = 0 })
-    flagged-home = trip-home network h p from to departure arrivals₀ roads₀ roads v (q .from-node) (q .to-node) (q .early) (q .long) a is-told w
+  -- 29 exactly where nothing before it is refused, there is a way, and the list of roads is shorter than the
+  -- chosen one
+  pub flagged-short : (tripSays a .number ≡ 29) ↔
+      (Passed before × Reachable g flagged from to × (length roads₀ < length path))
+  flagged-short = trip.trip-short begins flagged (length roads₀) (c .answer)
 
--- A trip as good as any: the listed roads are a path that drives there, and no path over any roads, with whatever waits, arrives before.
-pub record BestTrip (g : Graph) (s x t : ℕ) (roads : List ℕ) (r : Arrival) : Type 0 where
-  pub leads : IsPath g all s t (take (r .count) roads)
-  pub counted : r .count ≤ length roads
-  pub drives : driven g (take (r .count) roads) x ≡ r .tick
-  pub earliest : EarliestArrival g all s x t (r .tick)
-  pub waits : (w ds : List ℕ) → IsPath g all s t w → r .tick ≤ waited g w ds x
+  -- a way, and a list that is long enough for the chosen one, give an arrival
+  pub flagged-reaches : Passed before → Reachable g flagged from to → length path ≤ length roads₀
+      → (r : Arrival) × (a ≡ answer.Arrived r)
+  flagged-reaches = trip.trip-reaches begins flagged (length roads₀) (c .answer)
 
--- What demand 3 promises of a flagged trip: 'no way' exactly where there is none over any roads, and else an arrival as good as any.
-pub record AsGoodAsAny (g : Graph) (s x t : ℕ) (path roads₀ roads : List ℕ) (a : Answer) : Type 0 where
-  pub no-way : (a ≡ answer.Refused (refusal 28 0)) ↔ (¬ Reachable g all s t)
-  pub arrives : Reachable g all s t → length path ≤ length roads₀ → (r : Arrival) × (a ≡ answer.Arrived r)
-  pub best : (r : Arrival) → a ≡ answer.Arrived r → BestTrip g s x t roads r
+  -- an arrival is the earliest over flagged roads, with whatever waits, and the listed roads drive there
+  pub flagged-arrives : (r : Arrival) → a ≡ answer.Arrived r
+      → BestTrip g flagged from departure to (take (r .count) roads₁) r
+  flagged-arrives = trip.trip-arrives begins c
 
--- DEMAND 3. Whatever network and plan the check has accepted together, whoever made the plan: at every departure below the period, from every node to every
--- node, with lists that are long enough.
-module _ (network plan : List ℕ) (from to departure : ℕ) (arrivals₀ roads₀ roads : List ℕ) (a : Answer)
-    (e : a ≡ tripAnswer (flaggedBegin network plan from to departure (length arrivals₀)) (searched (decode network) (towards (partitionOf (decode network)) (decodePlan plan) to) from to departure (length roads₀)))
-    (w : roads ≡ tripRoads a (decode network) (towards (partitionOf (decode network)) (decodePlan plan) to) from to departure roads₀) where
-  pub accepted-trip : checking network plan ≡ Accepted → from < nodes (decode network) → to < nodes (decode network) → departure < decode network .period → nodes (decode network) ≤ length arrivals₀
-      → AsGoodAsAny (graphOf (decode network)) from departure to
-      (chosen (graphOf (decode network)) (towards (partitionOf (decode network)) (decodePlan plan) to) from (labels (graphOf (decode network)) (towards (partitionOf (decode network)) (decodePlan plan) to) from departure) to)
-      roads₀ roads a
-  accepted-trip accepted l m o room =
-      let c = accepted-plan network plan accepted in
+  -- from a place to itself the answer is the departure, with no road
+  pub flagged-home : Passed before → from ≡ to → a ≡ answer.Arrived (record { tick = departure; count = 0 })
+  flagged-home = trip.trip-home begins flagged (length roads₀) (c .answer)
+
+  -- on arrival and on 29 the first N arrivals hold the least arrival where it is before the target's or the
+  -- place is the target, else never
+  pub flagged-shows : (tripSays a .number ≡ 0) ⊎ (tripSays a .number ≡ 29)
+      → ShowsBefore g flagged from departure to arrivals₀ arrivals₁
+  flagged-shows = trip.trip-shows begins c
+
+  -- on 28 the first N hold the least arrival of every reachable place and never for the others
+  pub flagged-shows-all : tripSays a .number ≡ 28 → ShowsAll g flagged from departure arrivals₀ arrivals₁
+  flagged-shows-all = trip.trip-shows-all begins c
+
+  -- up to 27 both lists are untouched; the list of roads changes only on arrival
+  pub flagged-untouched : 1 ≤ tripSays a .number → tripSays a .number ≤ 27 → arrivals₁ ≡ arrivals₀
+  flagged-untouched = trip.trip-untouched begins c
+
+  pub flagged-roads-kept : 1 ≤ tripSays a .number → roads₁ ≡ roads₀
+  flagged-roads-kept = trip.trip-roads-kept begins c
+
+-- UNDER AN ACCEPTED PLAN, flagged roads are as good as all roads
+module _ {network plan : List ℕ} (c : AcceptedPlan network plan) where
+  flags : FlaggedTrips (partitionOf (decode network)) (decodePlan plan)
+  flags = flagged-trips (decodePlan plan) (accepted-lawful c) (c .tests)
+
+  best-all : {from to departure : ℕ} {path : List ℕ} {r : Arrival}
+      → BestTrip (graphOf (decode network)) (flaggedArcs network plan to) from departure to path r
+      → BestTrip (graphOf (decode network)) all from departure to path r
+  best-all {from} {to} {departure} {r = r} k = record {
+    leads = path-all (k .leads);
+    counted = k .counted;
+    drives = k .drives;
+    earliest = flags .earliest from departure to (r .tick) .0 (k .earliest);
+    waits = λ w ds i. flags .no-earlier from departure to (r .tick) (k .earliest) w ds i;
+    early = k .early;
+  }
+
+  good-all : {from to departure : ℕ} {path : List ℕ} {a : Answer}
+      → AsGoodAsAny (graphOf (decode network)) (flaggedArcs network plan to) from departure to path a
+      → AsGoodAsAny (graphOf (decode network)) all from departure to path a
+  good-all {from} {to} k = record {
+    no-way = (
+      λ n q. k .no-way .0 n (flags .reachable from to .1 q),
+      λ u. k .no-way .1 (λ q. u (flags .reachable from to .0 q)),
+    );
+    arrives = λ q. k .arrives (flags .reachable from to .1 q);
+    best = λ r q. best-all (k .best r q);
+  }
+
+  passes : {from to departure : ℕ} (room : ℕ) → from < nodes (decode network) → to < nodes (decode network)
+      → departure < decode network .period
+      → nodes (decode network) ≤ room → Passed (flaggedBegin network plan from to departure room)
+  passes room l m o k =
       let v = c .valid in
-      let asks : Asked (c .header) from to departure (length arrivals₀) = record {
+      flagged-passes v (c .valid-plan) (record {
         from-node = omega (arith, drive-nodes v);
         to-node = omega (arith, drive-nodes v);
         early = omega (arith, drive-period v);
         long = omega (arith, drive-nodes v);
-      } in
-      let f = accepted-trips (decodePlan plan) (v .sound) (omega arith) (c .tests) in
-      let none = flagged-no-way network plan from to departure arrivals₀ roads₀ roads a e w v (c .valid-plan) asks in
-      let there = flagged-reaches network plan from to departure arrivals₀ roads₀ roads a e w v (c .valid-plan) asks in
-      let found = flagged-arrives network plan from to departure arrivals₀ roads₀ roads a e w v (c .valid-plan) asks in
-      record {
-        no-way = (λ q r. none .0 q (f .reachable from to .1 r), λ q. none .1 (λ r. q (f .reachable from to .0 r)));
-        arrives = λ r. there (f .reachable from to .1 r);
-        best = λ r q.
-            let d = found r q in
-            record {
-              leads = path-all (d .leads);
-              counted = d .counted;
-              drives = d .drives;
-              earliest = f .earliest from departure to (r .tick) .0 (d .earliest);
-              waits = λ w ds i. f .no-earlier from departure to (r .tick) (d .earliest) w ds i;
-            };
-      }
+      })
+
+-- DEMAND 3. Whatever network and plan the check has accepted together, whoever made the plan: at every
+-- departure below the period, from every node to every node.
+module _ (network plan : List ℕ) {from to departure : ℕ} {arrivals₀ arrivals₁ roads₀ roads₁ : List ℕ}
+    {a : Answer}
+    (c : FlaggedTrip network plan from to departure arrivals₀ arrivals₁ roads₀ roads₁ a)
+    (accepted : checking network plan ≡ Accepted) where
+  -- 28 exactly where there is no way over any roads
+  pub accepted-no-way : from < nodes (decode network) → to < nodes (decode network)
+      → departure < decode network .period
+      → nodes (decode network) ≤ length arrivals₀
+      → (tripSays a .number ≡ 28) ↔ (¬ Reachable (graphOf (decode network)) all from to)
+  accepted-no-way l m o k =
+      let d = accepted-plan network plan accepted in
+      let n = flagged-no-way network plan c in (
+        λ e q. n .0 e .1 (flags d .reachable from to .1 q),
+        λ u. n .1 (passes d (length arrivals₀) l m o k, λ q. u (flags d .reachable from to .0 q)),
+      )
+
+  -- an arrival is the earliest over all ways, with whatever waits, and the listed roads drive there
+  pub accepted-arrives : (r : Arrival) → a ≡ answer.Arrived r
+      → BestTrip (graphOf (decode network)) all from departure to (take (r .count) roads₁) r
+  accepted-arrives r q = best-all (accepted-plan network plan accepted) (flagged-arrives network plan c r q)
+
+  -- with lists that are long enough
+  pub accepted-trip : from < nodes (decode network) → to < nodes (decode network)
+      → departure < decode network .period
+      → nodes (decode network) ≤ length arrivals₀
+      → (Reachable (graphOf (decode network)) all from to → length
+      (flaggedPath network plan from to departure) ≤ length roads₀)
+      → AsGoodAsAny (graphOf (decode network)) all from departure to (listed a roads₁) a
+  accepted-trip l m o k n =
+      let d = accepted-plan network plan accepted in
+      good-all d
+      (trip.lists-good (flagged-begins network from to departure (length arrivals₀) plan) c
+      (passes d (length arrivals₀) l m o k)
+      (λ q. n (flags d .reachable from to .0 q)))
+
+-- of the call with fresh lists
+pub accepted-call : (network plan : List ℕ) (from to departure : ℕ) → checking network plan ≡ Accepted
+    → from < nodes (decode network) → to < nodes (decode network) → departure < decode network .period
+    → AsGoodAsAny (graphOf (decode network)) all from departure to
+    (flaggedPath network plan from to departure) (flaggedCall network plan from to departure)
+accepted-call network plan from to departure accepted l m o =
+    let d = accepted-plan network plan accepted in
+    let v = d .valid in
+    good-all d
+    (trip.call-good (flagged-begins network from to departure mostNodes plan)
+    (flaggedArcs network plan to) mostRoads refl
+    (passes d mostNodes l m o (omega (arith, drive-nodes v, v .within .nodes-most))) (omega arith))

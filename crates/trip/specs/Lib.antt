@@ -1,4 +1,5 @@
--- Trips: what each answers and leaves (Plain, Flagged, Calls), and what an answer means (Promise, Numbers, PlainPromise, FlaggedPromise).
+-- Trips: what each answers and leaves (Plain, Flagged, Calls), and what an answer means (Promise, Numbers,
+-- PlainPromise, FlaggedPromise).
 pub mod Plain
 pub mod Flagged
 pub mod Calls

@@ -1,8 +1,10 @@
--- The numbers of refusals before the search of a trip: between 1 and 27. So 28 and 29 come from the search alone, 28 is said exactly where nothing
--- before it is refused and there is no way (`no-way-last`), and a list of 511 roads is never too short (`no-short`), since a chosen path has
--- fewer arcs than there are nodes (`count-few`).
-use mathlib.Core.Path.{_≡_, refl, sym, _∙_, ap}
-use mathlib.Core.Logic.{_⊎_, inl, inr}
+-- Which numbers a trip refuses with. Before the search: 1 to 10 for the network, 11 to 19 for the plan, 25 to
+-- 27 for the call, and not 27 where the list of arrivals has room for the nodes of every network. So what
+-- comes before a search is as `Promise` needs it (`plain-begins`, `flagged-begins`); a refusal of the plain
+-- trip is 1 to 10 or 25 to 29, one of the flagged trip 1 to 19 or 25 to 29, and the calls with fresh lists
+-- never say 27 or 29.
+use mathlib.Core.Path.{_≡_, refl, sym, ap}
+use mathlib.Core.Logic.{_⊎_, inl, inr, ⊎-elim}
 use mathlib.Core.Bool.{cond}
 use mathlib.Core.List.{List}
 use Prim.Native.Nat.{ℕ, _≤_, _<_}
@@ -10,162 +12,180 @@ use native.Mathlib.Omega.{arith}
 use lib.Dec.{leb, ltb}
 use borrow.Author.Tests.{le-ltb}
 use Rattle.theory_loops.specs.Pick.{cond-holds}
-use Rattle.theory_paths.specs.Graph.{Permit}
+use Rattle.theory_paths.specs.Graph.{Graph, Permit, all}
 use Rattle.file_refusals.specs.declared.Refusal.{Refusal}
+use Rattle.file_refusals.specs.Refusal.{refusal}
+use Rattle.file_refusals.specs.Numbered.{Numbered, numbered}
 use Rattle.network.specs.declared.answer.Opening.{Opening}
 use Rattle.network.specs.declared.answer.Opening.the-variants.{Opened, Refused}
 use Rattle.network.specs.declared.header.Header.{Header}
+use Rattle.network.specs.Limits.{mostNodes, mostRoads}
+use Rattle.network.specs.Layout.{layoutOf}
 use Rattle.network.specs.Decode.{decode}
-use Rattle.file_refusals.specs.Refusal.{refusal}
-use Rattle.network.specs.Validate.{validated}
-use Rattle.network.specs.Valid.{valid-exactly}
-use Rattle.file_refusals.specs.Numbered.{Numbered, numbered}
-use Rattle.network.specs.Numbers.{validated-numbers}
 use Rattle.network.specs.Town.{graphOf}
+use Rattle.network.specs.Validate.{validated}
+use Rattle.network.specs.Valid.{ValidFile, valid-exactly}
+use Rattle.network.specs.Numbers.{validated-numbers}
 use Rattle.plan.specs.declared.answer.Planning.{Planning}
 use Rattle.plan.specs.declared.answer.Planning.the-variants as planning
 use Rattle.plan.specs.PlanValidate.{planned}
 use Rattle.plan.specs.Numbers.{planned-numbers}
-use Rattle.search_path.specs.declared.Outcome.{Outcome}
-use Rattle.search_path.specs.declared.Outcome.the-variants.{Arrived, NoWay, Short}
-use Rattle.search_labels.specs.Ready.{Leaving}
-use Rattle.search_path.specs.Promise.{arrived-few, never-short}
-use Rattle.search_path.specs.declared.answer.Arrival.{Arrival}
+use Rattle.search_arcs.specs.Town.{town-of}
+use Rattle.search_labels.specs.Ready.{Leaving, leaving}
+use Rattle.search_path.specs.Answer.{searched}
 use Rattle.search_path.specs.declared.answer.Answer.the-variants as answer
-use Rattle.trip_call.specs.Trip.{asked, andThen, told, searched, tripAnswer}
-use Rattle.trip_call.specs.Drive.{drive-nodes}
-use Rattle.trip_call.specs.Stage.{asked-passed, then-passed}
-use Rattle.trip.specs.Plain.{plainBegin, Begun}
-use Rattle.trip.specs.Flagged.{plannedThen, flaggedWith, flaggedBegin}
-use Rattle.trip.specs.Promise.{valid-leaving, told-trip}
+use Rattle.trip_call.specs.Trip.{asked, andThen, tripAnswer}
+use Rattle.trip_call.specs.Drive.{drive-laid, drive-nodes}
+use Rattle.trip.specs.Plain.{plainBegin, Begun, begun}
+use Rattle.trip.specs.Flagged.{plannedThen, flaggedBegin, flaggedArcs, flagged-begun}
+use Rattle.trip.specs.Calls.{plainAnswer, plainCall, flaggedAnswer, flaggedCall}
+use Rattle.trip.specs.Promise.{Leaves, Begins, trip-refused, never-short}
+
+abbrev pub Between : ℕ → ℕ → ℕ → Type 0
+Between low high number = (low ≤ number) × (number ≤ high)
 
 same-refused : (q r : Refusal) → Refused q ≡ Refused r → q ≡ r
 same-refused q r e = cc
 
-same-answer : (q r : Refusal) → answer.Refused q ≡ answer.Refused r → q ≡ r
-same-answer q r e = cc
-
 -- BEFORE THE SEARCH, the highest number is 27; it is 26 where the list of arrivals has room
 module _ (high : ℕ) (most : 26 ≤ high) where
-  abbrev Before : Opening → Type 0
-  Before = Numbered Refused 1 high
+  abbrev Asks : Opening → Type 0
+  Asks = Numbered Refused 25 high
 
-  is-before : (number place : ℕ) → 1 ≤ number → number ≤ high → Before (Refused (refusal number place))
-  is-before number place l k = numbered Refused 1 high same-refused (refusal number place) l k
+  asks : (number place : ℕ) → 25 ≤ number → number ≤ high → Asks (Refused (refusal number place))
+  asks number place l k = numbered Refused 25 high same-refused (refusal number place) l k
 
-  opened-before : (h : Header) → Before (Opened h)
-  opened-before h r e = let z : _≡_ {A = ℕ} 0 1 = cc in absurd (omega arith)
+  opened-asks : (h : Header) → Asks (Opened h)
+  opened-asks h r e = let z : _≡_ {A = ℕ} 0 1 = cc in absurd (omega arith)
 
-  asked-numbers : (h : Header) (from to departure room : ℕ) → (h .nodes ≤ room) ⊎ (27 ≤ high) → Before (asked h from to departure room)
+  asked-numbers : (h : Header) (from to departure room : ℕ) → (h .nodes ≤ room) ⊎ (27 ≤ high)
+      → Asks (asked h from to departure room)
   unfolding asked
   asked-numbers h from to departure room c =
-      cond-holds Before (leb (h .nodes) from) _ _ (is-before 25 from (omega arith) (omega arith))
-      (cond-holds Before (leb (h .nodes) to) _ _ (is-before 25 to (omega arith) (omega arith))
-      (cond-holds Before (leb (h .period) departure) _ _ (is-before 26 0 (omega arith) (omega arith)) (last c)))
+      cond-holds Asks (leb (h .nodes) from) _ _ (asks 25 from (omega arith) (omega arith))
+      (cond-holds Asks (leb (h .nodes) to) _ _ (asks 25 to (omega arith) (omega arith))
+      (cond-holds Asks (leb (h .period) departure) _ _ (asks 26 0 (omega arith) (omega arith)) (last c)))
     where
-      last : (h .nodes ≤ room) ⊎ (27 ≤ high) → Before (cond (ltb room (h .nodes)) (Refused (refusal 27 0)) (Opened h))
-      last (inl l) = rw (le-ltb room (h .nodes) l) (opened-before h)
-      last (inr l) = cond-holds Before (ltb room (h .nodes)) _ _ (is-before 27 0 (omega arith) l) (opened-before h)
+      last : (h .nodes ≤ room) ⊎ (27 ≤ high)
+          → Asks (cond (ltb room (h .nodes)) (Refused (refusal 27 0)) (Opened h))
+      last (inl l) = rw (le-ltb room (h .nodes) l) (opened-asks h)
+      last (inr l) = cond-holds Asks (ltb room (h .nodes)) _ _ (asks 27 0 (omega arith) l) (opened-asks h)
 
-  then-numbers : (o : Opening) (next : Header → Opening) → Numbered Refused 1 10 o → ((h : Header) → o ≡ Opened h → Before (next h)) → Before (andThen o next)
-  then-numbers (Refused q) next n k =
-      let (x, y) = n q refl in
-      numbered Refused 1 high same-refused q (omega arith) (omega arith)
-  then-numbers (Opened h) next n k = k h refl
+  -- a list with an arrival for each node of the largest network has room for those of every network
+  module _ (network : List ℕ) (from to departure room : ℕ) (c : (mostNodes ≤ room) ⊎ (27 ≤ high)) where
+    roomy : (h : Header) → validated network ≡ Opened h → (h .nodes ≤ room) ⊎ (27 ≤ high)
+    roomy h e =
+        ⊎-elim (λ l. inl (omega (arith, valid-exactly network h .0 e .within .nodes-most))) (λ l. inr l) c
 
-  plan-numbers : (m : Planning) (next : Opening) → Numbered planning.Refused 11 19 m → Before next → Before (plannedThen m next)
-  plan-numbers (planning.Refused q) next n k =
-      let (x, y) = n q refl in
-      numbered Refused 1 high same-refused q (omega arith) (omega arith)
-  plan-numbers (planning.WellFormed h) next n k = k
+    plain-before : (r : Refusal) → plainBegin network from to departure room ≡ Refused r
+        → Between 1 10 (r .number) ⊎ Between 25 high (r .number)
+    plain-before = go (validated network) refl (validated-numbers network)
+      where
+        go : (o : Opening) → validated network ≡ o → Numbered Refused 1 10 o → (r : Refusal)
+            → andThen o (λ h. asked h from to departure room) ≡ Refused r
+            → Between 1 10 (r .number) ⊎ Between 25 high (r .number)
+        go (Refused q) f n r e = inl (n r e)
+        go (Opened h) f n r e = inr (asked-numbers h from to departure room (roomy h f) r e)
 
-  -- a list of 512 arrivals has room for the nodes of every network
-  roomy : (network : List ℕ) (h : Header) (room : ℕ) → validated network ≡ Opened h → (512 ≤ room) ⊎ (27 ≤ high) → (h .nodes ≤ room) ⊎ (27 ≤ high)
-  roomy network h room e (inl l) = inl (omega (arith, valid-exactly network h .0 e .within .nodes-most))
-  roomy network h room e (inr l) = inr l
+    flagged-before : (plan : List ℕ) (r : Refusal)
+        → flaggedBegin network plan from to departure room ≡ Refused r
+        → Between 1 19 (r .number) ⊎ Between 25 high (r .number)
+    flagged-before plan = go (validated network) refl (validated-numbers network)
+      where
+        by : (h : Header) → validated network ≡ Opened h → (m : Planning) → Numbered planning.Refused 11 19 m
+            → (r : Refusal)
+            → plannedThen m (asked h from to departure room) ≡ Refused r
+            → Between 1 19 (r .number) ⊎ Between 25 high (r .number)
+        by h f (planning.Refused q) n r e =
+            let (l, k) = n q refl in
+            let z = ap (λ (i : Refusal). i .number) (same-refused q r e) in
+            inl (omega arith, omega arith)
+        by h f (planning.WellFormed k) n r e = inr (asked-numbers h from to departure room (roomy h f) r e)
 
-  plain-numbers : (network : List ℕ) (from to departure room : ℕ) → (512 ≤ room) ⊎ (27 ≤ high) → Before (plainBegin network from to departure room)
-  plain-numbers network from to departure room c =
-      then-numbers (validated network) _ (validated-numbers network) (λ h e. asked-numbers h from to departure room (roomy network h room e c))
+        go : (o : Opening) → validated network ≡ o → Numbered Refused 1 10 o → (r : Refusal)
+            → andThen o (λ h. plannedThen (planned h (decode network) plan)
+            (asked h from to departure room)) ≡ Refused r
+            → Between 1 19 (r .number) ⊎ Between 25 high (r .number)
+        go (Refused q) f n r e = let (l, k) = n r e in inl (omega arith, omega arith)
+        go (Opened h) f n r e =
+            by h f (planned h (decode network) plan) (planned-numbers h (decode network) plan) r e
 
-  flagged-numbers : (network plan : List ℕ) (from to departure room : ℕ) → (512 ≤ room) ⊎ (27 ≤ high) → Before (flaggedBegin network plan from to departure room)
-  flagged-numbers network plan from to departure room c =
-      then-numbers (validated network) _ (validated-numbers network)
-      (λ h e. plan-numbers (planned h (decode network) plan) _ (planned-numbers h (decode network) plan) (asked-numbers h from to departure room (roomy network h room e c)))
+-- WHAT COMES BEFORE A SEARCH is as a trip's promises need it
+pub valid-leaving : {file : List ℕ} {h : Header} → ValidFile file h → (s x : ℕ) → s < h .nodes → x < h .period
+    → Leaving (graphOf (decode file)) s x
+unfolding layoutOf
+valid-leaving {h = h} v s x m k = leaving (town-of (drive-laid v (layoutOf h) refl) (v .sound)) m k
 
-pub plain-before : (network : List ℕ) (from to departure room : ℕ) → Numbered Refused 1 27 (plainBegin network from to departure room)
-plain-before network from to departure room = plain-numbers 27 (omega arith) network from to departure room (inr (omega arith))
+leaves : {network : List ℕ} {h : Header} {from to departure room : ℕ} → Begun network h from to departure room
+    → Leaves (graphOf (decode network)) from to departure room
+leaves {from = from} {departure = departure} d = record {
+  leaving = valid-leaving (d .valid) from departure (d .asks .from-node) (d .asks .early);
+  target = omega (arith, drive-nodes (d .valid), d .asks .to-node);
+  long = omega (arith, drive-nodes (d .valid), d .asks .long);
+}
 
-pub flagged-before : (network plan : List ℕ) (from to departure room : ℕ) → Numbered Refused 1 27 (flaggedBegin network plan from to departure room)
-flagged-before network plan from to departure room = flagged-numbers 27 (omega arith) network plan from to departure room (inr (omega arith))
+module _ (network : List ℕ) (from to departure room : ℕ) where
+  pub plain-begins : Begins (plainBegin network from to departure room)
+      (graphOf (decode network)) from to departure room
+  plain-begins = record {
+    numbers = λ r e. ⊎-elim (λ k. (k .0, omega (arith, k .1))) (λ k. (omega (arith, k .0), k .1))
+        (plain-before 27 (omega arith) network from to departure room (inr (omega arith)) r e);
+    opened = λ h e. leaves (begun network h from to departure room e);
+  }
 
-pub plain-roomy : (network : List ℕ) (from to departure room : ℕ) → 512 ≤ room → Numbered Refused 1 26 (plainBegin network from to departure room)
-plain-roomy network from to departure room l = plain-numbers 26 (omega arith) network from to departure room (inl l)
+  pub flagged-begins : (plan : List ℕ) → Begins (flaggedBegin network plan from to departure room)
+      (graphOf (decode network)) from to departure room
+  flagged-begins plan = record {
+    numbers = λ r e. ⊎-elim (λ k. (k .0, omega (arith, k .1))) (λ k. (omega (arith, k .0), k .1))
+        (flagged-before 27 (omega arith) network from to departure room (inr (omega arith)) plan r e);
+    opened = λ h e. leaves (flagged-begun network plan h from to departure room e);
+  }
 
-pub flagged-roomy : (network plan : List ℕ) (from to departure room : ℕ) → 512 ≤ room → Numbered Refused 1 26 (flaggedBegin network plan from to departure room)
-flagged-roomy network plan from to departure room l = flagged-numbers 26 (omega arith) network plan from to departure room (inl l)
+-- THE NUMBERS of a trip, from those before its search
+module _ {b : Opening} {g : Graph} {s t x room : ℕ} (w : Begins b g s t x room) (p : Permit)
+    (free low high : ℕ) (r : Refusal)
+    (e : tripAnswer b (searched g p s t x free) ≡ answer.Refused r)
+    (before : b ≡ Refused r → Between 1 low (r .number) ⊎ Between 25 high (r .number)) where
+  all-numbers : high ≤ 29 → Between 1 low (r .number) ⊎ Between 25 29 (r .number)
+  all-numbers h = ⊎-elim
+      (λ f. ⊎-elim (λ k. inl k) (λ k. inr (k .0, omega (arith, k .1))) (before f))
+      (λ n. inr (⊎-elim (λ k. (omega arith, omega arith)) (λ k. (omega arith, omega arith)) n))
+      (trip-refused w p free refl r e)
 
--- what a flagged trip has shown where nothing before its search is refused
-planned-passed : (m : Planning) (next : Opening) (h : Header) → plannedThen m next ≡ Opened h → next ≡ Opened h
-planned-passed (planning.Refused r) next h e = let z : _≡_ {A = ℕ} 0 1 = cc in absurd (omega arith)
-planned-passed (planning.WellFormed k) next h e = e
+  -- 28 is the only one after the search, where there is room for every path
+  call-numbers : mostRoads ≤ free
+      → Between 1 low (r .number) ⊎ (Between 25 high (r .number) ⊎ (r .number ≡ 28))
+  call-numbers l = ⊎-elim
+      (λ f. ⊎-elim (λ k. inl k) (λ k. inr (inl k)) (before f))
+      (λ n. ⊎-elim (λ k. inr (inr k)) (λ k. absurd (never-short w p free (sym e) l k)) n)
+      (trip-refused w p free refl r e)
 
-pub flagged-begun : (network plan : List ℕ) (h : Header) (from to departure room : ℕ) → flaggedBegin network plan from to departure room ≡ Opened h
-    → Begun network h from to departure room
-flagged-begun network plan h from to departure room e =
-    let (k, v, f) = then-passed (validated network) (λ h. flaggedWith h network plan from to departure room) h e in
-    let (a, q) = asked-passed k h from to departure room (planned-passed (planned k (decode network) plan) _ h f) in
-    record { valid = valid-exactly network h .0 (v ∙ ap (λ (x : Header). Opened x) q); asks = a }
+module _ (network : List ℕ) (from to departure : ℕ) (r : Refusal) where
+  pub plain-numbers : (room free : ℕ) → plainAnswer network from to departure room free ≡ answer.Refused r
+      → Between 1 10 (r .number) ⊎ Between 25 29 (r .number)
+  plain-numbers room free e =
+      all-numbers (plain-begins network from to departure room) all free 10 27 r e
+      (plain-before 27 (omega arith) network from to departure room (inr (omega arith)) r) (omega arith)
 
--- A TRIP of either kind: b is what came before its search
-module _ (network : List ℕ) (p : Permit) (s t x room free : ℕ) (b : Opening) (before : Numbered Refused 1 27 b)
-    (opened : (h : Header) → b ≡ Opened h → Begun network h s t x room) where
-  abbrev o : Outcome
-  o = searched (decode network) p s t x free
+  pub flagged-numbers : (plan : List ℕ) (room free : ℕ)
+      → flaggedAnswer network plan from to departure room free ≡ answer.Refused r
+      → Between 1 19 (r .number) ⊎ Between 25 29 (r .number)
+  flagged-numbers plan room free e =
+      all-numbers (flagged-begins network from to departure room plan)
+      (flaggedArcs network plan to) free 19 27 r e
+      (flagged-before 27 (omega arith) network from to departure room (inr (omega arith)) plan r)
+      (omega arith)
 
-  target : (h : Header) → Begun network h s t x room → t < graphOf (decode network) .nodes
-  target h d = omega (arith, drive-nodes (d .valid), d .asks .to-node)
+  pub plain-call-numbers : plainCall network from to departure ≡ answer.Refused r
+      → Between 1 10 (r .number) ⊎ (Between 25 26 (r .number) ⊎ (r .number ≡ 28))
+  plain-call-numbers e =
+      call-numbers (plain-begins network from to departure mostNodes) all mostRoads 10 26 r e
+      (plain-before 26 (omega arith) network from to departure mostNodes (inl (omega arith)) r) (omega arith)
 
-  few : (h : Header) → Begun network h s t x room → graphOf (decode network) .nodes ≤ 512
-  few h d = omega (arith, drive-nodes (d .valid), d .valid .within .nodes-most)
-
-  leaves : (h : Header) → (d : Begun network h s t x room) → Leaving (graphOf (decode network)) s x
-  leaves h d = valid-leaving (d .valid) s x (d .asks .from-node) (d .asks .early)
-
-  -- an arrival counts at most 511 roads
-  pub count-few : (r : Arrival) → tripAnswer b o ≡ answer.Arrived r → r .count ≤ 511
-  count-few r e = go b refl e
-    where
-      go : (c : Opening) → b ≡ c → tripAnswer c o ≡ answer.Arrived r → r .count ≤ 511
-      go (Refused q) f z = let y : _≡_ {A = ℕ} 0 1 = cc in absurd (omega arith)
-      go (Opened h) f z =
-          let (a, i, j, k) = told-trip o r z in
-          let d = opened h f in
-          omega (arith, k, arrived-few (leaves h d) p t (target h d) free a (sym i), few h d)
-
-  -- where there is room for 511 roads, the refusals are those before the search, and 28
-  pub no-short : 511 ≤ free → (high : ℕ) → Numbered Refused 1 high b → (r : Refusal) → tripAnswer b o ≡ answer.Refused r → (r .number ≤ high) ⊎ (r .number ≡ 28)
-  no-short l high m r e = go b refl e
-    where
-      by : (h : Header) → b ≡ Opened h → (c : Outcome) → c ≡ o → told c ≡ answer.Refused r → r .number ≡ 28
-      by h f (Arrived a) i z = let y : _≡_ {A = ℕ} 0 1 = cc in absurd (omega arith)
-      by h f NoWay i z = sym (ap (λ (k : Refusal). k .number) (same-answer (refusal 28 0) r z))
-      by h f Short i z = let d = opened h f in absurd (never-short (leaves h d) p t (target h d) free (omega (arith, few h d)) i)
-
-      go : (c : Opening) → b ≡ c → tripAnswer c o ≡ answer.Refused r → (r .number ≤ high) ⊎ (r .number ≡ 28)
-      go (Refused q) f z =
-          let w = ap (λ (k : Refusal). k .number) (same-answer q r z) in
-          let (i, j) = m q f in
-          inl (omega arith)
-      go (Opened h) f z = inr (by h f o refl z)
-
-  -- 28 is said only where nothing before it is refused
-  pub no-way-last : (r : Refusal) → tripAnswer b o ≡ answer.Refused r → r .number ≡ 28 → (h : Header) × (b ≡ Opened h)
-  no-way-last r e n = go b refl e
-    where
-      go : (c : Opening) → b ≡ c → tripAnswer c o ≡ answer.Refused r → (h : Header) × (b ≡ Opened h)
-      go (Refused q) f z =
-          let w = ap (λ (k : Refusal). k .number) (same-answer q r z) in
-          let (i, j) = before q f in
-          absurd (omega arith)
-      go (Opened h) f z = (h, f)
+  pub flagged-call-numbers : (plan : List ℕ) → flaggedCall network plan from to departure ≡ answer.Refused r
+      → Between 1 19 (r .number) ⊎ (Between 25 26 (r .number) ⊎ (r .number ≡ 28))
+  flagged-call-numbers plan e =
+      call-numbers (flagged-begins network from to departure mostNodes plan)
+      (flaggedArcs network plan to) mostRoads 19 26 r e
+      (flagged-before 26 (omega arith) network from to departure mostNodes (inl (omega arith)) plan r)
+      (omega arith)

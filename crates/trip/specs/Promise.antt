@@ -1,144 +1,278 @@
--- What a trip's answer means. A trip's contract gives the answer and both lists by definitions; here it is shown that an arrival is the earliest over
--- the permitted paths, with whatever waits, that the listed roads drive there, and that 28 is said exactly where there is no path.
--- Said once, over which arcs are permitted.
+-- What a trip's answer means, said once for every kind of trip. An arrival is the earliest over the permitted
+-- paths, with whatever waits, by the chosen path; 28 is said exactly where nothing before it is refused and
+-- there is no path; 29 exactly where nothing before it is refused, there is a path, and the list of roads is
+-- shorter than the chosen one; and the list of arrivals shows the least arrivals.
 use mathlib.Core.Path.{_≡_, refl, sym, _∙_, ap}
-use mathlib.Core.Logic.{_↔_}
-use mathlib.Core.List.{List}
+use mathlib.Core.Logic.{_≢_, _↔_, _⊎_, inl, inr}
+use mathlib.Core.List.{List, []}
 use Prim.Native.Nat.{ℕ, _≤_, _<_}
 use native.Mathlib.Omega.{arith}
 use lib.ListN.{length, take}
-use Rattle.theory_loops.specs.Fill.{Filled, tab, length-tab, tab-list, list-filled, fill-none, overwritten}
+use Rattle.theory_loops.specs.Fill.{Filled, length-tab, list-filled}
 use Rattle.theory_paths.specs.Graph.{Graph, Permit, IsPath, driven, waited, Reachable, EarliestArrival}
+use Rattle.theory_paths.specs.Drive.{earliest-waiting}
 use Rattle.theory_paths.specs.Earliest.{never}
-use Rattle.theory_paths.specs.Labels.{label, labels}
-use Rattle.theory_paths.specs.Chosen.{chosen}
+use Rattle.theory_paths.specs.Labels.{labels}
 use Rattle.file_refusals.specs.declared.Refusal.{Refusal}
-use Rattle.network.specs.declared.answer.Opening.the-variants.{Refused}
+use Rattle.file_refusals.specs.Numbered.{Numbered}
+use Rattle.network.specs.declared.answer.Opening.{Opening}
+use Rattle.network.specs.declared.answer.Opening.the-variants.{Opened, Refused}
 use Rattle.network.specs.declared.header.Header.{Header}
-use Rattle.network.specs.Network.{Network, nodes}
-use Rattle.network.specs.Decode.{decode}
-use Rattle.file_refusals.specs.Refusal.{refusal}
-use Rattle.network.specs.Valid.{ValidFile}
-use Rattle.network.specs.Town.{graphOf}
-use Rattle.search_path.specs.declared.Trip.{Trip}
-use Rattle.search_path.specs.declared.Outcome.{Outcome}
-use Rattle.search_path.specs.declared.Outcome.the-variants.{Arrived, NoWay, Short}
-use Rattle.search_path.specs.Answer.{Answered, written, entryOf}
-use Rattle.search_labels.specs.Ready.{Leaving, leaving}
-use Rattle.search_arcs.specs.Town.{town-of}
-use Rattle.search_path.specs.Promise.{arrived, arrives, waiting, no-way, at-home, before-never}
+use Rattle.search_labels.specs.Ready.{Leaving}
+use Rattle.search_path.specs.Answer.{pathOf, searched, one-arrival, not-both}
+use Rattle.search_path.specs.Promise.{Means, no-way, too-short, arrives}
+use Rattle.search_path.specs.Promise.{searched-means, at-home, before-never}
+use Rattle.search_path.specs.Says.{tripSays}
+use Rattle.search_path.specs.Shows.{ShowsBefore, ShowsAll, shows-before, shows-all}
 use Rattle.search_path.specs.Trim.{shown}
 use Rattle.search_path.specs.declared.answer.Arrival.{Arrival}
 use Rattle.search_path.specs.declared.answer.Answer.{Answer}
 use Rattle.search_path.specs.declared.answer.Answer.the-variants as answer
-use Rattle.trip_call.specs.Trip.{told, searched, tripRoads}
-use Rattle.trip_call.specs.Drive.{count-is, drive-laid, drive-nodes}
-use Rattle.network.specs.Layout.{layoutOf}
+use Rattle.trip_call.specs.Trip.{tripAnswer, TripCall}
+use Rattle.trip_call.specs.Drive.{call-roads}
+use Rattle.network.specs.Limits.{mostRoads}
 
--- An arrival, with the roads that are listed: a permitted path from s to t, as long as counted, that driven from tick x ends at the tick answered, and
--- no permitted path, with whatever waits, ends before.
-pub record Arrives (g : Graph) (p : Permit) (s x t : ℕ) (roads : List ℕ) (r : Arrival) : Type 0 where
-  pub leads : IsPath g p s t (take (r .count) roads)
-  pub counted : r .count ≤ length roads
-  pub drives : driven g (take (r .count) roads) x ≡ r .tick
+-- AN ARRIVAL, with a path: it is a permitted one from s to t, as long as counted, that driven from tick x
+-- ends at the tick answered; no permitted path, with whatever waits, ends before; and the tick is no word for
+-- never.
+pub record BestTrip (g : Graph) (p : Permit) (s x t : ℕ) (path : List ℕ) (r : Arrival) : Type 0 where
+  pub leads : IsPath g p s t path
+  pub counted : r .count ≡ length path
+  pub drives : driven g path x ≡ r .tick
   pub earliest : EarliestArrival g p s x t (r .tick)
   pub waits : (w ds : List ℕ) → IsPath g p s t w → r .tick ≤ waited g w ds x
   pub early : r .tick < never
 
-zero-one : _≡_ {A = ℕ} 0 1 → ⊥
-zero-one z = omega arith
+-- AN ANSWER, with a path: 28 exactly where there is no permitted path from s to t; else an arrival that no
+-- permitted path beats.
+pub record AsGoodAsAny (g : Graph) (p : Permit) (s x t : ℕ) (path : List ℕ) (a : Answer) : Type 0 where
+  pub no-way : (tripSays a .number ≡ 28) ↔ (¬ Reachable g p s t)
+  pub arrives : Reachable g p s t → (r : Arrival) × (a ≡ answer.Arrived r)
+  pub best : (r : Arrival) → a ≡ answer.Arrived r → BestTrip g p s x t path r
 
--- which outcome an answer tells
-pub told-trip : (o : Outcome) (r : Arrival) → told o ≡ answer.Arrived r → (a : Trip) × (o ≡ Arrived a) × (a .tick ≡ r .tick) × (a .count ≡ r .count)
-told-trip (Arrived a) r e =
-    let q : record { tick = a .tick; count = a .count } ≡ r = same-arrival _ r e in
-    (a, refl, ap (λ (k : Arrival). k .tick) q, ap (λ (k : Arrival). k .count) q)
-  where
-    same-arrival : (k r : Arrival) → answer.Arrived k ≡ answer.Arrived r → k ≡ r
-    same-arrival k r e = cc
-told-trip NoWay r e = absurd (zero-one (cc))
-told-trip Short r e = absurd (zero-one (cc))
+-- Nothing before the search is refused.
+abbrev pub Passed : Opening → Type 0
+Passed b = (h : Header) × (b ≡ Opened h)
 
-told-none : (o : Outcome) → (told o ≡ answer.Refused (refusal 28 0)) ↔ (o ≡ NoWay)
-told-none o = (there o, λ e. rw e)
-  where
-    numbers : refusal 29 0 ≡ refusal 28 0 → ⊥
-    numbers e = let z : _≡_ {A = ℕ} 29 28 = ap (λ (r : Refusal). r .number) e in omega arith
+-- The roads that are listed: as many as are counted.
+abbrev pub listed : Answer → List ℕ → List ℕ
+listed (answer.Arrived r) roads = take (r .count) roads
+listed (answer.Refused r) roads = []
 
-    same-refusal : (k r : Refusal) → answer.Refused k ≡ answer.Refused r → k ≡ r
-    same-refusal k r e = cc
+-- What comes before a search: its refusals are 1 to 27, and where it refuses nothing, source, target,
+-- departure and list of arrivals will do.
+pub record Leaves (g : Graph) (s t x room : ℕ) : Type 0 where
+  pub leaving : Leaving g s x
+  pub target : t < g .nodes
+  pub long : g .nodes ≤ room
 
-    there : (o : Outcome) → told o ≡ answer.Refused (refusal 28 0) → o ≡ NoWay
-    there (Arrived a) e = absurd (zero-one (cc))
-    there NoWay e = refl
-    there Short e = absurd (numbers (same-refusal _ _ e))
+pub record Begins (b : Opening) (g : Graph) (s t x room : ℕ) : Type 0 where
+  pub numbers : Numbered Refused 1 27 b
+  pub opened : (h : Header) → b ≡ Opened h → Leaves g s t x room
 
--- the search of a valid file from s at tick x
-pub valid-leaving : {file : List ℕ} {h : Header} → ValidFile file h → (s x : ℕ) → s < h .nodes → x < h .period → Leaving (graphOf (decode file)) s x
-unfolding layoutOf
-valid-leaving {h = h} v s x m k = leaving (town-of (drive-laid v (layoutOf h) refl) (v .sound)) m k
+-- An arrival of a trip: nothing before the search was refused; the path is listed whole, and no longer than a
+-- path of all nodes; and none beats it.
+pub record Arrives (b : Opening) (g : Graph) (p : Permit) (s t x free : ℕ) (r : Arrival) : Type 0 where
+  pub passed : Passed b
+  pub fits : r .count ≤ free
+  pub few : r .count ≤ mostRoads
+  pub best : BestTrip g p s x t (pathOf g p s t x) r
 
--- WHAT THE CONTRACT OF A TRIP SAYS, read as an answered search
-module _ (n : Network) (p : Permit) (s t x : ℕ) (arrivals₀ roads₀ : List ℕ) (room : nodes n ≤ length arrivals₀) where
-  abbrev o : Outcome
-  o = searched n p s t x (length roads₀)
+-- how a trip ends
+data Ends (b : Opening) (g : Graph) (p : Permit) (s t x room free : ℕ) (a : Answer) : Type 0 where
+  refused : (r : Refusal) → b ≡ Refused r → 1 ≤ r .number → r .number ≤ 27 → a ≡ answer.Refused r
+      → Ends b g p s t x room free a
+  searches : (h : Header) → b ≡ Opened h → Leaves g s t x room → Means g p s t x free a
+      → Ends b g p s t x room free a
 
-  abbrev path : List ℕ
-  path = chosen (graphOf n) p s (labels (graphOf n) p s x) t
+opened-refused : {A : Type 0} {b : Opening} {h : Header} {r : Refusal} → b ≡ Opened h → b ≡ Refused r → A
+opened-refused e f = let z : _≡_ {A = ℕ} 0 1 = cc in absurd (omega arith)
 
-  shows : Filled 0 (nodes n) (shown (labels (graphOf n) p s x) t) arrivals₀ (overwritten (tab (nodes n) (shown (labels (graphOf n) p s x) t)) arrivals₀)
-  shows = rw length-tab (list-filled _ (nodes n) arrivals₀ room)
+number-is : {a c : Answer} → a ≡ c → tripSays a .number ≡ tripSays c .number
+number-is e = ap (λ (k : Answer). tripSays k .number) e
 
-  writes : (r : Outcome) → r ≡ o → Filled 0 (written r) (entryOf path) roads₀ (tripRoads (told r) n p s t x roads₀)
-  writes (Arrived a) e =
-      let (c, l) = count-is (label (labels (graphOf n) p s x) t) (length path) (length roads₀) a e in
-      rw c (rw (tab-list path) at (list-filled (entryOf path) (length path) roads₀ l))
-  writes NoWay e = fill-none _ roads₀ 0
-  writes Short e = fill-none _ roads₀ 0
+same-refusal : (q r : Refusal) → answer.Refused q ≡ answer.Refused r → q ≡ r
+same-refusal q r e = cc
 
-  pub answered : Answered (graphOf n) p s x t arrivals₀ (overwritten (tab (nodes n) (shown (labels (graphOf n) p s x) t)) arrivals₀) roads₀ (tripRoads (told o) n p s t x roads₀) o
-  answered = record { shows = shows; told = record { outcome = refl; writes = writes o refl } }
+-- THE ANSWER, where b is what came before the search, over the arcs that p permits, with room for `free`
+-- roads
+module _ {b : Opening} {g : Graph} {s t x room : ℕ} (w : Begins b g s t x room) (p : Permit) (free : ℕ)
+    {a : Answer}
+    (e : a ≡ tripAnswer b (searched g p s t x free)) where
+  ends : Ends b g p s t x room free a
+  ends = go b refl e
+    where
+      go : (c : Opening) → b ≡ c → a ≡ tripAnswer c (searched g p s t x free) → Ends b g p s t x room free a
+      go (Refused r) f z = let (l, m) = w .numbers r f in refused r f l m z
+      go (Opened h) f z =
+          let k = w .opened h f in searches h f k (rw z (searched-means (k .leaving) p t (k .target) free))
 
--- A TRIP that is not refused before its search: b is what came before, a the answer, and the lists are as its contract says
-module _ (file : List ℕ) (h : Header) (p : Permit) (s t x : ℕ) (arrivals₀ roads₀ roads : List ℕ) (v : ValidFile file h)
-    (from : s < h .nodes) (to : t < h .nodes) (day : x < h .period) (room : h .nodes ≤ length arrivals₀) (a : Answer)
-    (e : a ≡ told (searched (decode file) p s t x (length roads₀))) (w : roads ≡ tripRoads a (decode file) p s t x roads₀) where
-  abbrev n : Network
-  n = decode file
+  pub trip-no-way : (tripSays a .number ≡ 28) ↔ (Passed b × (¬ Reachable g p s t))
+  trip-no-way = (λ n. there n ends, λ q. back (q .0 .1) (q .1) ends)
+    where
+      there : tripSays a .number ≡ 28 → Ends b g p s t x room free a → Passed b × (¬ Reachable g p s t)
+      there n (refused r f l m z) = absurd (omega (arith, number-is z))
+      there n (searches h f k (no-way u z)) = ((h, f), u)
+      there n (searches h f k (too-short i y l z)) = absurd (omega (arith, number-is z))
+      there n (searches h f k (arrives r z c l y)) = absurd (omega (arith, number-is z))
 
-  leave : Leaving (graphOf n) s x
-  leave = valid-leaving v s x from day
+      back : {h : Header} → b ≡ Opened h → (¬ Reachable g p s t) → Ends b g p s t x room free a
+          → tripSays a .number ≡ 28
+      back f n (refused r i l m z) = opened-refused f i
+      back f n (searches h i k (no-way u z)) = number-is z
+      back f n (searches h i k (too-short j y l z)) =
+          absurd (n (record { path = pathOf g p s t x; leads = y .leads }))
+      back f n (searches h i k (arrives r z c l y)) =
+          absurd (n (record { path = pathOf g p s t x; leads = y .leads }))
 
-  target : t < nodes n
-  target = omega (arith, drive-nodes v)
+  pub trip-short : (tripSays a .number ≡ 29) ↔
+      (Passed b × Reachable g p s t × (free < length (pathOf g p s t x)))
+  trip-short = (λ n. there n ends, λ q. back (q .0 .1) (q .1) (q .2) ends)
+    where
+      there : tripSays a .number ≡ 29 → Ends b g p s t x room free a
+          → Passed b × Reachable g p s t × (free < length (pathOf g p s t x))
+      there n (refused r f l m z) = absurd (omega (arith, number-is z))
+      there n (searches h f k (no-way u z)) = absurd (omega (arith, number-is z))
+      there n (searches h f k (too-short i y l z)) =
+          ((h, f), record { path = pathOf g p s t x; leads = y .leads }, l)
+      there n (searches h f k (arrives r z c l y)) = absurd (omega (arith, number-is z))
 
-  found : Answered (graphOf n) p s x t arrivals₀ (overwritten (tab (nodes n) (shown (labels (graphOf n) p s x) t)) arrivals₀) roads₀ roads (searched n p s t x (length roads₀))
-  found = rw (w, e) (answered n p s t x arrivals₀ roads₀ (omega (arith, drive-nodes v)))
+      back : {h : Header} → b ≡ Opened h → Reachable g p s t → free < length (pathOf g p s t x)
+          → Ends b g p s t x room free a
+          → tripSays a .number ≡ 29
+      back f q m (refused r i l o z) = opened-refused f i
+      back f q m (searches h i k (no-way u z)) = absurd (u q)
+      back f q m (searches h i k (too-short j y l z)) = number-is z
+      back f q m (searches h i k (arrives r z c l y)) = absurd (omega arith)
 
-  pub trip-arrives : (r : Arrival) → a ≡ answer.Arrived r → Arrives (graphOf n) p s x t roads r
-  trip-arrives r q =
-      let (k, f, i, j) = told-trip (searched n p s t x (length roads₀)) r (sym e ∙ q) in
-      let d = arrived leave target found k f in
-      record {
-        leads = rw (← j) (d .leads);
-        counted = omega (arith, j, d .listed);
-        drives = rw (← j) (d .arrives ∙ i);
-        earliest = rw (← i) (d .earliest);
-        waits = λ w ds c. rw (← i) (waiting leave target found k f c ds);
-        early = omega (arith, i, before-never leave (d .earliest));
-      }
+  pub trip-reaches : Passed b → Reachable g p s t → length (pathOf g p s t x) ≤ free
+      → (r : Arrival) × (a ≡ answer.Arrived r)
+  trip-reaches o q m = go (o .1) ends
+    where
+      go : {h : Header} → b ≡ Opened h → Ends b g p s t x room free a → (r : Arrival) × (a ≡ answer.Arrived r)
+      go f (refused r i l n z) = opened-refused f i
+      go f (searches h i k (no-way u z)) = absurd (u q)
+      go f (searches h i k (too-short j y l z)) = absurd (omega arith)
+      go f (searches h i k (arrives r z c l y)) = (r, z)
 
-  pub trip-none : (a ≡ answer.Refused (refusal 28 0)) ↔ (¬ Reachable (graphOf n) p s t)
-  trip-none = (
-    λ q. no-way leave target found .0 (told-none _ .0 (sym e ∙ q)),
-    λ q. e ∙ told-none _ .1 (no-way leave target found .1 q),
-  )
+  pub trip-home : Passed b → s ≡ t → a ≡ answer.Arrived (record { tick = x; count = 0 })
+  trip-home (h, f) q = let k = w .opened h f in rw f at e ∙ at-home (k .leaving) p t (k .target) q free
 
-  -- from a node to itself: at once, by no road
-  pub trip-home : s ≡ t → a ≡ answer.Arrived (record { tick = x; count = 0 })
-  trip-home q = e ∙ ap told (at-home leave target found q)
+  pub trip-arrived : (r : Arrival) → a ≡ answer.Arrived r → Arrives b g p s t x free r
+  trip-arrived r q = go ends
+    where
+      go : Ends b g p s t x room free a → Arrives b g p s t x free r
+      go (refused k f l m z) = not-both r (sym q ∙ z)
+      go (searches h f k (no-way u z)) = not-both r (sym q ∙ z)
+      go (searches h f k (too-short i y l z)) = not-both r (sym q ∙ z)
+      go (searches h f k (arrives i z c l y)) = rw (← (one-arrival i r (sym z ∙ q))) (record {
+        passed = (h, f);
+        fits = l;
+        few = omega (arith, y .few, k .leaving .few);
+        best = record {
+          leads = y .leads;
+          counted = c;
+          drives = y .drives;
+          earliest = y .earliest;
+          waits = λ w ds j. earliest-waiting (k .leaving .ok) ds (y .earliest) j;
+          early = omega (arith, before-never (k .leaving) (y .earliest));
+        };
+      })
 
-  -- where there is a path and room for the chosen one, the trip arrives
-  pub trip-reaches : Reachable (graphOf n) p s t → length (chosen (graphOf n) p s (labels (graphOf n) p s x) t) ≤ length roads₀ → (r : Arrival) × (a ≡ answer.Arrived r)
-  trip-reaches c m =
-      (record { tick = label (labels (graphOf n) p s x) t; count = length (chosen (graphOf n) p s (labels (graphOf n) p s x) t) }, e ∙ ap told (arrives leave target found c m))
+  -- where there is room for every path, 29 is not said
+  pub never-short : mostRoads ≤ free → tripSays a .number ≢ 29
+  never-short l n = go ends
+    where
+      go : Ends b g p s t x room free a → ⊥
+      go (refused r f i j z) = omega (arith, number-is z)
+      go (searches h f k (no-way u z)) = omega (arith, number-is z)
+      go (searches h f k (too-short i y m z)) = omega (arith, y .few, k .leaving .few)
+      go (searches h f k (arrives r z c m y)) = omega (arith, number-is z)
+
+  -- the refusals: those before the search, 28 and 29
+  pub trip-refused : (r : Refusal) → a ≡ answer.Refused r
+      → (b ≡ Refused r) ⊎ ((r .number ≡ 28) ⊎ (r .number ≡ 29))
+  trip-refused r q = go ends
+    where
+      go : Ends b g p s t x room free a → (b ≡ Refused r) ⊎ ((r .number ≡ 28) ⊎ (r .number ≡ 29))
+      go (refused k f l m z) = inl (f ∙ ap (λ (i : Refusal). Refused i) (same-refusal k r (sym z ∙ q)))
+      go (searches h f k (no-way u z)) = inr (inl (number-is (sym q ∙ z)))
+      go (searches h f k (too-short i y l z)) = inr (inr (number-is (sym q ∙ z)))
+      go (searches h f k (arrives i z c l y)) = not-both i (sym z ∙ q)
+
+  -- so the answer is as good as any, where there is room for the chosen path
+  pub trip-good : Passed b → (Reachable g p s t → length (pathOf g p s t x) ≤ free)
+      → AsGoodAsAny g p s x t (pathOf g p s t x) a
+  trip-good o m = record {
+    no-way = (λ n. trip-no-way .0 n .1, λ n. trip-no-way .1 (o, n));
+    arrives = λ q. trip-reaches o q (m q);
+    best = λ r q. trip-arrived r q .best;
+  }
+
+  -- and there is, where the list has room for every path
+  pub call-good : Passed b → mostRoads ≤ free → AsGoodAsAny g p s x t (pathOf g p s t x) a
+  call-good o l = record {
+    no-way = (λ n. trip-no-way .0 n .1, λ n. trip-no-way .1 (o, n));
+    arrives = λ q. go q (o .1) ends;
+    best = λ r q. trip-arrived r q .best;
+  }
+    where
+      go : Reachable g p s t → {h : Header} → b ≡ Opened h → Ends b g p s t x room free a
+          → (r : Arrival) × (a ≡ answer.Arrived r)
+      go q f (refused r i j m z) = opened-refused f i
+      go q f (searches h i k (no-way u z)) = absurd (u q)
+      go q f (searches h i k (too-short j y m z)) = absurd (omega (arith, y .few, k .leaving .few))
+      go q f (searches h i k (arrives r z c m y)) = (r, z)
+
+-- THE TWO LISTS
+module _ {b : Opening} {g : Graph} {p : Permit} {s t x : ℕ} {arrivals₀ arrivals₁ roads₀ roads₁ : List ℕ}
+    {a : Answer}
+    (w : Begins b g s t x (length arrivals₀))
+    (c : TripCall b g p s t x arrivals₀ arrivals₁ roads₀ roads₁ a) where
+  pub trip-arrives : (r : Arrival) → a ≡ answer.Arrived r → BestTrip g p s x t (take (r .count) roads₁) r
+  trip-arrives r q = rw (call-roads c r q) (trip-arrived w p (length roads₀) (c .answer) r q .best)
+
+  pub lists-good : Passed b → (Reachable g p s t → length (pathOf g p s t x) ≤ length roads₀)
+      → AsGoodAsAny g p s x t (listed a roads₁) a
+  lists-good o m =
+      let k = trip-good w p (length roads₀) (c .answer) o m in
+      record { no-way = k .no-way; arrives = k .arrives; best = λ r q. rw q (trip-arrives r q) }
+
+  -- the list of arrivals, once nothing before the search is refused
+  filled : (h : Header) → b ≡ Opened h → Filled 0 (g .nodes) (shown (labels g p s x) t) arrivals₀ arrivals₁
+  filled h f =
+      let l = list-filled (shown (labels g p s x) t) (g .nodes) arrivals₀ (w .opened h f .long) in
+      rw (rw f at (c .arrivals), length-tab) l
+
+  pub trip-shows : (tripSays a .number ≡ 0) ⊎ (tripSays a .number ≡ 29)
+      → ShowsBefore g p s x t arrivals₀ arrivals₁
+  trip-shows n = go n (ends w p (length roads₀) (c .answer))
+    where
+      go : (tripSays a .number ≡ 0) ⊎ (tripSays a .number ≡ 29)
+          → Ends b g p s t x (length arrivals₀) (length roads₀) a
+          → ShowsBefore g p s x t arrivals₀ arrivals₁
+      go (inl n) (refused r f l m z) = absurd (omega (arith, number-is z))
+      go (inr n) (refused r f l m z) = absurd (omega (arith, number-is z))
+      go n (searches h f k v) = shows-before (k .leaving) p t (filled h f) (k .target)
+
+  pub trip-shows-all : tripSays a .number ≡ 28 → ShowsAll g p s x arrivals₀ arrivals₁
+  trip-shows-all n =
+      let (o, u) = trip-no-way w p (length roads₀) (c .answer) .0 n in
+      shows-all (w .opened (o .0) (o .1) .leaving) p t (filled (o .0) (o .1)) u
+
+  -- up to 27 both lists are untouched, and the list of roads is by every refusal
+  pub trip-untouched : 1 ≤ tripSays a .number → tripSays a .number ≤ 27 → arrivals₁ ≡ arrivals₀
+  trip-untouched l m = go (ends w p (length roads₀) (c .answer))
+    where
+      go : Ends b g p s t x (length arrivals₀) (length roads₀) a → arrivals₁ ≡ arrivals₀
+      go (refused r f i j z) = rw f at (c .arrivals)
+      go (searches h f k (no-way u z)) = absurd (omega (arith, number-is z))
+      go (searches h f k (too-short i y o z)) = absurd (omega (arith, number-is z))
+      go (searches h f k (arrives r z i o y)) = absurd (omega (arith, number-is z))
+
+  pub trip-roads-kept : 1 ≤ tripSays a .number → roads₁ ≡ roads₀
+  trip-roads-kept l = go a refl
+    where
+      go : (k : Answer) → a ≡ k → roads₁ ≡ roads₀
+      go (answer.Arrived r) q = absurd (omega (arith, number-is q))
+      go (answer.Refused r) q = rw q at (c .roads)

@@ -1,6 +1,8 @@
-// The flagged trip, over the arcs with the flag of the target's cell. An unchecked plan gets the earliest arrival over its flagged arcs.
+// The flagged trip, over the arcs with the flag of the target's cell. An unchecked plan gets the earliest
+// arrival over its flagged arcs.
 use network::answer::Opening;
 use network::header::Header;
+use network::limits::MOST_ARCS;
 use network::read::cell;
 use network_open::validate::validate;
 use plan::answer::Planning;
@@ -16,33 +18,32 @@ ghost use mathlib.Core.Path.{_≡_};
 ghost use mathlib.Core.Bool.{cond};
 ghost use Prim.Native.Nat.{_≤_, _<_};
 ghost use lib.ListN.{length};
-ghost use Rattle.theory_loops.specs.Fill.{Filled, tab, overwritten};
-ghost use Rattle.theory_paths.specs.Labels.{labels};
-ghost use Rattle.network.specs.Network.{nodes};
+ghost use Rattle.theory_loops.specs.Fill.{Filled};
+ghost use Rattle.network.specs.declared.answer.Opening.the-variants.{Opened};
+ghost use Rattle.network.specs.Limits.{mostArcs, mostCells};
 ghost use Rattle.network.specs.Decode.{decode};
 ghost use Rattle.network.specs.Valid.{ValidFile};
-ghost use Rattle.network.specs.Town.{graphOf, partitionOf};
-ghost use Rattle.plan.specs.Plan.{bit, towards};
+ghost use Rattle.plan.specs.Plan.{bit};
 ghost use Rattle.plan.specs.PlanDecode.{decodePlan, PlanLaid};
 ghost use Rattle.plan.specs.PlanValid.{ValidPlan};
-ghost use Rattle.search_path.specs.Trim.{shown};
-ghost use Rattle.trip_call.specs.Trip.{asked, told, searched, tripAnswer, tripArrivals, tripRoads};
+ghost use Rattle.trip_call.specs.Trip.{asked};
 ghost use Rattle.trip_call.specs.Stage.{Asked};
-ghost use Rattle.trip.specs.Flagged.{maskOf, flaggedWith, flaggedBegin};
+ghost use Rattle.trip.specs.Flagged.{maskOf, flaggedWith, FlaggedCall, FlaggedTrip};
 
 // The bit as a number.
 fn flag(word: u64, c: usize) -> u8
-    requires { ⌜ c < 64 ⌝ }
+    requires { ⌜ c < mostCells ⌝ }
     ensures { λ r. ⌜ r ≡ cond (bit word c) 1 0 ⌝ }
 {
     if is_set(word, c) { 1 } else { 0 }
 }
 
 // The mask of the arcs with the flag of cell c.
-fn fill_mask(plan: &[u8], l: PlanLayout, c: usize, mask: &mut [u8; 2048])
+fn fill_mask(plan: &[u8], l: PlanLayout, c: usize, mask: &mut [u8; MOST_ARCS])
     requires { ⌜ PlanLaid (now plan) l ⌝ }
-    requires { ⌜ (c < 64) × (l .arcs ≤ 2048) × (l .arcs ≤ length (now mask)) ⌝ }
-    ensures { λ _. ⌜ Filled 0 (l .arcs) (maskOf (decodePlan (now (plan .entry))) c) (now (mask .entry)) (now (mask .exit)) ⌝ }
+    requires { ⌜ (c < mostCells) × (l .arcs ≤ mostArcs) × (l .arcs ≤ length (now mask)) ⌝ }
+    ensures { λ _. ⌜ Filled 0 (l .arcs) (maskOf (decodePlan (now (plan .entry))) c) (now (mask .entry))
+        (now (mask .exit)) ⌝ }
 {
     for a in 0..l.arcs {
         mask[a] = flag(flag_word(plan, l, a), c);
@@ -64,12 +65,11 @@ fn drive_flagged(
     requires { ⌜ ValidFile (now network) h ⌝ }
     requires { ⌜ ValidPlan h (decode (now network)) (now plan) k ⌝ }
     requires { ⌜ Asked h from to departure (length (now arrivals)) ⌝ }
-    ensures answer { λ r. ⌜ r ≡ told (searched (decode (now (network .entry))) (towards (partitionOf (decode (now (network .entry)))) (decodePlan (now (plan .entry))) to) from to departure (length (now (roads .entry)))) ⌝ }
-    ensures arrivals { λ _. ⌜ now (arrivals .exit) ≡ overwritten (tab (nodes (decode (now (network .entry)))) (shown (labels (graphOf (decode (now (network .entry)))) (towards (partitionOf (decode (now (network .entry)))) (decodePlan (now (plan .entry))) to) from departure) to)) (now (arrivals .entry)) ⌝ }
-    ensures roads { λ r. ⌜ now (roads .exit) ≡ tripRoads r (decode (now (network .entry))) (towards (partitionOf (decode (now (network .entry)))) (decodePlan (now (plan .entry))) to) from to departure (now (roads .entry)) ⌝ }
+    ensures { λ r. ⌜ FlaggedCall (Opened h) (now (network .entry)) (now (plan .entry)) from to departure
+        (now (arrivals .entry)) (now (arrivals .exit)) (now (roads .entry)) (now (roads .exit)) r ⌝ }
 {
     let c = cell(network, h.layout(), to as usize);
-    let mut mask = [0u8; 2048];
+    let mut mask = [0u8; MOST_ARCS];
     fill_mask(plan, k.layout(), c, &mut mask);
     drive(network, h, &mask, from, to, departure, arrivals, roads)
 }
@@ -88,9 +88,9 @@ fn flagged_asked(
 ) -> Answer
     requires { ⌜ ValidFile (now network) h ⌝ }
     requires { ⌜ ValidPlan h (decode (now network)) (now plan) k ⌝ }
-    ensures answer { λ r. ⌜ r ≡ tripAnswer (asked h from to departure (length (now (arrivals .entry)))) (searched (decode (now (network .entry))) (towards (partitionOf (decode (now (network .entry)))) (decodePlan (now (plan .entry))) to) from to departure (length (now (roads .entry)))) ⌝ }
-    ensures arrivals { λ _. ⌜ now (arrivals .exit) ≡ tripArrivals (asked h from to departure (length (now (arrivals .entry)))) (decode (now (network .entry))) (towards (partitionOf (decode (now (network .entry)))) (decodePlan (now (plan .entry))) to) from to departure (now (arrivals .entry)) ⌝ }
-    ensures roads { λ r. ⌜ now (roads .exit) ≡ tripRoads r (decode (now (network .entry))) (towards (partitionOf (decode (now (network .entry)))) (decodePlan (now (plan .entry))) to) from to departure (now (roads .entry)) ⌝ }
+    ensures { λ r. ⌜ FlaggedCall (asked h from to departure (length (now (arrivals .entry))))
+        (now (network .entry)) (now (plan .entry)) from to departure
+        (now (arrivals .entry)) (now (arrivals .exit)) (now (roads .entry)) (now (roads .exit)) r ⌝ }
 {
     match ask(h, from, to, departure, arrivals.len()) {
         Opening::Refused(r) => Answer::Refused(r),
@@ -120,9 +120,10 @@ fn flagged_planned(
     roads: &mut [u16],
 ) -> Answer
     requires { ⌜ ValidFile (now network) h ⌝ }
-    ensures answer { λ r. ⌜ r ≡ tripAnswer (flaggedWith h (now (network .entry)) (now (plan .entry)) from to departure (length (now (arrivals .entry)))) (searched (decode (now (network .entry))) (towards (partitionOf (decode (now (network .entry)))) (decodePlan (now (plan .entry))) to) from to departure (length (now (roads .entry)))) ⌝ }
-    ensures arrivals { λ _. ⌜ now (arrivals .exit) ≡ tripArrivals (flaggedWith h (now (network .entry)) (now (plan .entry)) from to departure (length (now (arrivals .entry)))) (decode (now (network .entry))) (towards (partitionOf (decode (now (network .entry)))) (decodePlan (now (plan .entry))) to) from to departure (now (arrivals .entry)) ⌝ }
-    ensures roads { λ r. ⌜ now (roads .exit) ≡ tripRoads r (decode (now (network .entry))) (towards (partitionOf (decode (now (network .entry)))) (decodePlan (now (plan .entry))) to) from to departure (now (roads .entry)) ⌝ }
+    ensures { λ r. ⌜ FlaggedCall (flaggedWith h (now (network .entry)) (now (plan .entry)) from to departure
+        (length (now (arrivals .entry))))
+        (now (network .entry)) (now (plan .entry)) from to departure
+        (now (arrivals .entry)) (now (arrivals .exit)) (now (roads .entry)) (now (roads .exit)) r ⌝ }
 {
     match validate_plan(network, h, h.layout(), plan) {
         Planning::Refused(r) => Answer::Refused(r),
@@ -140,7 +141,8 @@ fn flagged_planned(
     }
 }
 
-// From one node to another, leaving at a tick of the day, over the arcs with the flag of the target's cell: the earliest tick of arrival, and the chosen way.
+// From one node to another, leaving at a tick of the day, over the arcs with the flag of the target's cell:
+// the earliest tick of arrival, and the chosen way.
 pub fn flagged_trip(
     network: &[u8],
     plan: &[u8],
@@ -150,9 +152,9 @@ pub fn flagged_trip(
     arrivals: &mut [u32],
     roads: &mut [u16],
 ) -> Answer
-    ensures answer { λ r. ⌜ r ≡ tripAnswer (flaggedBegin (now (network .entry)) (now (plan .entry)) from to departure (length (now (arrivals .entry)))) (searched (decode (now (network .entry))) (towards (partitionOf (decode (now (network .entry)))) (decodePlan (now (plan .entry))) to) from to departure (length (now (roads .entry)))) ⌝ }
-    ensures arrivals { λ _. ⌜ now (arrivals .exit) ≡ tripArrivals (flaggedBegin (now (network .entry)) (now (plan .entry)) from to departure (length (now (arrivals .entry)))) (decode (now (network .entry))) (towards (partitionOf (decode (now (network .entry)))) (decodePlan (now (plan .entry))) to) from to departure (now (arrivals .entry)) ⌝ }
-    ensures roads { λ r. ⌜ now (roads .exit) ≡ tripRoads r (decode (now (network .entry))) (towards (partitionOf (decode (now (network .entry)))) (decodePlan (now (plan .entry))) to) from to departure (now (roads .entry)) ⌝ }
+    ensures { λ r. ⌜ FlaggedTrip (now (network .entry)) (now (plan .entry)) from to departure
+        (now (arrivals .entry)) (now (arrivals .exit))
+        (now (roads .entry)) (now (roads .exit)) r ⌝ }
 {
     match validate(network) {
         Opening::Refused(r) => Answer::Refused(r),

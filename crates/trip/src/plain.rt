@@ -1,15 +1,12 @@
 // The plain trip, over all arcs.
 use network::answer::Opening;
+use network::limits::MOST_ARCS;
 use network_open::validate::validate;
 use search_path::answer::Answer;
 use trip_call::begin::ask;
 use trip_call::drive::drive;
 ghost use mathlib.Core.Path.{_≡_};
-ghost use lib.ListN.{length};
-ghost use Rattle.theory_paths.specs.Graph.{all};
-ghost use Rattle.network.specs.Decode.{decode};
-ghost use Rattle.trip_call.specs.Trip.{searched, tripAnswer, tripArrivals, tripRoads};
-ghost use Rattle.trip.specs.Plain.{plainBegin};
+ghost use Rattle.trip.specs.Plain.{plainBegin, PlainTrip};
 
 // The refusals before the search: 1 to 10, then 25 to 27.
 fn begin_plain(network: &[u8], from: u32, to: u32, departure: u32, room: usize) -> Opening
@@ -21,7 +18,8 @@ fn begin_plain(network: &[u8], from: u32, to: u32, departure: u32, room: usize) 
     }
 }
 
-// From one node to another, leaving at a tick of the day: the earliest tick of arrival over all ways, and the chosen way.
+// From one node to another, leaving at a tick of the day: the earliest tick of arrival over all ways, and the
+// chosen way.
 pub fn plain_trip(
     network: &[u8],
     from: u32,
@@ -30,14 +28,14 @@ pub fn plain_trip(
     arrivals: &mut [u32],
     roads: &mut [u16],
 ) -> Answer
-    ensures answer { λ r. ⌜ r ≡ tripAnswer (plainBegin (now (network .entry)) from to departure (length (now (arrivals .entry)))) (searched (decode (now (network .entry))) all from to departure (length (now (roads .entry)))) ⌝ }
-    ensures arrivals { λ _. ⌜ now (arrivals .exit) ≡ tripArrivals (plainBegin (now (network .entry)) from to departure (length (now (arrivals .entry)))) (decode (now (network .entry))) all from to departure (now (arrivals .entry)) ⌝ }
-    ensures roads { λ r. ⌜ now (roads .exit) ≡ tripRoads r (decode (now (network .entry))) all from to departure (now (roads .entry)) ⌝ }
+    ensures { λ r. ⌜ PlainTrip (now (network .entry)) from to departure (now (arrivals .entry))
+        (now (arrivals .exit))
+        (now (roads .entry)) (now (roads .exit)) r ⌝ }
 {
     match begin_plain(network, from, to, departure, arrivals.len()) {
         Opening::Refused(r) => Answer::Refused(r),
         Opening::Opened(h) => {
-            let mask = [1u8; 2048];
+            let mask = [1u8; MOST_ARCS];
             drive(network, h, &mask, from, to, departure, arrivals, roads)
         }
     }

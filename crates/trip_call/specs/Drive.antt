@@ -1,15 +1,13 @@
--- From the search's answer to the trip's: its lists as equations, and that permissions which agree on the arcs give the same trip.
+-- From the search's answer to the trip's: its lists as equations (`driven-call`), and that permissions which
+-- agree on the arcs give the same trip (`call-permit`). And what a valid file gives the search.
 use mathlib.Core.Path.{_≡_, refl, sym, _∙_, ap}
-use mathlib.Core.Bool.{Bool, true, false, cond}
 use mathlib.Core.List.{List}
 use Prim.Native.Nat.{ℕ, _≤_, _<_}
 use native.Mathlib.Omega.{arith}
-use lib.ListN.{length}
-use lib.Dec.{eqb, ltb}
-use borrow.Author.Tests.{ltb-false}
+use lib.ListN.{length, take, drop}
+use lib.Seq.{take-append-seam}
 use Rattle.theory_loops.specs.Fill.{tab, length-tab, tab-list, filled-none, filled-list, overwritten}
-use Rattle.theory_paths.specs.Graph.{Permit}
-use Rattle.theory_paths.specs.Earliest.{never}
+use Rattle.theory_paths.specs.Graph.{Graph, Permit}
 use Rattle.theory_paths.specs.Labels.{label, labels}
 use Rattle.theory_paths.specs.Chosen.{chosen}
 use Rattle.theory_paths.specs.Agree.{labels-permit, chosen-permit}
@@ -17,80 +15,86 @@ use Rattle.network.specs.declared.answer.Opening.{Opening}
 use Rattle.network.specs.declared.answer.Opening.the-variants.{Opened, Refused}
 use Rattle.network.specs.declared.header.Header.{Header}
 use Rattle.network.specs.declared.header.Layout.{Layout}
-use Rattle.network.specs.Network.{Network, nodes, arcs}
+use Rattle.network.specs.Network.{nodes, arcs}
 use Rattle.network.specs.Layout.{layoutOf}
 use Rattle.network.specs.Decode.{decode, Laid}
 use Rattle.network.specs.Sound.{SoundNetwork}
 use Rattle.network.specs.Valid.{ValidFile, valid-laid}
 use Rattle.network.specs.Town.{graphOf}
-use Rattle.search_path.specs.declared.Trip.{Trip}
-use Rattle.search_path.specs.declared.Outcome.{Outcome}
-use Rattle.search_path.specs.declared.Outcome.the-variants.{Arrived, NoWay, Short}
-use Rattle.search_path.specs.Answer.{Answered, outcomeOf, entryOf}
+use Rattle.search_path.specs.Answer.{Answered, answerOf, pathOf, searched, entryOf, count-is, not-both}
 use Rattle.search_path.specs.Trim.{shown}
+use Rattle.search_path.specs.declared.answer.Arrival.{Arrival}
 use Rattle.search_path.specs.declared.answer.Answer.{Answer}
 use Rattle.search_path.specs.declared.answer.Answer.the-variants as answer
-use Rattle.trip_call.specs.Trip.{told, searched, tripArrivals, tripRoads}
-
--- an arrival's count is the chosen path's, and there is room for it
-pub count-is : (tick count room : ℕ) (a : Trip) → Arrived a ≡ outcomeOf tick count room → (a .count ≡ count) × (count ≤ room)
-count-is tick count room a e = go (eqb tick never) (ltb room count) refl e
-  where
-    zero-one : _≡_ {A = ℕ} 0 1 → ⊥
-    zero-one z = omega arith
-
-    go : (b d : Bool) → ltb room count ≡ d → Arrived a ≡ cond b NoWay (cond d Short (Arrived (record { tick = tick; count = count }))) → (a .count ≡ count) × (count ≤ room)
-    go true d q z = absurd (zero-one (cc))
-    go false true q z = absurd (zero-one (cc))
-    go false false q z =
-        let y : a ≡ record { tick = tick; count = count } = cc in
-        (ap (λ (t : Trip). t .count) y, ltb-false room count q)
+use Rattle.trip_call.specs.Trip.{tripAnswer, tripArrivals, tripRoads, TripCall}
 
 -- WHAT THE SEARCH LEAVES, as the trip says it
-module _ (n : Network) (p : Permit) (s x t : ℕ) (arrivals₀ arrivals roads₀ roads : List ℕ) where
-  abbrev path : List ℕ
-  path = chosen (graphOf n) p s (labels (graphOf n) p s x) t
+module _ {g : Graph} {p : Permit} {s x t : ℕ} {arrivals₀ arrivals₁ roads₀ roads₁ : List ℕ} where
+  roads-are : (a : Answer) → Answered g p s x t arrivals₀ arrivals₁ roads₀ roads₁ a
+      → roads₁ ≡ tripRoads a g p s t x roads₀
+  roads-are (answer.Arrived r) q =
+      let w = pathOf g p s t x in
+      let (c, l) = count-is (label (labels g p s x) t) (length w) (length roads₀) r (q .told .answer) in
+      filled-list (entryOf w) (length w) roads₀ roads₁ l (rw c at (q .told .writes)) ∙ rw (tab-list w)
+  roads-are (answer.Refused r) q = filled-none _ 0 roads₀ roads₁ (q .told .writes)
 
-  pub answer-is : (r : Outcome) (a : Answer) → Answered (graphOf n) p s x t arrivals₀ arrivals roads₀ roads r → a ≡ told r
-      → a ≡ told (searched n p s t x (length roads₀))
-  answer-is r a q e = e ∙ ap told (q .told .outcome)
+  pub answered-call : (h : Header) (a : Answer) → g .nodes ≤ length arrivals₀
+      → Answered g p s x t arrivals₀ arrivals₁ roads₀ roads₁ a
+      → TripCall (Opened h) g p s t x arrivals₀ arrivals₁ roads₀ roads₁ a
+  answered-call h a l q = record {
+    answer = q .told .answer;
+    arrivals = rw length-tab (filled-list _ (g .nodes) arrivals₀ arrivals₁ l (q .shows));
+    roads = roads-are a q;
+  }
 
-  arrivals-are : (r : Outcome) → Answered (graphOf n) p s x t arrivals₀ arrivals roads₀ roads r → nodes n ≤ length arrivals₀
-      → arrivals ≡ overwritten (tab (nodes n) (shown (labels (graphOf n) p s x) t)) arrivals₀
-  arrivals-are r q l = rw length-tab (filled-list _ (nodes n) arrivals₀ arrivals l (q .shows))
+-- WHAT A CALL THAT ARRIVES has listed: as many roads as it counts, and they are the chosen path
+module _ {b : Opening} {g : Graph} {p : Permit} {s t x : ℕ} {arrivals₀ arrivals₁ roads₀ roads₁ : List ℕ}
+    {a : Answer}
+    (c : TripCall b g p s t x arrivals₀ arrivals₁ roads₀ roads₁ a) (r : Arrival)
+    (q : a ≡ answer.Arrived r) where
+  pub call-count : (r .count ≡ length (pathOf g p s t x)) × (length (pathOf g p s t x) ≤ length roads₀)
+  call-count = go b (sym q ∙ c .answer)
+    where
+      go : (d : Opening) → answer.Arrived r ≡ tripAnswer d (searched g p s t x (length roads₀))
+          → (r .count ≡ length (pathOf g p s t x)) × (length (pathOf g p s t x) ≤ length roads₀)
+      go (Refused k) e = not-both r e
+      go (Opened h) e = count-is (label (labels g p s x) t) (length (pathOf g p s t x)) (length roads₀) r e
 
-  roads-by : (r : Outcome) → Answered (graphOf n) p s x t arrivals₀ arrivals roads₀ roads r → roads ≡ tripRoads (told r) n p s t x roads₀
-  roads-by (Arrived a) q =
-      let (c, l) = count-is (label (labels (graphOf n) p s x) t) (length path) (length roads₀) a (q .told .outcome) in
-      filled-list (entryOf path) (length path) roads₀ roads l (rw c at (q .told .writes)) ∙ rw (tab-list path)
-  roads-by NoWay q = filled-none _ 0 roads₀ roads (q .told .writes)
-  roads-by Short q = filled-none _ 0 roads₀ roads (q .told .writes)
-
-  pub roads-are : (r : Outcome) (a : Answer) → Answered (graphOf n) p s x t arrivals₀ arrivals roads₀ roads r → a ≡ told r → roads ≡ tripRoads a n p s t x roads₀
-  roads-are r a q e = rw e (roads-by r q)
-
--- for `search drives` where a search is told
-pub ruleset drives = (answer-is, roads-are)
+  pub call-roads : take (r .count) roads₁ ≡ pathOf g p s t x
+  call-roads =
+      rw (rw q at (c .roads), call-count .0)
+      (take-append-seam (pathOf g p s t x) (drop (length (pathOf g p s t x)) roads₀))
 
 -- PERMISSIONS that agree on the arcs give the same trip
-module _ (n : Network) (p q : Permit) (o : 0 < n .period) (h : (a : ℕ) → a < arcs n → p a ≡ q a) (s t x : ℕ) where
-  same-labels : labels (graphOf n) p s x ≡ labels (graphOf n) q s x
-  same-labels = labels-permit (graphOf n) p q o h s x
+module _ (g : Graph) (p q : Permit) (o : 0 < g .period) (same : (a : ℕ) → a < g .arcs → p a ≡ q a)
+    (s t x : ℕ) where
+  same-labels : labels g p s x ≡ labels g q s x
+  same-labels = labels-permit g p q o same s x
 
-  same-path : chosen (graphOf n) p s (labels (graphOf n) p s x) t ≡ chosen (graphOf n) q s (labels (graphOf n) q s x) t
-  same-path = ap (λ (L : List ℕ). chosen (graphOf n) p s L t) same-labels ∙ chosen-permit (graphOf n) p q o h s (labels (graphOf n) q s x) t
+  same-path : pathOf g p s t x ≡ pathOf g q s t x
+  same-path =
+      ap (λ (L : List ℕ). chosen g p s L t) same-labels ∙ chosen-permit g p q o same s (labels g q s x) t
 
-  pub searched-same : (room : ℕ) → searched n p s t x room ≡ searched n q s t x room
-  searched-same room = ap (λ (w : List ℕ). outcomeOf (label (labels (graphOf n) p s x) t) (length w) room) same-path
-      ∙ ap (λ (L : List ℕ). outcomeOf (label L t) (length (chosen (graphOf n) q s (labels (graphOf n) q s x) t)) room) same-labels
+  searched-same : (room : ℕ) → searched g p s t x room ≡ searched g q s t x room
+  searched-same room = ap (λ (w : List ℕ). answerOf (label (labels g p s x) t) (length w) room) same-path
+      ∙ ap (λ (L : List ℕ). answerOf (label L t) (length (pathOf g q s t x)) room) same-labels
 
-  pub arrivals-same : (b : Opening) (old : List ℕ) → tripArrivals b n p s t x old ≡ tripArrivals b n q s t x old
+  arrivals-same : (b : Opening) (old : List ℕ) → tripArrivals b g p s t x old ≡ tripArrivals b g q s t x old
   arrivals-same (Refused r) old = refl
-  arrivals-same (Opened r) old = ap (λ (L : List ℕ). overwritten (tab (nodes n) (shown L t)) old) same-labels
+  arrivals-same (Opened r) old = ap (λ (L : List ℕ). overwritten (tab (g .nodes) (shown L t)) old) same-labels
 
-  pub roads-same : (a : Answer) (old : List ℕ) → tripRoads a n p s t x old ≡ tripRoads a n q s t x old
+  roads-same : (a : Answer) (old : List ℕ) → tripRoads a g p s t x old ≡ tripRoads a g q s t x old
   roads-same (answer.Arrived a) old = ap (λ (w : List ℕ). overwritten w old) same-path
   roads-same (answer.Refused r) old = refl
+
+  pub call-permit : {b : Opening} {arrivals₀ arrivals₁ roads₀ roads₁ : List ℕ} {a : Answer}
+      → TripCall b g p s t x arrivals₀ arrivals₁ roads₀ roads₁ a
+      → TripCall b g q s t x arrivals₀ arrivals₁ roads₀ roads₁ a
+  call-permit {b} {arrivals₀} {roads₀ = roads₀} {a = a} c = record {
+    answer = c .answer ∙ ap (tripAnswer b) (searched-same (length roads₀));
+    arrivals = c .arrivals ∙ arrivals-same b arrivals₀;
+    roads = c .roads ∙ roads-same a roads₀;
+  }
 
 -- WHAT A VALID FILE GIVES the search
 module _ {file : List ℕ} {h : Header} (v : ValidFile file h) where
@@ -116,12 +120,17 @@ module _ {file : List ℕ} {h : Header} (v : ValidFile file h) where
   unfolding decode
   drive-period = ap (λ (k : Header). k .period) (sym (v .is))
 
-pub drive-sizes : (l : Layout) (h : Header) → l ≡ layoutOf h → (l .nodes ≡ h .nodes) × (l .arcs ≡ h .arcs) × (l .period ≡ h .period)
+pub drive-sizes : (l : Layout) (h : Header) → l ≡ layoutOf h
+    → (l .nodes ≡ h .nodes) × (l .arcs ≡ h .arcs) × (l .period ≡ h .period)
 unfolding layoutOf
-drive-sizes l h e = (ap (λ (k : Layout). k .nodes) e, ap (λ (k : Layout). k .arcs) e, ap (λ (k : Layout). k .period) e)
+drive-sizes l h e =
+    (ap (λ (k : Layout). k .nodes) e, ap (λ (k : Layout). k .arcs) e, ap (λ (k : Layout). k .period) e)
 
-pub arrivals-told : (file : List ℕ) (h : Header) (p : Permit) (s x t : ℕ) (arrivals₀ arrivals roads₀ roads : List ℕ) (r : Outcome) → ValidFile file h
-    → Answered (graphOf (decode file)) p s x t arrivals₀ arrivals roads₀ roads r → h .nodes ≤ length arrivals₀
-    → arrivals ≡ overwritten (tab (nodes (decode file)) (shown (labels (graphOf (decode file)) p s x) t)) arrivals₀
-arrivals-told file h p s x t arrivals₀ arrivals roads₀ roads r v q l =
-    arrivals-are (decode file) p s x t arrivals₀ arrivals roads₀ roads r q (omega (arith, drive-nodes v))
+-- FOR `drive`: the search of a valid file answers the call
+pub driven-call : (file : List ℕ) (h : Header) (p : Permit) (s x t : ℕ)
+    (arrivals₀ arrivals₁ roads₀ roads₁ : List ℕ) (a : Answer)
+    → ValidFile file h → h .nodes ≤ length arrivals₀
+    → Answered (graphOf (decode file)) p s x t arrivals₀ arrivals₁ roads₀ roads₁ a
+    → TripCall (Opened h) (graphOf (decode file)) p s t x arrivals₀ arrivals₁ roads₀ roads₁ a
+driven-call file h p s x t arrivals₀ arrivals₁ roads₀ roads₁ a v l q =
+    answered-call h a (omega (arith, drive-nodes v)) q

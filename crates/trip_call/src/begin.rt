@@ -1,4 +1,7 @@
 // The refusals 25 to 27 of a trip, once its files are well.
+use file_refusals::number::ARRIVALS_SHORT;
+use file_refusals::number::DEPARTURE;
+use file_refusals::number::PLACE;
 use network::answer::Opening;
 use network::answer::refused;
 use network::header::Header;
@@ -10,16 +13,16 @@ pub fn ask(h: Header, from: u32, to: u32, departure: u32, room: usize) -> Openin
     ensures { λ r. ⌜ r ≡ asked h from to departure room ⌝ }
 {
     if h.nodes as u32 <= from {
-        return refused(25, from);
+        return refused(PLACE, from);
     }
     if h.nodes as u32 <= to {
-        return refused(25, to);
+        return refused(PLACE, to);
     }
     if h.period as u32 <= departure {
-        return refused(26, 0);
+        return refused(DEPARTURE, 0);
     }
     if room < h.nodes as usize {
-        return refused(27, 0);
+        return refused(ARRIVALS_SHORT, 0);
     }
     Opening::Opened(h)
 }

@@ -1,114 +1,179 @@
 -- Laws for the entries: from what an operation answered to what the call returns and leaves.
 use mathlib.Core.Path.{_≡_, refl, sym, _∙_, ap}
-use mathlib.Core.List.{List}
+use mathlib.Core.List.{List, _++_}
 use Prim.Native.Nat.{ℕ, _≤_, _<_}
 use native.Mathlib.Omega.{arith}
-use lib.ListN.{length, take, drop, replicate, length-replicate}
-use lib.Seq.{sets, take-append-seam}
+use lib.ListN.{length, take, replicate}
+use lib.Seq.{sets, take-length}
 use borrow.Author.Tests.{lt-ltb, le-ltb}
-use Rattle.theory_loops.specs.Stores.{stored-front}
-use Rattle.theory_paths.specs.Graph.{Permit, all}
-use Rattle.theory_paths.specs.Labels.{label, labels}
-use Rattle.network.specs.declared.answer.Opening.{Opening}
-use Rattle.network.specs.declared.answer.Opening.the-variants.{Opened, Refused}
-use Rattle.network_pack.specs.declared.pack.Packing.{Packing}
-use Rattle.network.specs.Network.{Network}
-use Rattle.network.specs.Decode.{decode}
 use Rattle.theory_loops.specs.Fill.{overwritten}
-use Rattle.network_open.specs.Open.{tableAfter}
-use Rattle.network_pack.specs.Pack.{bytesAfter}
-use Rattle.network.specs.Town.{graphOf, partitionOf}
-use Rattle.plan.specs.PlanDecode.{decodePlan}
-use Rattle.plan.specs.Plan.{towards}
+use Rattle.theory_loops.specs.Stores.{stored-front}
+use Rattle.theory_paths.specs.Graph.{Graph, Permit, all}
+use Rattle.file_refusals.specs.Says.{Says, numbersOf}
+use Rattle.network.specs.declared.answer.Opening.{Opening}
+use Rattle.network.specs.declared.header.Header.{Header}
+use Rattle.network.specs.Answer.{openingSays}
+use Rattle.network.specs.Limits.{mostRoads}
+use Rattle.network.specs.Tables.{Tables}
+use Rattle.network_open.specs.Open.{OpenCall}
+use Rattle.network_pack.specs.Answer.{packingSays}
+use Rattle.network_pack.specs.Pack.{PackCall}
+use Rattle.network_pack.specs.declared.pack.Packing.{Packing}
 use Rattle.search_path.specs.declared.answer.Arrival.{Arrival}
 use Rattle.search_path.specs.declared.answer.Answer.{Answer}
-use Rattle.search_path.specs.declared.answer.Answer.the-variants as answer
-use Rattle.trip_call.specs.Trip.{searched, tripAnswer, tripRoads}
-use Rattle.trip_call.specs.Drive.{count-is}
-use Rattle.trip.specs.Plain.{plainBegin, begun}
-use Rattle.trip.specs.Flagged.{flaggedBegin}
-use Rattle.trip.specs.Promise.{told-trip}
-use Rattle.trip.specs.Numbers.{plain-before, flagged-before, flagged-begun, count-few}
-use Rattle.c_replies.specs.Reply.{tripBytes, tripCode, tripCount}
+use Rattle.search_path.specs.declared.answer.Answer.the-variants.{Arrived, Refused}
+use Rattle.search_path.specs.Answer.{pathOf}
+use Rattle.search_path.specs.Says.{tripSays, tripCount}
+use Rattle.trip_call.specs.Trip.{TripCall}
+use Rattle.trip_call.specs.Drive.{call-count, call-roads}
+use Rattle.trip.specs.Flagged.{flaggedArcs}
+use Rattle.trip.specs.Promise.{trip-arrived}
+use Rattle.trip.specs.Numbers.{plain-begins, flagged-begins}
+use Rattle.trip.specs.Calls.{plainAnswer, flaggedAnswer}
+use Rattle.c_replies.specs.Reply.{tripSize, bytes, roadBytes, tripBytes}
+use Rattle.c_replies.specs.Writing.{trip-long}
 use Rattle.varnwalnut.specs.Room.{roomed, kept}
-use Rattle.c_replies.specs.Writing.{arrived-long, refused-long}
-use Rattle.trip.specs.Calls.{pathOf, plainAnswer, flaggedAnswer}
+use Rattle.varnwalnut.specs.Replies.{TripReply, DeskReply, OpenReply, PackReply, TripDesk}
 
 -- ROOM
 module _ (w room : ℕ) where
-  pub room-short : (code r : ℕ) → room < w → r ≡ 31 → r ≡ roomed w room code
+  room-short : (code r : ℕ) → room < w → r ≡ 31 → r ≡ roomed w room code
   unfolding roomed
   room-short code r l e = rw (lt-ltb room w l) e
 
-  pub room-enough : (code r : ℕ) → w ≤ room → r ≡ code → r ≡ roomed w room code
+  room-enough : (code r : ℕ) → w ≤ room → r ≡ code → r ≡ roomed w room code
   unfolding roomed
   room-enough code r l e = rw (le-ltb room w l) e
 
-  pub kept-short : (old new : List ℕ) → room < w → old ≡ kept w room old new
+  kept-short : {A : Type 0} (old new : A) → room < w → old ≡ kept w room old new
   unfolding kept
   kept-short old new l = rw (lt-ltb room w l)
 
-  pub kept-enough : (old : List ℕ) {new s : List ℕ} → w ≤ room → s ≡ new → s ≡ kept w room old new
+  kept-enough : {A : Type 0} (old : A) {new s : A} → w ≤ room → s ≡ new → s ≡ kept w room old new
   unfolding kept
   kept-enough old l e = rw (le-ltb room w l) e
 
--- for `search enough` where there is room
-pub ruleset enough = (room-enough, kept-enough)
+-- THE DESK'S REPLIES
+module _ (w : ℕ) (says : Says) (before : List ℕ) (r : ℕ) where
+  pub desk-short : length before < w → r ≡ 31 → DeskReply w says before before r
+  desk-short l e = record { code = room-short w _ _ r l e; numbers = kept-short w _ before _ l }
 
--- THE TABLET'S TRIPS: what comes before the search is b, the answer is a, and `roads` is the list of 511 roads after the call
-module _ (b : Opening) (n : Network) (p : Permit) (s t x : ℕ) (a : Answer) (roads : List ℕ)
-    (e : a ≡ tripAnswer b (searched n p s t x (length (replicate {A = ℕ} 511 0)))) (f : roads ≡ tripRoads a n p s t x (replicate 511 0)) where
-  arrival-is : (r : Arrival) → a ≡ answer.Arrived r → (r .count ≡ length (pathOf n p s t x)) × (length (pathOf n p s t x) ≤ 511)
-  arrival-is r q = go b (sym e ∙ q)
-    where
-      go : (c : Opening) → tripAnswer c (searched n p s t x (length (replicate {A = ℕ} 511 0))) ≡ answer.Arrived r
-          → (r .count ≡ length (pathOf n p s t x)) × (length (pathOf n p s t x) ≤ 511)
-      go (Refused k) z = let y : _≡_ {A = ℕ} 0 1 = cc in absurd (omega arith)
-      go (Opened h) z =
-          let (k, i, j, m) = told-trip (searched n p s t x (length (replicate {A = ℕ} 511 0))) r z in
-          let (c, l) = count-is (label (labels (graphOf n) p s x) t) (length (pathOf n p s t x)) (length (replicate {A = ℕ} 511 0)) k (sym i) in
-          (sym m ∙ c, rw length-replicate at l)
+  pub desk-written : (after : List ℕ) → w ≤ length before → r ≡ says .number
+      → after ≡ overwritten (numbersOf says) before → DeskReply w says before after r
+  desk-written after l e f = record { code = room-enough w _ _ r l e; numbers = kept-enough w _ before l f }
 
-  listed : tripBytes a (take (tripCount a) roads) ≡ tripBytes a (pathOf n p s t x)
-  listed = go a refl f
-    where
-      go : (c : Answer) → a ≡ c → roads ≡ tripRoads c n p s t x (replicate 511 0) → tripBytes c (take (tripCount c) roads) ≡ tripBytes c (pathOf n p s t x)
-      go (answer.Arrived r) q g =
-          let (i, j) = arrival-is r q in
-          ap (tripBytes (answer.Arrived r)) (rw (g, i) (take-append-seam (pathOf n p s t x) (drop (length (pathOf n p s t x)) (replicate 511 0))))
-      go (answer.Refused r) q g = refl
+-- OPEN AND PACK: o is what the operation answered, and `after` what was written of it
+module _ (file : List ℕ) (tables₀ : Tables) (before : List ℕ) (r : ℕ) where
+  pub open-short : length before < 9 → r ≡ 31 → OpenReply file tables₀ tables₀ before before r
+  open-short l e = record { reply = desk-short 9 _ before r l e; written = kept-short 9 _ tables₀ _ l }
 
-  pub call-code : (room r : ℕ) → 1032 ≤ room → r ≡ tripCode a → r ≡ roomed 1032 room (tripCode (tripAnswer b (searched n p s t x 511)))
-  call-code room r l q = room-enough 1032 room _ r l (q ∙ ap tripCode e)
+  pub open-written : (o : Opening) (tables₁ : Tables) (after : List ℕ) → 9 ≤ length before
+      → OpenCall file tables₀ tables₁ o → r ≡ openingSays o .number
+      → after ≡ overwritten (numbersOf (openingSays o)) before → OpenReply file tables₀ tables₁ before after r
+  open-written o tables₁ after l c e f =
+      let q = c .answer in
+      record {
+        reply = rw q at (desk-written 9 (openingSays o) before r after l e f);
+        written = kept-enough 9 _ tables₀ l (rw q at (c .written));
+      }
 
-  long : length (tripBytes a (pathOf n p s t x)) ≤ 1032
-  long = go a refl
-    where
-      go : (c : Answer) → a ≡ c → length (tripBytes c (pathOf n p s t x)) ≤ 1032
-      go (answer.Arrived r) q = let (i, j) = arrival-is r q in omega (arith, arrived-long r (pathOf n p s t x))
-      go (answer.Refused r) q = omega (arith, refused-long r (pathOf n p s t x))
+module _ (h : Header) (t : Tables) (out₀ before : List ℕ) (r : ℕ) where
+  pub pack-short : length before < 4 → r ≡ 31 → PackReply h t out₀ out₀ before before r
+  pack-short l e = record { reply = desk-short 4 _ before r l e; written = kept-short 4 _ out₀ _ l }
 
-  pub call-bytes : (old new : List ℕ) → 1032 ≤ length old → new ≡ sets old 0 (tripBytes a (take (tripCount a) roads))
-      → new ≡ kept 1032 (length old) old (overwritten (tripBytes (tripAnswer b (searched n p s t x 511)) (pathOf n p s t x)) old)
-  call-bytes old new l q =
-      let z = stored-front (tripBytes a (pathOf n p s t x)) old (omega (arith, long)) in
-      kept-enough 1032 (length old) old l
-      (q ∙ ap (λ (v : List ℕ). sets old 0 v) listed ∙ z ∙ ap (λ (c : Answer). overwritten (tripBytes c (pathOf n p s t x)) old) e)
+  pub pack-written : (o : Packing) (out₁ after : List ℕ) → 4 ≤ length before
+      → PackCall h t out₀ out₁ o → r ≡ packingSays o .number
+      → after ≡ overwritten (numbersOf (packingSays o)) before → PackReply h t out₀ out₁ before after r
+  pack-written o out₁ after l c e f =
+      let q = c .answer in
+      record {
+        reply = rw q at (desk-written 4 (packingSays o) before r after l e f);
+        written = kept-enough 4 _ out₀ l (rw q at (c .written));
+      }
 
--- a trip counts at most 511 roads
-few-roads : (a : Answer) → ((r : Arrival) → a ≡ answer.Arrived r → r .count ≤ 511) → tripCount a ≤ 511
-few-roads (answer.Arrived r) h = h r refl
-few-roads (answer.Refused r) h = omega arith
+-- THE TRIPS WITH LISTS
+module _ (b : Opening) (g : Graph) (p : Permit) (s t x : ℕ) (arrivals₀ roads₀ before : List ℕ) (r : ℕ) where
+  pub lists-short : length before < 5 → r ≡ 31
+      → TripDesk b g p s t x arrivals₀ arrivals₀ roads₀ roads₀ before before r
+  lists-short l e = record {
+    reply = desk-short 5 _ before r l e;
+    arrivals = kept-short 5 _ arrivals₀ _ l;
+    roads = kept-short 5 _ roads₀ _ l;
+  }
 
-pub plain-count : (network : List ℕ) (from to departure room free : ℕ) (a : Answer) → a ≡ plainAnswer network from to departure room free → tripCount a ≤ 511
+  pub lists-written : (a : Answer) (arrivals₁ roads₁ after : List ℕ) → 5 ≤ length before
+      → TripCall b g p s t x arrivals₀ arrivals₁ roads₀ roads₁ a → r ≡ tripSays a .number
+      → after ≡ overwritten (numbersOf (tripSays a)) before
+      → TripDesk b g p s t x arrivals₀ arrivals₁ roads₀ roads₁ before after r
+  lists-written a arrivals₁ roads₁ after l c e f =
+      let q = c .answer in
+      record {
+        reply = rw q at (desk-written 5 (tripSays a) before r after l e f);
+        arrivals = kept-enough 5 _ arrivals₀ l (c .arrivals);
+        roads = kept-enough 5 _ roads₀ l (rw q at (c .roads));
+      }
+
+-- THE TABLET'S TRIPS: where the trip a arrives, its count is the path's length, and the list of the most
+-- roads begins with the path
+pub record Lists (a : Answer) (path roads : List ℕ) : Type 0 where
+  pub counted : (r : Arrival) → a ≡ Arrived r → r .count ≡ length path
+  pub few : (r : Arrival) → a ≡ Arrived r → length path ≤ mostRoads
+  pub listed : (r : Arrival) → a ≡ Arrived r → take (length path) roads ≡ path
+
+module _ (path roads : List ℕ) where
+  same-bytes : (a : Answer) → Lists a path roads → tripBytes a roads ≡ tripBytes a path
+  same-bytes (Refused r) h = refl
+  same-bytes (Arrived r) h =
+      let q = h .counted r refl in
+      ap (λ (w : List ℕ). bytes 4 0 ++ bytes 4 (r .tick) ++ bytes 2 (r .count) ++ roadBytes w)
+      (rw q (h .listed r refl ∙ sym (take-length path)))
+
+  room-for : (a : Answer) → Lists a path roads → length (tripBytes a path) ≤ tripSize
+  room-for (Refused r) h = omega (arith, trip-long (Refused r) path)
+  room-for (Arrived r) h =
+      let q = h .counted r refl in
+      let l : length (take (r .count) path) ≡ length path = rw (q, take-length path) in
+      omega (arith, trip-long (Arrived r) path, l, h .few r refl)
+
+  pub trip-written : (a call : Answer) (before after : List ℕ) (r : ℕ) → a ≡ call → Lists a path roads
+      → tripSize ≤ length before → r ≡ tripSays a .number → after ≡ sets before 0 (tripBytes a roads)
+      → TripReply call path before after r
+  trip-written a call before after r q h l e f =
+      let z = stored-front (tripBytes a path) before (omega (arith, room-for a h)) in
+      rw (← q)
+      (record {
+        code = room-enough tripSize _ _ r l e;
+        bytes = kept-enough tripSize _ before l (f ∙ ap (sets before 0) (same-bytes a h) ∙ z);
+      })
+
+pub trip-short : (a : Answer) (path before : List ℕ) (r : ℕ) → length before < tripSize → r ≡ 31
+    → TripReply a path before before r
+trip-short a path before r l e =
+    record { code = room-short tripSize _ _ r l e; bytes = kept-short tripSize _ before _ l }
+
+-- a trip over permitted arcs with a fresh list of the most roads, which is `roads` after it
+module _ (b : Opening) (g : Graph) (p : Permit) (s t x : ℕ) (a : Answer) (arrivals₀ arrivals roads : List ℕ)
+    (c : TripCall b g p s t x arrivals₀ arrivals (replicate mostRoads 0) roads a) where
+  pub trip-lists : Lists a (pathOf g p s t x) roads
+  trip-lists = record {
+    counted = λ r q. call-count c r q .0;
+    few = λ r q. call-count c r q .1;
+    listed = λ r q. rw (call-count c r q .0) at (call-roads c r q);
+  }
+
+-- a trip counts no more roads than the most
+few-roads : (a : Answer) → ((r : Arrival) → a ≡ Arrived r → r .count ≤ mostRoads) → tripCount a ≤ mostRoads
+few-roads (Arrived r) h = h r refl
+few-roads (Refused r) h = omega arith
+
+pub plain-count : (network : List ℕ) (from to departure room free : ℕ) (a : Answer)
+    → a ≡ plainAnswer network from to departure room free → tripCount a ≤ mostRoads
 plain-count network from to departure room free a e =
-    few-roads a (λ r q. count-few network all from to departure room free (plainBegin network from to departure room)
-    (plain-before network from to departure room) (λ h. begun network h from to departure room) r (sym e ∙ q))
+    few-roads a (λ r q. trip-arrived (plain-begins network from to departure room) all free e r q .few)
 
-pub flagged-count : (network plan : List ℕ) (from to departure room free : ℕ) (a : Answer) → a ≡ flaggedAnswer network plan from to departure room free → tripCount a ≤ 511
+pub flagged-count : (network plan : List ℕ) (from to departure room free : ℕ) (a : Answer)
+    → a ≡ flaggedAnswer network plan from to departure room free → tripCount a ≤ mostRoads
 flagged-count network plan from to departure room free a e =
-    few-roads a (λ r q. count-few network (towards (partitionOf (decode network)) (decodePlan plan) to) from to departure room free (flaggedBegin network plan from to departure room)
-    (flagged-before network plan from to departure room) (λ h. flagged-begun network plan h from to departure room) r (sym e ∙ q))
-
--- for `search callings` in the entries
-pub ruleset callings = (room-short, kept-short, call-code, call-bytes)
+    few-roads a
+    (λ r q. trip-arrived (flagged-begins network from to departure room plan) (flaggedArcs network plan to)
+    free e r q .few)

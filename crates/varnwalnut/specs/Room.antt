@@ -1,6 +1,5 @@
 -- Too little room for an answer is refused first, and nothing is written.
 use mathlib.Core.Bool.{cond}
-use mathlib.Core.List.{List}
 use Prim.Native.Nat.{ℕ}
 use lib.Dec.{ltb}
 
@@ -9,5 +8,5 @@ unfoldable pub roomed : ℕ → ℕ → ℕ → ℕ
 roomed w room code = cond (ltb room w) 31 code
 
 -- and then what is lent stays as it was
-unfoldable pub kept : ℕ → ℕ → List ℕ → List ℕ → List ℕ
+unfoldable pub kept : {A : Type 0} → ℕ → ℕ → A → A → A
 kept w room old new = cond (ltb room w) old new

@@ -1,10 +1,7 @@
-// varnwalnut: the C library. It owns its entries, and nothing else: each tests the room for its answer, calls one operation and writes what that answered.
-// include/varnwalnut.h declares the entries for C.
-//   trip     the tablet's two trips: an answer in bytes
+// varnwalnut: the C library. It owns its entries, and nothing else: each tests the room for its answer, calls
+// one operation and writes what that answered. include/varnwalnut.h declares the entries for C.
+//   tablet   the tablet's two trips: an answer in bytes
 //   desk     check, open, pack and the trips with lent lists: an answer in numbers
-// It may call every operation, and `replies` to write what it answered. No entry requires anything.
+// It may call every operation, and `c_replies` to write what it answered. No entry requires anything.
 pub mod desk;
-pub mod trip;
-
-// The refusal of an answer for which there is too little room.
-pub(crate) const SHORT: u32 = 31;
+pub mod tablet;

@@ -1,5 +1,6 @@
-//! What a reader has to believe, read off the files: the definitions that the public contracts reach, and
-//! those that the promises reach besides. It runs in the repository's folder and proves nothing.
+//! What a reader has to believe, read off the files: the definitions that the C library's contracts reach, and
+//! those that the programs' contracts and the promises reach besides. It runs in the repository's folder and
+//! proves nothing.
 
 mod antt;
 mod documents;
@@ -21,7 +22,7 @@ use repository::Repository;
 use std::process::ExitCode;
 
 const USAGE: &str = "usage: tools/believe [--check | --write | --rooms | --unused]
-  without a word  the table of what the public contracts reach, and that of what the promises reach besides
+  without a word  the tables of what the C library's contracts reach, and besides the run sheet's and the promises
   --check         are the tables in docs/TRUST.md and docs/ARCHITECTURE.md what the files say?
   --write         puts them in
   --rooms         the table of the crates
@@ -51,7 +52,7 @@ fn answer(words: &[&str]) -> Result<String, String> {
         ["--check"] => documents::check(&all_parts(repository)?),
         ["--write"] => documents::write(&all_parts(repository)?).map(|()| String::new()),
         ["--rooms"] => rooms::table(repository),
-        ["--unused"] => unused::list(repository, &reach::from_contracts(repository)?),
+        ["--unused"] => unused::list(repository, &all_contracts(repository)?),
         _ => Err(USAGE.to_string()),
     }
 }
@@ -65,14 +66,24 @@ fn titled(part: &Part) -> String {
     format!("## From the {}\n\n{}", part.name, part.table)
 }
 
-/// The two tables of docs/TRUST.md.
+/// What all contracts reach, those that C calls and those of programs.
+fn all_contracts(repository: &Repository) -> Result<Reached, String> {
+    let mut all = reach::from_contracts(repository, true)?;
+    all.extend(reach::from_contracts(repository, false)?);
+    Ok(all)
+}
+
+/// The three tables of docs/TRUST.md.
 fn parts(repository: &Repository) -> Result<Vec<Part>, String> {
-    let contracts = reach::from_contracts(repository)?;
-    let promises = reach::from_promises(repository, &contracts)?;
+    let library = reach::from_contracts(repository, true)?;
+    let programs = reach::from_contracts(repository, false)?;
+    let all = all_contracts(repository)?;
+    let promises = reach::from_promises(repository, &all)?;
     let part = |name, table| Part { document: "docs/TRUST.md", name, table };
     Ok(vec![
-        part("contracts", tables::table(repository, &contracts, &Reached::new())),
-        part("promises", tables::table(repository, &promises, &contracts)),
+        part("contracts", tables::table(repository, &library, &Reached::new())),
+        part("programs", tables::table(repository, &programs, &library)),
+        part("promises", tables::table(repository, &promises, &all)),
     ])
 }
 

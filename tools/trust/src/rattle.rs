@@ -15,6 +15,8 @@ pub struct Code {
 
 pub struct Function {
     pub public: bool,
+    /// It is called from C.
+    pub exported: bool,
     pub parameters: Vec<String>,
     /// The words of its signature, types among them.
     pub words: Vec<String>,
@@ -113,7 +115,8 @@ fn read_function(lines: &[Line]) -> Result<Function, String> {
         i += length;
     }
     let public = signature.starts_with("pub ");
-    Ok(Function { public, parameters: parameters(signature), words: words(signature), clauses })
+    let exported = signature.starts_with("pub extern");
+    Ok(Function { public, exported, parameters: parameters(signature), words: words(signature), clauses })
 }
 
 /// The names before the colons of `f(name: type, name: type)`.

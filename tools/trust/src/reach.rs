@@ -3,6 +3,7 @@
 use crate::antt::Kind;
 use crate::names::{in_contract, in_definition, Extent};
 use crate::promises;
+use crate::rattle::Function;
 use crate::repository::{Crate, File, Repository, Target};
 use std::collections::{BTreeMap, BTreeSet};
 
@@ -15,11 +16,12 @@ const WORDS: [&str; 20] = [
     "absurd", "no", "tt", "yes",
 ];
 
-/// From the contracts of the public functions of the crates on top.
-pub fn from_contracts(repository: &Repository) -> Result<Reached, String> {
+/// From the contracts of the public functions of the crates on top: those that C calls, or the others.
+pub fn from_contracts(repository: &Repository, exported: bool) -> Result<Reached, String> {
     let mut start = Vec::new();
+    let wanted = |function: &&Function| function.public && function.exported == exported;
     for (i, file) in repository.codes.iter().enumerate().filter(|(_, file)| is_on_top(repository, file.of)) {
-        for function in file.text.functions.iter().filter(|function| function.public) {
+        for function in file.text.functions.iter().filter(wanted) {
             let names = in_contract(function, &file.scope);
             start.extend(targets(repository, file, &names)?);
             start.extend(repository.code_types(i, &function.words));
@@ -41,10 +43,11 @@ pub fn from_promises(repository: &Repository, contracts: &Reached) -> Result<Rea
     reach(repository, start.collect())
 }
 
-/// On top are the libraries that no other library calls: what they offer is for programs and for C.
+/// On top are the libraries that no other library with code calls: what they offer is for programs and for C.
 fn is_on_top(repository: &Repository, of: usize) -> bool {
     let is_root = |file: &File<_>, of: usize| file.of == of && file.path.ends_with("/src/lib.rt");
-    let is_library = |of: usize| repository.codes.iter().any(|file| is_root(file, of));
+    let has_code = |of: usize| repository.codes.iter().any(|f| f.of == of && !f.text.functions.is_empty());
+    let is_library = |of: usize| has_code(of) && repository.codes.iter().any(|file| is_root(file, of));
     let name = &repository.crates[of].name;
     let calls = |(i, other): (usize, &Crate)| other.calls.contains(name) && is_library(i);
     is_library(of) && !repository.crates.iter().enumerate().any(calls)

@@ -3,18 +3,12 @@ use Prim.Native.Nat.{_≤_, _-_}
 use borrow.Author.Needs.{needs}
 use Rattle.example_program.proofs.print_road.Statement.{statement}
 use Rattle.example_program.proofs.print_road.Tie as tie
-use Rattle.example_program.proofs.print_road.Reads as reads
-use Rattle.example_program.proofs.print_road.Lts as lts
-use Rattle.example_program.proofs.print.end_line.Reads as end-line-reads
-use Rattle.example_program.proofs.print.print_number.Reads as print-number-reads
-use Rattle.example_program.proofs.print.say.Reads as say-reads
-use Rattle.example_program.proofs.travel_at.Reads as travel-at-reads
 
 abbrev Inv-loop : tie.InvT-loop
-Inv-loop tick₀ t3 tick = tick ≤ 10
+Inv-loop file tick₀ t4 tick = tick ≤ 10
 
 abbrev μ-loop : tie.MeasureT-loop
-μ-loop tick₀ t3 tick = 10 - tick
+μ-loop file tick₀ t4 tick = 10 - tick
 
 slice-aggregate-say : tie.Need-slice-aggregate-say Inv-loop μ-loop
 slice-aggregate-say c = search needs
@@ -30,9 +24,6 @@ slice-aggregate-say-2 c = search needs
 
 say-requires-2 : tie.Need-say-requires-2 Inv-loop μ-loop
 say-requires-2 c κs = search needs
-
-cast-travel-at : tie.Need-cast-travel-at Inv-loop μ-loop
-cast-travel-at c = search needs
 
 travel-at-requires : tie.Need-travel-at-requires Inv-loop μ-loop
 travel-at-requires c κs = search needs
@@ -66,7 +57,6 @@ print-road-spec =
     loop-holds
     slice-aggregate-say-2
     say-requires-2
-    cast-travel-at
     travel-at-requires
     print-number-requires
     add-tick

@@ -1,22 +1,46 @@
--- `example_program::travel_at` meets its contract: road 1's points are a day's points.
-use Rattle.example_program.specs.Road.{road-points}
+-- `example_program::travel_at` meets its contract.
+use Rattle.example_program.specs.Road.{travels}
 use borrow.Author.Needs.{needs}
 use Rattle.example_program.proofs.travel_at.Statement.{statement}
 use Rattle.example_program.proofs.travel_at.Tie as tie
 
-slice-aggregate-value-at : tie.Need-slice-aggregate-value-at
-slice-aggregate-value-at c = search needs
+slice-aggregate-plain-trip : tie.Need-slice-aggregate-plain-trip
+slice-aggregate-plain-trip c = search needs
 
-slice-aggregate-value-at-2 : tie.Need-slice-aggregate-value-at-2
-slice-aggregate-value-at-2 c = search needs
+slice-aggregate-plain-trip-2 : tie.Need-slice-aggregate-plain-trip-2
+slice-aggregate-plain-trip-2 c = search needs
 
-value-at-requires : tie.Need-value-at-requires
-value-at-requires c κs = road-points
+plain-trip-requires : tie.Need-plain-trip-requires
+plain-trip-requires c κs = search needs
+
+enum-known-a : tie.Need-enum-known-a
+enum-known-a c = search needs
+
+sub-result : tie.Need-sub-result
+sub-result c = search needs
+
+enum-known-r : tie.Need-enum-known-r
+enum-known-r c = search needs
 
 returns : tie.Need-returns
-returns c = search needs
+returns c = search travels
+
+returns-2 : tie.Need-returns-2
+returns-2 c = search travels
+
+returns-3 : tie.Need-returns-3
+returns-3 c = search travels
 
 pub travel-at-spec : {M : Type 1} → statement M
 travel-at-spec =
     tie.close
-    (tie.spec slice-aggregate-value-at slice-aggregate-value-at-2 value-at-requires returns)
+    (tie.spec
+    slice-aggregate-plain-trip
+    slice-aggregate-plain-trip-2
+    plain-trip-requires
+    enum-known-a
+    sub-result
+    enum-known-r
+    returns
+    returns-2
+    returns-3)

@@ -1,4 +1,5 @@
--- `search_path::search` meets its contract: what holds of the lent part of the arrivals holds of the whole list.
+-- `search_path::search` meets its contract: what holds of the lent part of the arrivals holds of the whole
+-- list.
 use native.Mathlib.Omega.{arith}
 use lib.Seq.{length-take-le}
 use lib.ListN.{length-take}

@@ -1,4 +1,5 @@
--- `search_path::search_nodes` meets its contract: what is told by the labels that the search left is told by the true labels.
+-- `search_path::search_nodes` meets its contract: what is told by the labels that the search left is told by
+-- the true labels.
 use Rattle.search_path.specs.Answering.{answered, in-labels}
 use Rattle.search_labels.specs.Ready.{ready-of}
 use borrow.Author.Needs.{needs}
@@ -40,7 +41,8 @@ returns c =
     let r = o .before .before .before .before .before .before in
     let s = r .before .before .before .before .before .before .before .before .before in
     let n = s .pre .1 .1 in
-    answered (s .args .mask .now) (s .pre .0) (n .0) (n .1) (n .2) (s .pre .1 .0 .1) (r .reach .ensures) (o .tell .ensures) (t .trim .ensures)
+    answered (s .args .mask .now) (s .pre .0) (n .0) (n .1) (n .2) (s .pre .1 .0 .1) (r .reach .ensures)
+    (o .tell .ensures) (t .trim .ensures)
 
 pub search-nodes-spec : {M : Type 1} → statement M
 search-nodes-spec =

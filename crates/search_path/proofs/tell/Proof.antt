@@ -1,4 +1,4 @@
--- `search_path::tell` meets its contract: each way out is a case of `outcomeOf`.
+-- `search_path::tell` meets its contract: each way out is a case of `answerOf`.
 use Rattle.search_path.specs.Answering.{tells}
 use borrow.Author.Needs.{needs}
 use Rattle.search_path.proofs.tell.Statement.{statement}
@@ -10,11 +10,17 @@ mul-tick c = search needs
 shared-slice-read-tick : tie.Need-shared-slice-read-tick
 shared-slice-read-tick c = search needs
 
+refuse-requires : tie.Need-refuse-requires
+refuse-requires c κs = search needs
+
 returns : tie.Need-returns
 returns c = search tells
 
 path-requires : tie.Need-path-requires
 path-requires c κs = (search needs, (search needs, (search needs, search tells)))
+
+refuse-requires-2 : tie.Need-refuse-requires-2
+refuse-requires-2 c κs = search needs
 
 same-length : tie.Need-same-length
 same-length c = search needs
@@ -34,8 +40,10 @@ tell-spec =
     (tie.spec
     mul-tick
     shared-slice-read-tick
+    refuse-requires
     returns
     path-requires
+    refuse-requires-2
     same-length
     returns-2
     same-length-2

@@ -9,7 +9,8 @@ use Rattle.search_path.proofs.trim.Statement.{statement}
 use Rattle.search_path.proofs.trim.Tie as tie
 
 abbrev Inv-loop : tie.InvT-loop
-Inv-loop labels₀ target limit v₀ v-end labels v = (v ≤ v-end) × (v-end ≡ length labels₀) × Filled 0 v (shown labels₀ target) labels₀ labels
+Inv-loop labels₀ target limit v₀ v-end labels v =
+    (v ≤ v-end) × (v-end ≡ length labels₀) × Filled 0 v (shown labels₀ target) labels₀ labels
 
 abbrev μ-loop : tie.MeasureT-loop
 μ-loop labels₀ target limit v₀ v-end labels v = v-end - v
@@ -47,8 +48,11 @@ loop-less c = search needs
 loop-again : tie.Need-loop-again Inv-loop μ-loop
 loop-again c =
     let k = c .before .before .before in
-    let s = k .before .before .before in
-    (search needs, search needs, trim-more _ _ _ _ _ _ (k .loop .inv .2) (s .pre) (search needs) refl (c .shown-label .ensures))
+    let s = k .before .before .before in (
+      search needs,
+      search needs,
+      trim-more _ _ _ _ _ _ (k .loop .inv .2) (s .pre) (search needs) refl (c .shown-label .ensures),
+    )
 
 same-length : tie.Need-same-length Inv-loop μ-loop
 same-length c = search needs

@@ -11,7 +11,8 @@ use Rattle.c_replies.proofs.numbers.write.Statement.{statement}
 use Rattle.c_replies.proofs.numbers.write.Tie as tie
 
 abbrev Inv-loop : tie.InvT-loop
-Inv-loop numbers answer₀ i₀ i-end answer i = (i ≤ length numbers) × Filled 0 i (λ k. getD numbers k 0) answer₀ answer
+Inv-loop numbers answer₀ i₀ i-end answer i =
+    (i ≤ length numbers) × Filled 0 i (λ k. getD numbers k 0) answer₀ answer
 
 abbrev μ-loop : tie.MeasureT-loop
 μ-loop numbers answer₀ i₀ i-end answer i = length numbers - i
@@ -38,7 +39,12 @@ loop-less : tie.Need-loop-less Inv-loop μ-loop
 loop-less c = search needs
 
 loop-again : tie.Need-loop-again Inv-loop μ-loop
-loop-again c = (search needs, (let l : c .before .before .loop .i < length (c .before .before .before .args .answer .now) = omega arith in fill-up _ _ 0 _ _ _ (c .before .before .loop .inv .1) zero-le l refl))
+loop-again c = (
+  search needs,
+  (let l : c .before .before .loop .i < length
+      (c .before .before .before .args .answer .now) = omega arith in
+      fill-up _ _ 0 _ _ _ (c .before .before .loop .inv .1) zero-le l refl),
+)
 
 same-length : tie.Need-same-length Inv-loop μ-loop
 same-length c = search needs

@@ -1,5 +1,6 @@
 -- `c_replies::numbers::write_checking` meets its contract.
-use Rattle.c_replies.specs.Writing.{numberings}
+use Rattle.c_replies.specs.Writing.{case-number, case-numbers}
+use Rattle.plan_check.specs.Answer.{checkingSays}
 use borrow.Author.Needs.{needs}
 use Rattle.c_replies.proofs.numbers.write_checking.Statement.{statement}
 use Rattle.c_replies.proofs.numbers.write_checking.Tie as tie
@@ -26,13 +27,13 @@ same-length : tie.Need-same-length
 same-length c = search needs
 
 returns : tie.Need-returns
-returns c = (search numberings, search numberings)
+returns c = (search (case-number checkingSays), search (case-numbers checkingSays))
 
 same-length-2 : tie.Need-same-length-2
 same-length-2 c = search needs
 
 returns-2 : tie.Need-returns-2
-returns-2 c = (search numberings, search numberings)
+returns-2 c = (search (case-number checkingSays), search (case-numbers checkingSays))
 
 pub write-checking-spec : {M : Type 1} → statement M
 write-checking-spec =

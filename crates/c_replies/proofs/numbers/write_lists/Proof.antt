@@ -1,7 +1,9 @@
 -- `c_replies::numbers::write_lists` meets its contract.
-use Rattle.c_replies.specs.Writing.{replies, numberings}
+use Rattle.c_replies.specs.Writing.{replies, case-number, case-numbers}
 use native.Mathlib.Omega.{arith}
 use Prim.Native.Nat.{_≤_}
+use Rattle.network.specs.Limits.{mostRoads}
+use Rattle.search_path.specs.Says.{tripSays}
 use borrow.Author.Needs.{needs}
 use Rattle.c_replies.proofs.numbers.write_lists.Statement.{statement}
 use Rattle.c_replies.proofs.numbers.write_lists.Tie as tie
@@ -10,7 +12,7 @@ enum-known-trip : tie.Need-enum-known-trip
 enum-known-trip c = search needs
 
 cast-t8 : tie.Need-cast-t8
-cast-t8 c = let l : c .before .before .trip .given .0 .0 .count ≤ 511 = search replies in omega arith
+cast-t8 c = let l : c .before .before .trip .given .0 .0 .count ≤ mostRoads = search replies in omega arith
 
 slice-aggregate-write : tie.Need-slice-aggregate-write
 slice-aggregate-write c = search needs
@@ -31,13 +33,13 @@ same-length : tie.Need-same-length
 same-length c = search needs
 
 returns : tie.Need-returns
-returns c = (cc, search numberings)
+returns c = (search (case-number tripSays), search (case-numbers tripSays))
 
 same-length-2 : tie.Need-same-length-2
 same-length-2 c = search needs
 
 returns-2 : tie.Need-returns-2
-returns-2 c = (cc, search numberings)
+returns-2 c = (search (case-number tripSays), search (case-numbers tripSays))
 
 pub write-lists-spec : {M : Type 1} → statement M
 write-lists-spec =

@@ -1,5 +1,6 @@
 -- `c_replies::numbers::write_opening` meets its contract.
-use Rattle.c_replies.specs.Writing.{numberings}
+use Rattle.c_replies.specs.Writing.{case-number, case-numbers}
+use Rattle.network.specs.Answer.{openingSays}
 use borrow.Author.Needs.{needs}
 use Rattle.c_replies.proofs.numbers.write_opening.Statement.{statement}
 use Rattle.c_replies.proofs.numbers.write_opening.Tie as tie
@@ -38,13 +39,13 @@ same-length : tie.Need-same-length
 same-length c = search needs
 
 returns : tie.Need-returns
-returns c = (search numberings, search numberings)
+returns c = (search (case-number openingSays), search (case-numbers openingSays))
 
 same-length-2 : tie.Need-same-length-2
 same-length-2 c = search needs
 
 returns-2 : tie.Need-returns-2
-returns-2 c = (search numberings, search numberings)
+returns-2 c = (search (case-number openingSays), search (case-numbers openingSays))
 
 pub write-opening-spec : {M : Type 1} → statement M
 write-opening-spec =

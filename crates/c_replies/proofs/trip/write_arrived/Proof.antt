@@ -23,7 +23,12 @@ same-length : tie.Need-same-length
 same-length c = search needs
 
 returns : tie.Need-returns
-returns c = roads-stored _ _ _ _ _ _ _ (c .before .before .before .before .before .before .before .before .before .before .before .before .before .before .before .put32 .ensures) (c .before .before .before .before .before .before .before .before .before .before .before .put322 .ensures) (c .before .before .before .before .before .before .put16 .ensures) _ _ (c .before .before .write-roads .ensures)
+returns c =
+    let far = c .before .before .before .before .before .before .before .before .before .before in
+    roads-stored _ _ _ _ _ _ _ (far .before .before .before .before .before .put32 .ensures)
+    (far .before .put322 .ensures)
+    (c .before .before .before .before .before .before .put16 .ensures) _ _
+    (c .before .before .write-roads .ensures)
 
 pub write-arrived-spec : {M : Type 1} → statement M
 write-arrived-spec =

@@ -17,7 +17,11 @@ same-length : tie.Need-same-length
 same-length c = search needs
 
 returns : tie.Need-returns
-returns c = head-stored _ _ _ _ _ _ _ (c .before .before .before .before .before .before .before .before .before .before .put32 .ensures) (c .before .before .before .before .before .before .put322 .ensures) (c .before .before .put16 .ensures)
+returns c =
+    let far = c .before .before .before .before .before .before .before .before .before .before in
+    head-stored _ _ _ _ _ _ _ (far .put32 .ensures)
+    (c .before .before .before .before .before .before .put322 .ensures)
+    (c .before .before .put16 .ensures)
 
 pub write-refused-spec : {M : Type 1} → statement M
 write-refused-spec =

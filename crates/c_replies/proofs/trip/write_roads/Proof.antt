@@ -12,7 +12,8 @@ use Rattle.c_replies.proofs.trip.write_roads.Statement.{statement}
 use Rattle.c_replies.proofs.trip.write_roads.Tie as tie
 
 abbrev Inv-loop : tie.InvT-loop
-Inv-loop roads count answer₀ i₀ answer i = (i ≤ count) × (answer ≡ sets answer₀ 10 (roadBytes (take i roads))) × (length answer ≡ length answer₀)
+Inv-loop roads count answer₀ i₀ answer i =
+    (i ≤ count) × (answer ≡ sets answer₀ 10 (roadBytes (take i roads))) × (length answer ≡ length answer₀)
 
 abbrev μ-loop : tie.MeasureT-loop
 μ-loop roads count answer₀ i₀ answer i = count - i
@@ -42,7 +43,13 @@ loop-less : tie.Need-loop-less Inv-loop μ-loop
 loop-less c = search needs
 
 loop-again : tie.Need-loop-again Inv-loop μ-loop
-loop-again c = (search needs, roads-next _ _ (c .before .before .before .before .before .before .loop .i) (c .before .before .before .before .before .before .loop .answer) _ (omega arith) (c .before .before .before .before .before .before .loop .inv .1) (search needs), search needs)
+loop-again c = (
+  search needs,
+  roads-next _ _ (c .before .before .before .before .before .before .loop .i)
+      (c .before .before .before .before .before .before .loop .answer) _ (omega arith)
+      (c .before .before .before .before .before .before .loop .inv .1) (search needs),
+  search needs,
+)
 
 same-length : tie.Need-same-length Inv-loop μ-loop
 same-length c = search needs

@@ -1,6 +1,7 @@
 -- `example_program::print::print_roads` meets its contract.
 use Prim.Native.Nat.{_≤_, _-_}
 use borrow.Author.Needs.{needs}
+use Rattle.network.specs.Limits.{mostRoads}
 use Rattle.example_program.proofs.print.print_roads.Statement.{statement}
 use Rattle.example_program.proofs.print.print_roads.Tie as tie
 use Rattle.example_program.proofs.print.print_roads.Reads as reads
@@ -11,10 +12,10 @@ use Rattle.example_program.proofs.print.say.Reads as say-reads
 use Rattle.example_program.proofs.print.wide.Reads as wide-reads
 
 abbrev Inv-loop : tie.InvT-loop
-Inv-loop roads count i₀ t4 i = i ≤ 511
+Inv-loop roads count i₀ t4 i = i ≤ mostRoads
 
 abbrev μ-loop : tie.MeasureT-loop
-μ-loop roads count i₀ t4 i = 511 - i
+μ-loop roads count i₀ t4 i = mostRoads - i
 
 loop-holds : tie.Need-loop-holds Inv-loop μ-loop
 loop-holds c = search needs

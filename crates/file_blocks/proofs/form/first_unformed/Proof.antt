@@ -36,7 +36,8 @@ loop-again : tie.Need-loop-again Inv-loop μ-loop
 loop-again c = (search needs, search firsts)
 
 returns-2 : tie.Need-returns-2 Inv-loop μ-loop
-returns-2 c = c .before .before .blocks2 .ensures ∙ end _ _ _ (c .before .loop .inv .1) (omega arith) (omega arith)
+returns-2 c = c .before .before .blocks2 .ensures ∙ end _ _ _ (c .before .loop .inv .1) (omega arith)
+    (omega arith)
 
 pub first-unformed-spec : {M : Type 1} → statement M
 first-unformed-spec =

@@ -1,4 +1,5 @@
--- `file_blocks::form::is_formed` meets its contract: each test decides, or leaves the answer to those after it.
+-- `file_blocks::form::is_formed` meets its contract: each test decides, or leaves the answer to those after
+-- it.
 use Rattle.file_blocks.specs.Form.{forms}
 use borrow.Author.Needs.{needs}
 use Rattle.file_blocks.proofs.form.is_formed.Statement.{statement}

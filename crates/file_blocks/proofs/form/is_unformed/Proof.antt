@@ -1,4 +1,5 @@
--- `file_blocks::form::is_unformed` meets its contract: the block stands in the file, and its entries before its check.
+-- `file_blocks::form::is_unformed` meets its contract: the block stands in the file, and its entries before
+-- its check.
 use Rattle.file_blocks.specs.Form.{run-unformed}
 use Rattle.file_blocks.specs.Place.{block-starts, block-in, block-fits}
 use native.Mathlib.Omega.{arith}
@@ -13,13 +14,32 @@ add-is-formed : tie.Need-add-is-formed
 add-is-formed c = search needs
 
 mul-is-formed : tie.Need-mul-is-formed
-mul-is-formed c = record { fits = omega (arith, block-fits _ _ _ _ _ (c .before .before .pre .0) _ (c .before .before .pre .1) (c .entries-in .result) (c .entries-in .ensures)) }
+mul-is-formed c = record {
+  fits = omega (
+    arith,
+    block-fits _ _ _ _ _ (c .before .before .pre .0) _ (c .before .before .pre .1) (c .entries-in .result)
+        (c .entries-in .ensures),
+  );
+}
 
 add-is-formed-2 : tie.Need-add-is-formed-2
-add-is-formed-2 c = record { fits = omega (arith, block-fits _ _ _ _ _ (c .before .before .pre .0) _ (c .before .before .pre .1) (c .entries-in .result) (c .entries-in .ensures)) }
+add-is-formed-2 c = record {
+  fits = omega (
+    arith,
+    block-fits _ _ _ _ _ (c .before .before .pre .0) _ (c .before .before .pre .1) (c .entries-in .result)
+        (c .entries-in .ensures),
+  );
+}
 
 is-formed-requires : tie.Need-is-formed-requires
-is-formed-requires c κs = (search block-in, omega (arith, block-fits _ _ _ _ _ (c .before .before .pre .0) _ (c .before .before .pre .1) (c .entries-in .result) (c .entries-in .ensures)))
+is-formed-requires c κs = (
+  search block-in,
+  omega (
+    arith,
+    block-fits _ _ _ _ _ (c .before .before .pre .0) _ (c .before .before .pre .1)
+        (c .entries-in .result) (c .entries-in .ensures),
+  ),
+)
 
 returns : tie.Need-returns
 returns c = search run-unformed

@@ -11,7 +11,8 @@ use Rattle.file_blocks.proofs.place.decode_part16.Statement.{statement}
 use Rattle.file_blocks.proofs.place.decode_part16.Tie as tie
 
 abbrev Inv-loop : tie.InvT-loop
-Inv-loop file base size at m out₀ first e₀ out e = (e ≤ m) × Filled first (first + e) (part16 file base size at first) out₀ out
+Inv-loop file base size at m out₀ first e₀ out e =
+    (e ≤ m) × Filled first (first + e) (part16 file base size at first) out₀ out
 
 abbrev μ-loop : tie.MeasureT-loop
 μ-loop file base size at m out₀ first e₀ out e = m - e
@@ -21,7 +22,8 @@ start c = c .before .before .before .before
 
 -- the entry at hand is in the file
 within : (c : tie.In-loop Inv-loop μ-loop)
-    → start c .args .base + start c .args .size * c .before .loop .e + start c .args .size ≤ length (now (start c .args .file))
+    → start c .args .base + start c .args .size * c .before .loop .e
+    + start c .args .size ≤ length (now (start c .args .file))
 within c = omega (arith, mul-le-mul-left (start c .args .size) (c .loop-test .taken))
 
 loop-holds : tie.Need-loop-holds Inv-loop μ-loop

@@ -1,4 +1,5 @@
--- `file_blocks::place::offset` meets its contract: the entry stands in its block, by `offset-in`, so no sum or product wraps.
+-- `file_blocks::place::offset` meets its contract: the entry stands in its block, by `offset-in`, so no sum
+-- or product wraps.
 use mathlib.Core.Path.{refl}
 use native.Mathlib.Omega.{arith}
 use Rattle.file_blocks.specs.Place.{offset, offset-in}

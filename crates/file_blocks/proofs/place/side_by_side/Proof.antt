@@ -1,4 +1,5 @@
--- `file_blocks::place::side_by_side` meets its contract: an entry's number in its block is below the entries of a block.
+-- `file_blocks::place::side_by_side` meets its contract: an entry's number in its block is below the entries
+-- of a block.
 use native.Mathlib.Nat.{mod-lt}
 use native.Mathlib.Omega.{arith}
 use borrow.Author.Needs.{needs}

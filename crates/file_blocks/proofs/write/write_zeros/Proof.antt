@@ -1,4 +1,5 @@
--- `file_blocks::write::write_zeros` meets its contract: the invariant is the contract itself at the bytes passed.
+-- `file_blocks::write::write_zeros` meets its contract: the invariant is the contract itself at the bytes
+-- passed.
 use Rattle.theory_loops.specs.Fill.{Filled, fills}
 use Prim.Native.Nat.{_≤_, _-_}
 use borrow.Author.Needs.{needs}

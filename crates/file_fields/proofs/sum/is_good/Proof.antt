@@ -1,4 +1,5 @@
--- `file_fields::sum::is_good` meets its contract: the first comparison decides, or leaves the answer to the second.
+-- `file_fields::sum::is_good` meets its contract: the first comparison decides, or leaves the answer to the
+-- second.
 use Rattle.file_fields.specs.Sum.{good-first, good-second}
 use borrow.Author.Needs.{needs}
 use Rattle.file_fields.proofs.sum.is_good.Statement.{statement}

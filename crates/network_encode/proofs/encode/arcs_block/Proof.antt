@@ -2,10 +2,12 @@
 use Prim.Native.Nat.{_*_, _≤_}
 use native.Mathlib.Omega.{arith}
 use lib.Dec.{lit<}
-use Rattle.network_encode.specs.Block.{block-written}
+use Rattle.network_encode.specs.BlockWritten.{block-written}
 use borrow.Author.Needs.{needs}
 use Rattle.network_encode.proofs.encode.arcs_block.Statement.{statement}
 use Rattle.network_encode.proofs.encode.arcs_block.Tie as tie
+use Rattle.file_fields.specs.Block.{entriesSize}
+use Rattle.file_blocks.specs.Kind.{arcKind, arcSize, arcPer}
 
 mul-at : tie.Need-mul-at
 mul-at c = search needs
@@ -51,8 +53,23 @@ same-length c = search needs
 
 returns : tie.Need-returns
 returns c =
-    let fit : 6 * c .before .before .before .before .before .before .before .before .before .before .before .before .before .before .before .before .entries-in .result ≤ 500 = omega (arith, c .before .before .before .before .before .before .before .before .before .before .before .before .before .before .before .before .entries-in .ensures) in
-    block-written 3 83 6 _ _ _ _ _ (lit< tt) (c .before .before .before .before .before .before .before .before .before .before .before .before .before .before .before .before .entries-in .ensures) fit _ _ _ _ _ (lit< tt) (c .before .before .before .before .before .before .before .before .before .before .before .before .before .before .before .before .before .before .before .before .before .pre .0 .whole) (c .before .before .before .before .before .before .before .before .before .before .before .before .before .before .write-head .ensures) (c .before .before .before .before .before .before .before .before .before .before .put-arcs .ensures) (c .before .before .before .before .before .before .write-zeros .ensures) (c .before .before .write-check .ensures)
+    let fit : arcSize * c .before .before .before .before .before .before .before .before .before .before
+    .before .before .before .before .before .before .entries-in .result ≤ entriesSize =
+    omega (
+      arith,
+      c .before .before .before .before .before .before .before .before .before .before
+          .before .before .before .before .before .before .entries-in .ensures,
+    ) in
+    block-written arcKind arcPer arcSize _ _ _ _ _ (lit< tt)
+    (c .before .before .before .before .before .before .before .before .before .before .before .before
+    .before .before .before .before .entries-in .ensures) fit _ _ _ _ _ (lit< tt)
+    (c .before .before .before .before .before .before .before .before .before .before .before .before
+    .before .before .before .before .before .before .before .before .before .pre .0 .whole)
+    (c .before .before .before .before .before .before .before .before .before .before .before .before
+    .before .before .write-head .ensures)
+    (c .before .before .before .before .before .before .before .before .before .before .put-arcs .ensures)
+    (c .before .before .before .before .before .before .write-zeros .ensures)
+    (c .before .before .write-check .ensures)
 
 pub arcs-block-spec : {M : Type 1} → statement M
 arcs-block-spec =

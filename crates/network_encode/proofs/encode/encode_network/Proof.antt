@@ -4,13 +4,16 @@ use Prim.Native.Nat.{_-_, _*_, _≤_}
 use Rattle.theory_loops.specs.Fill.{Filled, fill-none}
 use Rattle.file_blocks.specs.Bytes.{fileByte}
 use Rattle.network_encode.specs.Encode.{bodyBy}
-use Rattle.network_encode.specs.Tables.{networkOf}
+use Rattle.network.specs.Tables.{tables, networkOf}
 use borrow.Author.Needs.{needs}
 use Rattle.network_encode.proofs.encode.encode_network.Statement.{statement}
 use Rattle.network_encode.proofs.encode.encode_network.Tie as tie
+use Rattle.file_fields.specs.Block.{blockSize}
 
 abbrev Inv-loop : tie.InvT-loop
-Inv-loop out₀ h l cells tails heads counts ticks travels b₀ b-end out b = (b ≤ l .blocks) × Filled 0 (512 * b) (fileByte (bodyBy h (networkOf h cells tails heads counts ticks travels))) out₀ out
+Inv-loop out₀ h l cells tails heads counts ticks travels b₀ b-end out b =
+    (b ≤ l .blocks) × Filled 0 (blockSize * b)
+    (fileByte (bodyBy h (networkOf h (tables cells tails heads counts ticks travels)))) out₀ out
 
 abbrev μ-loop : tie.MeasureT-loop
 μ-loop out₀ h l cells tails heads counts ticks travels b₀ b-end out b = l .blocks - b

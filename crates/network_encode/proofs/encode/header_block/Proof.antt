@@ -2,10 +2,11 @@
 use mathlib.Core.Path.{refl}
 use lib.Dec.{lit<, lit≤}
 use Rattle.network_encode.specs.Encode.{headerByte}
-use Rattle.network_encode.specs.Block.{block-written}
+use Rattle.network_encode.specs.BlockWritten.{block-written}
 use borrow.Author.Needs.{needs}
 use Rattle.network_encode.proofs.encode.header_block.Statement.{statement}
 use Rattle.network_encode.proofs.encode.header_block.Tie as tie
+use Rattle.file_blocks.specs.Kind.{networkKind, networkSize}
 
 write-head-requires : tie.Need-write-head-requires
 write-head-requires c κs = search needs
@@ -24,7 +25,16 @@ same-length c = search needs
 
 returns : tie.Need-returns
 returns c =
-    block-written 1 1 16 1 (λ _. headerByte (c .before .before .before .before .before .before .before .before .before .before .before .before .before .before .before .before .before .args .h)) 0 0 1 (lit< tt) refl (lit≤ tt) _ _ _ _ _ (lit< tt) (c .before .before .before .before .before .before .before .before .before .before .before .before .before .before .before .before .before .pre .1 .1) (c .before .before .before .before .before .before .before .before .before .before .before .before .before .before .write-head .ensures) (c .before .before .before .before .before .before .before .before .before .before .put-header .ensures) (c .before .before .before .before .before .before .write-zeros .ensures) (c .before .before .write-check .ensures)
+    block-written networkKind 1 networkSize 1
+    (λ _. headerByte (c .before .before .before .before .before .before .before .before .before .before
+    .before .before .before .before .before .before .before .args .h)) 0 0 1 (lit< tt) refl (lit≤ tt) _ _
+    _ _ _ (lit< tt) (c .before .before .before .before .before .before .before .before .before .before
+    .before .before .before .before .before .before .before .pre .1 .1)
+    (c .before .before .before .before .before .before .before .before .before .before .before .before
+    .before .before .write-head .ensures)
+    (c .before .before .before .before .before .before .before .before .before .before .put-header
+    .ensures) (c .before .before .before .before .before .before .write-zeros .ensures)
+    (c .before .before .write-check .ensures)
 
 pub header-block-spec : {M : Type 1} → statement M
 header-block-spec =

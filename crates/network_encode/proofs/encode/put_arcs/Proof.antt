@@ -2,14 +2,15 @@
 use Prim.Native.Nat.{_+_, _-_, _*_, _≤_}
 use Rattle.theory_loops.specs.Fill.{Filled}
 use Rattle.network_encode.specs.Encode.{arcByte}
-use Rattle.network_encode.specs.Block.{partByte, entry-none, entry-end}
+use Rattle.network_encode.specs.Entries.{partByte, entry-none, entry-end}
 use Rattle.network_encode.specs.Written.{arc-put}
 use borrow.Author.Needs.{needs}
 use Rattle.network_encode.proofs.encode.put_arcs.Statement.{statement}
 use Rattle.network_encode.proofs.encode.put_arcs.Tie as tie
 
 abbrev Inv-loop : tie.InvT-loop
-Inv-loop out₀ base first m tails heads counts e₀ out e = (e ≤ m) × Filled base (base + 6 * e) (partByte 6 (arcByte tails heads counts) base first) out₀ out
+Inv-loop out₀ base first m tails heads counts e₀ out e =
+    (e ≤ m) × Filled base (base + 6 * e) (partByte 6 (arcByte tails heads counts) base first) out₀ out
 
 abbrev μ-loop : tie.MeasureT-loop
 μ-loop out₀ base first m tails heads counts e₀ out e = m - e
@@ -54,7 +55,14 @@ loop-less : tie.Need-loop-less Inv-loop μ-loop
 loop-less c = search needs
 
 loop-again : tie.Need-loop-again Inv-loop μ-loop
-loop-again c = (search needs, arc-put _ _ _ _ _ _ _ (c .before .before .before .before .before .before .before .loop-test .taken) _ _ _ (c .before .before .before .before .before .before .before .before .loop .inv .1) (c .before .before .before .before .before .before .before .before .before .before .before .before .before .pre .0) (c .before .before .put-three .ensures))
+loop-again c = (
+  search needs,
+  arc-put _ _ _ _ _ _ _ (c .before .before .before .before .before .before .before .loop-test .taken) _ _ _
+      (c .before .before .before .before .before .before .before .before .loop .inv .1)
+      (c .before .before .before .before .before .before .before .before .before .before .before .before
+      .before
+      .pre .0) (c .before .before .put-three .ensures),
+)
 
 same-length : tie.Need-same-length Inv-loop μ-loop
 same-length c = search needs

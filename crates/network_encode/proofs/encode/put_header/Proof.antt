@@ -26,7 +26,16 @@ same-length : tie.Need-same-length
 same-length c = search needs
 
 returns : tie.Need-returns
-returns c = header-put _ (c .before .before .before .before .before .before .before .before .before .before .before .before .before .before .before .before .before .before .before .before .before .before .before .before .before .pre .0) (c .before .before .before .before .before .before .before .before .before .before .before .before .before .before .before .before .before .before .before .before .before .before .before .before .before .pre .1 .0) _ _ _ _ _ _ _ (c .before .before .before .before .before .before .before .before .before .before .before .before .before .before .before .before .before .before .before .before .before .before .before .before .before .pre .1 .1) (c .before .before .before .before .before .before .before .before .before .before .before .before .before .before .before .before .before .before .before .before .before .before .put32 .ensures) (c .before .before .before .before .before .before .before .before .before .before .before .before .before .before .before .before .before .before .put16 .ensures) (c .before .before .before .before .before .before .before .before .before .before .before .before .before .before .put162 .ensures) (c .before .before .before .before .before .before .before .before .before .before .put163 .ensures) (c .before .before .before .before .before .before .put164 .ensures) (c .before .before .put322 .ensures)
+returns c =
+    let far = c .before .before .before .before .before .before .before .before .before .before in
+    let farther = far .before .before .before .before .before .before .before .before .before .before in
+    let pre = farther .before .before .before .before .before .pre in
+    header-put _ (pre .0) (pre .1 .0) _ _ _ _ _ _ _ (pre .1 .1)
+    (farther .before .before .put32 .ensures)
+    (far .before .before .before .before .before .before .before .before .put16 .ensures)
+    (far .before .before .before .before .put162 .ensures)
+    (far .put163 .ensures)
+    (c .before .before .before .before .before .before .put164 .ensures) (c .before .before .put322 .ensures)
 
 pub put-header-spec : {M : Type 1} → statement M
 put-header-spec =

@@ -2,14 +2,15 @@
 use Prim.Native.Nat.{_+_, _-_, _*_, _≤_}
 use Rattle.theory_loops.specs.Fill.{Filled}
 use Rattle.network_encode.specs.Encode.{pointByte}
-use Rattle.network_encode.specs.Block.{partByte, entry-none, entry-end}
+use Rattle.network_encode.specs.Entries.{partByte, entry-none, entry-end}
 use Rattle.network_encode.specs.Written.{point-put}
 use borrow.Author.Needs.{needs}
 use Rattle.network_encode.proofs.encode.put_points.Statement.{statement}
 use Rattle.network_encode.proofs.encode.put_points.Tie as tie
 
 abbrev Inv-loop : tie.InvT-loop
-Inv-loop out₀ base first m ticks travels e₀ out e = (e ≤ m) × Filled base (base + 4 * e) (partByte 4 (pointByte ticks travels) base first) out₀ out
+Inv-loop out₀ base first m ticks travels e₀ out e =
+    (e ≤ m) × Filled base (base + 4 * e) (partByte 4 (pointByte ticks travels) base first) out₀ out
 
 abbrev μ-loop : tie.MeasureT-loop
 μ-loop out₀ base first m ticks travels e₀ out e = m - e

@@ -1,6 +1,6 @@
 -- `network_open::open::is_short` meets its contract.
 use Rattle.theory_loops.specs.Pick.{picks}
-use Rattle.network_open.specs.Open.{tooShort}
+use Rattle.network_open.specs.Open.{tooShortBy}
 use borrow.Author.Needs.{needs}
 use Rattle.network_open.proofs.open.is_short.Statement.{statement}
 use Rattle.network_open.proofs.open.is_short.Tie as tie
@@ -15,27 +15,27 @@ cast-points : tie.Need-cast-points
 cast-points c = search needs
 
 returns : tie.Need-returns
-unfolding tooShort
+unfolding tooShortBy
 returns c = search picks depth 9
 
 returns-2 : tie.Need-returns-2
-unfolding tooShort
+unfolding tooShortBy
 returns-2 c = search picks depth 9
 
 returns-3 : tie.Need-returns-3
-unfolding tooShort
+unfolding tooShortBy
 returns-3 c = search picks depth 9
 
 returns-4 : tie.Need-returns-4
-unfolding tooShort
+unfolding tooShortBy
 returns-4 c = search picks depth 9
 
 returns-5 : tie.Need-returns-5
-unfolding tooShort
+unfolding tooShortBy
 returns-5 c = search picks depth 9
 
 returns-6 : tie.Need-returns-6
-unfolding tooShort
+unfolding tooShortBy
 returns-6 c = search picks depth 9
 
 pub is-short-spec : {M : Type 1} → statement M

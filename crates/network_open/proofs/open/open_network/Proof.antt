@@ -1,6 +1,6 @@
 -- `network_open::open::open_network` meets its contract.
-use Rattle.network_open.specs.Open.{open-within, open-laid, open-room, open-refused, open-short, open-opened, short-table}
-use mathlib.Core.Path.{refl}
+use Rattle.network_open.specs.Open.{open-within, open-laid, open-room, open-refused, open-short}
+use Rattle.network_open.specs.Open.{open-opened}
 use borrow.Author.Needs.{needs}
 use Rattle.network_open.proofs.open.open_network.Statement.{statement}
 use Rattle.network_open.proofs.open.open_network.Tie as tie
@@ -21,19 +21,26 @@ refused-requires : tie.Need-refused-requires
 refused-requires c κs = search needs
 
 returns : tie.Need-returns
-returns c = (search open-short, (search short-table, ((search short-table, search short-table, search short-table), (search short-table, search short-table))))
+returns c = search open-short
 
 layout-requires : tie.Need-layout-requires
 layout-requires c κs = search open-within
 
 write-tables-requires : tie.Need-write-tables-requires
-write-tables-requires c κs = (search open-laid, open-room _ _ _ _ _ _ _ _ _ (c .before .before .before .before .before .before .before .before .is-short .ensures) (c .before .before .before .before .before .before .before .if1 .left) (c .before .before .before .before .before .before .layout .ensures))
+write-tables-requires c κs = (
+  search open-laid,
+  open-room _ _ _ _
+      (c .before .before .before .before .before .before .before .before .is-short .ensures)
+      (c .before .before .before .before .before .before .before .if1 .left)
+      (c .before .before .before .before .before .before .layout .ensures),
+)
 
 returns-2 : tie.Need-returns-2
-returns-2 c = (search open-refused, (refl, ((refl, refl, refl), (refl, refl))))
+returns-2 c = search open-refused
 
 same-length : tie.Need-same-length
-same-length c = c .before .before .before .before .before .before .before .before .before .before .before .cells .given
+same-length c = c .before .before .before .before .before .before .before .before .before .before .before
+    .cells .given
 
 same-length-2 : tie.Need-same-length-2
 same-length-2 c = c .before .before .before .before .before .before .before .before .before .tails .given
@@ -51,7 +58,7 @@ same-length-6 : tie.Need-same-length-6
 same-length-6 c = c .before .travels .given
 
 returns-3 : tie.Need-returns-3
-returns-3 c = (search open-opened, (search needs, (search needs, search needs)))
+returns-3 c = search open-opened
 
 pub open-network-spec : {M : Type 1} → statement M
 open-network-spec =

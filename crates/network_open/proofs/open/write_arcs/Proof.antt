@@ -1,6 +1,6 @@
 -- `network_open::open::write_arcs` meets its contract.
 use Rattle.network.specs.Validate.{arcs-stored}
-use Rattle.network_open.specs.Open.{tables}
+use Rattle.network_open.specs.Open.{table-writes}
 use borrow.Author.Needs.{needs}
 use Rattle.network_open.proofs.open.write_arcs.Statement.{statement}
 use Rattle.network_open.proofs.open.write_arcs.Tie as tie
@@ -24,7 +24,7 @@ same-length-3 : tie.Need-same-length-3
 same-length-3 c = search needs
 
 returns : tie.Need-returns
-returns c = (search tables, search tables, search tables)
+returns c = (search table-writes, search table-writes, search table-writes)
 
 pub write-arcs-spec : {M : Type 1} → statement M
 write-arcs-spec =

@@ -1,6 +1,6 @@
 -- `network_open::open::write_cells` meets its contract.
 use Rattle.network.specs.Validate.{nodes-stored}
-use Rattle.network_open.specs.Open.{tables}
+use Rattle.network_open.specs.Open.{table-writes}
 use borrow.Author.Needs.{needs}
 use Rattle.network_open.proofs.open.write_cells.Statement.{statement}
 use Rattle.network_open.proofs.open.write_cells.Tie as tie
@@ -12,7 +12,7 @@ same-length : tie.Need-same-length
 same-length c = search needs
 
 returns : tie.Need-returns
-returns c = search tables
+returns c = search table-writes
 
 pub write-cells-spec : {M : Type 1} → statement M
 write-cells-spec = tie.close (tie.spec decode16-requires same-length returns)

@@ -1,6 +1,6 @@
 -- `network_open::open::write_points` meets its contract.
 use Rattle.network.specs.Validate.{points-stored}
-use Rattle.network_open.specs.Open.{tables}
+use Rattle.network_open.specs.Open.{table-writes}
 use borrow.Author.Needs.{needs}
 use Rattle.network_open.proofs.open.write_points.Statement.{statement}
 use Rattle.network_open.proofs.open.write_points.Tie as tie
@@ -18,7 +18,7 @@ same-length-2 : tie.Need-same-length-2
 same-length-2 c = search needs
 
 returns : tie.Need-returns
-returns c = (search tables, search tables)
+returns c = (search table-writes, search table-writes)
 
 pub write-points-spec : {M : Type 1} → statement M
 write-points-spec =

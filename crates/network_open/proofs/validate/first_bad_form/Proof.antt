@@ -19,10 +19,12 @@ returns : tie.Need-returns
 returns c = search forms
 
 first-unformed-requires-2 : tie.Need-first-unformed-requires-2
-first-unformed-requires-2 c κs = (search forms, omega (arith, laid-small (c .before .before .before .before .pre)))
+first-unformed-requires-2 c κs =
+    (search forms, omega (arith, laid-small (c .before .before .before .before .pre)))
 
 add-if2 : tie.Need-add-if2
-add-if2 c = let s = c .before .before .before .before .before .before .pre in omega (arith, found-few _ _ _ (c .before .first-unformed2 .ensures), laid-small s, laid-blocks s)
+add-if2 c = let s = c .before .before .before .before .before .before .pre in omega
+    (arith, found-few _ _ _ (c .before .first-unformed2 .ensures), laid-small s, laid-blocks s)
 
 add-result-2 : tie.Need-add-result-2
 add-result-2 c = search needs
@@ -31,10 +33,17 @@ returns-2 : tie.Need-returns-2
 returns-2 c = search forms
 
 first-unformed-requires-3 : tie.Need-first-unformed-requires-3
-first-unformed-requires-3 c κs = (search forms, omega (arith, laid-small (c .before .before .before .before .before .before .before .before .pre)))
+first-unformed-requires-3 c κs = (
+  search forms,
+  omega
+      (arith, laid-small (c .before .before .before .before .before .before .before .before .pre)),
+)
 
 add-result-3 : tie.Need-add-result-3
-add-result-3 c = let s = c .before .before .before .before .before .before .before .before .before .before .pre in omega (arith, found-few _ _ _ (c .before .first-unformed3 .ensures), laid-small s, laid-blocks s)
+add-result-3 c =
+    let s = c .before .before .before .before .before .before .before .before .before .before .pre in
+    omega
+    (arith, found-few _ _ _ (c .before .first-unformed3 .ensures), laid-small s, laid-blocks s)
 
 returns-3 : tie.Need-returns-3
 returns-3 c = search forms

@@ -10,7 +10,11 @@ first-bad-form-requires : tie.Need-first-bad-form-requires
 first-bad-form-requires c κs = search needs
 
 cast-refused : tie.Need-cast-refused
-cast-refused c = omega (arith, laid-blocks (c .before .before .before .before .pre .0), laid-small (c .before .before .before .before .pre .0))
+cast-refused c = omega (
+  arith,
+  laid-blocks (c .before .before .before .before .pre .0),
+  laid-small (c .before .before .before .before .pre .0),
+)
 
 refused-requires : tie.Need-refused-requires
 refused-requires c κs = search needs

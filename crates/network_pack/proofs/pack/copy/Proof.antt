@@ -32,13 +32,18 @@ loop-less : tie.Need-loop-less Inv-loop μ-loop
 loop-less c = search needs
 
 loop-again : tie.Need-loop-again Inv-loop μ-loop
-loop-again c = (search needs, (let l : c .before .before .loop .i < length (c .before .before .before .args .out .now) = omega arith in fill-up _ _ 0 _ _ _ (c .before .before .loop .inv .1) zero-le l refl))
+loop-again c = (
+  search needs,
+  (let l : c .before .before .loop .i < length (c .before .before .before .args .out .now) = omega arith in
+      fill-up _ _ 0 _ _ _ (c .before .before .loop .inv .1) zero-le l refl),
+)
 
 same-length : tie.Need-same-length Inv-loop μ-loop
 same-length c = search needs
 
 returns : tie.Need-returns Inv-loop μ-loop
-returns c = copied (now (c .before .before .args .file)) (now (c .before .before .args .out)) _ _ (c .before .before .pre) (c .before .loop .inv .1) (c .before .loop .inv .0) (c .loop-test .left)
+returns c = copied (now (c .before .before .args .file)) (now (c .before .before .args .out)) _ _
+    (c .before .before .pre) (c .before .loop .inv .1) (c .before .loop .inv .0) (c .loop-test .left)
 
 pub copy-spec : {M : Type 1} → statement M
 copy-spec =

@@ -1,5 +1,4 @@
 -- `network_pack::pack::pack_file` meets its contract.
-use mathlib.Core.Path.{refl}
 use Rattle.network_pack.specs.Pack.{rules-sound, rules-faulty}
 use borrow.Author.Needs.{needs}
 use Rattle.network_pack.proofs.pack.pack_file.Statement.{statement}
@@ -21,10 +20,10 @@ same-length : tie.Need-same-length
 same-length c = search needs
 
 returns : tie.Need-returns
-returns c = (search rules-sound, search needs)
+returns c = search rules-sound
 
 returns-2 : tie.Need-returns-2
-returns-2 c = (search rules-faulty, refl)
+returns-2 c = search rules-faulty
 
 pub pack-file-spec : {M : Type 1} → statement M
 pack-file-spec =

@@ -1,5 +1,5 @@
 -- `network_pack::pack::pack_network` meets its contract.
-use Rattle.network_pack.specs.Pack.{inside-within, inside-number, inside-bytes, numbers-inside, numbers-outside, short-bytes}
+use Rattle.network_pack.specs.Pack.{inside-within, inside-number, numbers-inside, numbers-outside}
 use borrow.Author.Needs.{needs}
 use Rattle.network_pack.proofs.pack.pack_network.Statement.{statement}
 use Rattle.network_pack.proofs.pack.pack_network.Tie as tie
@@ -23,10 +23,10 @@ same-length : tie.Need-same-length
 same-length c = search needs
 
 returns : tie.Need-returns
-returns c = (search numbers-inside, search inside-bytes)
+returns c = search numbers-inside
 
 returns-2 : tie.Need-returns-2
-returns-2 c = (search numbers-outside, search short-bytes)
+returns-2 c = search numbers-outside
 
 pub pack-network-spec : {M : Type 1} → statement M
 pack-network-spec =

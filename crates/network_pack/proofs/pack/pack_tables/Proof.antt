@@ -3,8 +3,9 @@ use mathlib.Core.Path.{sym, _∙_, ap}
 use native.Mathlib.Omega.{arith}
 use lib.ListN.{length}
 use denote.Ref.{now}
+use Rattle.network.specs.Tables.{tables}
 use Rattle.network.specs.Validate.{blocks-few}
-use Rattle.network_pack.specs.Front.{Fields, packed-long, front-is, front-laid, front-answer, front-bytes}
+use Rattle.network_pack.specs.Front.{Fields, packed-long, front-is, front-laid, front-packs}
 use borrow.Author.Needs.{needs}
 use Rattle.network_pack.proofs.pack.pack_tables.Statement.{statement}
 use Rattle.network_pack.proofs.pack.pack_tables.Tie as tie
@@ -13,10 +14,18 @@ abbrev start : tie.After-shared-slice-known6 → tie.Start
 start c = c .before .before .before .before .before .before
 
 -- the entries of a table of 16-bit numbers have two bytes
-fields : (c : tie.After-shared-slice-known6) → Fields (now (start c .args .cellof)) (now (start c .args .tails)) (now (start c .args .heads)) (now (start c .args .counts)) (now (start c .args .ticks)) (now (start c .args .travels))
+fields : (c : tie.After-shared-slice-known6)
+    → Fields (tables (now (start c .args .cellof)) (now (start c .args .tails)) (now (start c .args .heads))
+    (now (start c .args .counts)) (now (start c .args .ticks)) (now (start c .args .travels)))
 fields c = record {
-  cells-fit = record { word = λ k. omega (arith, c .before .before .before .before .before .shared-slice-known .given k) };
-  tails-fit = record { word = λ k. omega (arith, c .before .before .before .before .shared-slice-known2 .given k) };
+  cells-fit = record {
+    word = λ k. omega
+        (arith, c .before .before .before .before .before .shared-slice-known .given k);
+  };
+  tails-fit = record {
+    word = λ k. omega
+        (arith, c .before .before .before .before .shared-slice-known2 .given k);
+  };
   heads-fit = record { word = λ k. omega (arith, c .before .before .before .shared-slice-known3 .given k) };
   counts-fit = record { word = λ k. omega (arith, c .before .before .shared-slice-known4 .given k) };
   ticks-fit = record { word = λ k. omega (arith, c .before .shared-slice-known5 .given k) };
@@ -27,16 +36,35 @@ encode-network-requires : tie.Need-encode-network-requires
 encode-network-requires c κs = search needs
 
 mul-long : tie.Need-mul-long
-mul-long c = omega (arith, blocks-few _ _ (c .before .before .before .before .before .before .before .before .before .before .before .before .before .pre .0 .within) (c .before .before .before .before .before .before .before .before .before .before .before .before .before .pre .0 .is))
+mul-long c = omega (
+  arith,
+  blocks-few _ _ (c .before .before .before .before .before .before .before .before .before .before .before
+      .before .before .pre .0 .within)
+      (c .before .before .before .before .before .before .before .before .before .before .before .before
+      .before
+      .pre .0 .is),
+)
 
 slice-reshare-prefix-pack-file : tie.Need-slice-reshare-prefix-pack-file
 slice-reshare-prefix-pack-file c = search needs
 
 slice-aggregate-pack-file : tie.Need-slice-aggregate-pack-file
-slice-aggregate-pack-file c = sym (ap length (front-is _ _ _ _ _ _ (c .before .before .before .before .before .before .before .before .before .before .before .before .before .before .pre .0) _ _ (c .before .before .before .before .encode-network .ensures)) ∙ packed-long _ _ _ _ _ _ (c .before .before .before .before .before .before .before .before .before .before .before .before .before .before .pre .0))
+slice-aggregate-pack-file c =
+    let far = c .before .before .before .before .before .before .before .before .before .before in
+    sym (ap length (front-is _
+    (far .before .before .before
+    .before .pre .0) _ _ (c .before .before .before .before .encode-network .ensures))
+    ∙ packed-long _
+    (far .before .before .before
+    .before .pre .0))
 
 pack-file-requires : tie.Need-pack-file-requires
-pack-file-requires c κs = front-laid _ _ _ _ _ _ (c .before .before .before .before .before .before .before .before .before .before .before .before .before .before .before .pre .0) _ _ (c .before .before .before .before .before .encode-network .ensures) (fields (c .before .before .before .before .before .before .before .before .before))
+pack-file-requires c κs =
+    let far = c .before .before .before .before .before .before .before .before .before .before in
+    front-laid _
+    (far .before .before .before
+    .before .before .pre .0) _ _ (c .before .before .before .before .before .encode-network .ensures)
+    (fields (c .before .before .before .before .before .before .before .before .before))
 
 same-length : tie.Need-same-length
 same-length c = search needs
@@ -45,7 +73,15 @@ same-length-2 : tie.Need-same-length-2
 same-length-2 c = search needs
 
 returns : tie.Need-returns
-returns c = (front-answer _ _ _ _ _ _ (c .before .before .before .before .before .before .before .before .before .before .before .before .before .before .before .before .before .before .pre .0) _ _ (c .before .before .before .before .before .before .before .before .encode-network .ensures) (fields (c .before .before .before .before .before .before .before .before .before .before .before .before)) _ _ (c .before .before .pack-file .ensures .0), front-bytes _ _ _ _ _ _ (c .before .before .before .before .before .before .before .before .before .before .before .before .before .before .before .before .before .before .pre .0) _ _ (c .before .before .before .before .before .before .before .before .encode-network .ensures) (c .before .before .pack-file .result) (now (c .before .before .before .before .before .before .before .before .before .before .before .before .before .before .before .before .before .before .args .out)) _ (c .before .before .pack-file .ensures .1))
+returns c =
+    let far = c .before .before .before .before .before .before .before .before .before .before in
+    front-packs _
+    (far .before .before .before
+    .before .before .before .before .before .pre .0) _ _
+    (c .before .before .before .before .before .before .before .before .encode-network .ensures)
+    (fields (far .before
+    .before))
+    _ _ _ (c .before .before .pack-file .ensures)
 
 pub pack-tables-spec : {M : Type 1} → statement M
 pack-tables-spec =

@@ -1,7 +1,7 @@
 -- `network_pack::pack::pack_within` meets its contract.
 use native.Mathlib.Omega.{arith}
 use Rattle.network.specs.Validate.{blocks-few}
-use Rattle.network_pack.specs.Pack.{now-packable, tables-short, tables-long, short-bytes}
+use Rattle.network_pack.specs.Pack.{now-packable, tables-short, tables-long}
 use borrow.Author.Needs.{needs}
 use Rattle.network_pack.proofs.pack.pack_within.Statement.{statement}
 use Rattle.network_pack.proofs.pack.pack_within.Tie as tie
@@ -13,19 +13,28 @@ refused-requires : tie.Need-refused-requires
 refused-requires c κs = search needs
 
 returns : tie.Need-returns
-returns c = (search tables-short, search short-bytes)
+returns c = search tables-short
 
 layout-requires : tie.Need-layout-requires
 layout-requires c κs = search needs
 
 pack-tables-requires : tie.Need-pack-tables-requires
-pack-tables-requires c κs = (search now-packable, omega (arith, blocks-few _ _ (c .before .before .before .before .before .before .before .before .before .before .before .before .pre .0) (c .before .before .layout .ensures)))
+pack-tables-requires c κs = (
+  search now-packable,
+  omega (
+    arith,
+    blocks-few _ _
+        (c .before .before .before .before .before .before .before .before .before .before .before .before
+        .pre
+        .0) (c .before .before .layout .ensures),
+  ),
+)
 
 same-length : tie.Need-same-length
 same-length c = search needs
 
 returns-2 : tie.Need-returns-2
-returns-2 c = (search tables-long, search needs)
+returns-2 c = search tables-long
 
 pub pack-within-spec : {M : Type 1} → statement M
 pack-within-spec =

@@ -1,5 +1,5 @@
 -- `network_pack::pack::write_out` meets its contract.
-use Rattle.network_pack.specs.Pack.{into-short, into-whole, short-bytes}
+use Rattle.network_pack.specs.Pack.{into-short, into-whole}
 use borrow.Author.Needs.{needs}
 use Rattle.network_pack.proofs.pack.write_out.Statement.{statement}
 use Rattle.network_pack.proofs.pack.write_out.Tie as tie
@@ -8,7 +8,7 @@ refused-requires : tie.Need-refused-requires
 refused-requires c κs = search needs
 
 returns : tie.Need-returns
-returns c = (search into-short, search short-bytes)
+returns c = search into-short
 
 copy-requires : tie.Need-copy-requires
 copy-requires c κs = search needs
@@ -20,7 +20,7 @@ same-length : tie.Need-same-length
 same-length c = search needs
 
 returns-2 : tie.Need-returns-2
-returns-2 c = (search into-whole, search needs)
+returns-2 c = search into-whole
 
 pub write-out-spec : {M : Type 1} → statement M
 write-out-spec =

@@ -1,6 +1,6 @@
 -- `network_rules::rules::bad_point` meets its contract.
 use Rattle.theory_loops.specs.Pick.{picks}
-use Rattle.network.specs.Rules.{badPointBy}
+use Rattle.network_rules.specs.Scan.{badPointBy}
 use borrow.Author.Needs.{needs}
 use Rattle.network_rules.proofs.rules.bad_point.Statement.{statement}
 use Rattle.network_rules.proofs.rules.bad_point.Tie as tie

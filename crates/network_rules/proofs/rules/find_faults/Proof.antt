@@ -1,6 +1,7 @@
 -- `network_rules::rules::find_faults` meets its contract.
 use Prim.Native.Nat.{_≤_}
 use native.Mathlib.Omega.{arith}
+use Rattle.network.specs.Limits.{mostPeriod}
 use Rattle.network.specs.Decode.{laid-small}
 use Rattle.network_rules.specs.Scan.{scan-more}
 use Prim.Native.Nat.{_-_}
@@ -12,7 +13,9 @@ use Rattle.network_rules.proofs.rules.find_faults.Statement.{statement}
 use Rattle.network_rules.proofs.rules.find_faults.Tie as tie
 
 abbrev Inv-loop : tie.InvT-loop
-Inv-loop file l from count tick₀ end₀ late₀ i₀ tick end late i = Scanning (l .period) (entryAt (decode file .ticks) from) (entryAt (decode file .travels) from) count i tick end late × (l .period ≤ 2880)
+Inv-loop file l from count tick₀ end₀ late₀ i₀ tick end late i =
+    Scanning (l .period) (entryAt (decode file .ticks) from) (entryAt (decode file .travels) from) count i
+    tick end late × (l .period ≤ mostPeriod)
 
 abbrev μ-loop : tie.MeasureT-loop
 μ-loop file l from count tick₀ end₀ late₀ i₀ tick end late i = count - i
@@ -54,7 +57,14 @@ loop-less : tie.Need-loop-less Inv-loop μ-loop
 loop-less c = search needs
 
 loop-again : tie.Need-loop-again Inv-loop μ-loop
-loop-again c = (scan-more _ _ _ _ _ _ _ _ _ _ _ _ (c .before .before .before .before .before .before .loop .inv .0) (c .before .before .before .before .before .loop-test .taken) (c .before .before .before .before .tick .ensures .0) (c .before .before .before .travel .ensures .0) (c .before .before .bad-point .ensures) _ (c .before .if1 .left) (c .late-at .ensures), search needs)
+loop-again c = (
+  scan-more _ _ _ _ _ _ _ _ _ _ _ _
+      (c .before .before .before .before .before .before .loop .inv .0)
+      (c .before .before .before .before .before .loop-test .taken)
+      (c .before .before .before .before .tick .ensures .0) (c .before .before .before .travel .ensures .0)
+      (c .before .before .bad-point .ensures) _ (c .before .if1 .left) (c .late-at .ensures),
+  search needs,
+)
 
 travel-requires-2 : tie.Need-travel-requires-2 Inv-loop μ-loop
 travel-requires-2 c κs = (c .before .before .before .pre .0, search needs)

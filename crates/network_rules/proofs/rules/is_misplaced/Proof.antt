@@ -1,6 +1,6 @@
 -- `network_rules::rules::is_misplaced` meets its contract.
 use Rattle.theory_loops.specs.Pick.{picks}
-use Rattle.network.specs.Rules.{misplaced}
+use Rattle.network_rules.specs.Scan.{misplaced}
 use Rattle.network_rules.proofs.rules.is_misplaced.Statement.{statement}
 use Rattle.network_rules.proofs.rules.is_misplaced.Tie as tie
 

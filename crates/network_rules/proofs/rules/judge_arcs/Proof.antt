@@ -19,7 +19,8 @@ returns : tie.Need-returns
 returns c = search judgings
 
 cast-faulty-2 : tie.Need-cast-faulty-2
-cast-faulty-2 c = omega (arith, laid-small (c .before .before .before .before .before .before .before .before .pre))
+cast-faulty-2 c = omega
+    (arith, laid-small (c .before .before .before .before .before .before .before .before .pre))
 
 faulty-requires-2 : tie.Need-faulty-requires-2
 faulty-requires-2 c κs = search needs
@@ -27,15 +28,33 @@ faulty-requires-2 c κs = search needs
 returns-2 : tie.Need-returns-2
 returns-2 c =
     let d = c .before .before in
-    arcs-passed (d .before .before .before .before .before .before .before .pre) _ _ (d .before .before .before .before .before .scan-arcs .ensures .0) (d .before .before .before .if1 .left) (sum-taken (d .before .before .before .before .before .before .before .pre) _ _ (d .before .before .before .before .before .scan-arcs .ensures .1 (d .before .before .before .if1 .left)) (d .if2 .taken) (c .faulty2 .ensures))
+    arcs-passed (d .before .before .before .before .before .before .before .pre) _ _
+    (d .before .before .before .before .before .scan-arcs .ensures .0)
+    (d .before .before .before .if1 .left)
+    (sum-taken (d .before .before .before .before .before .before .before .pre) _ _
+    (d .before .before .before .before .before .scan-arcs .ensures .1
+    (d .before .before .before .if1 .left)) (d .if2 .taken) (c .faulty2 .ensures))
 
 judge-points-requires : tie.Need-judge-points-requires
-judge-points-requires c κs = (search needs, counted (c .before .before .before .before .before .before .before .pre) _ _ (c .before .before .before .before .before .scan-arcs .ensures .0) (c .before .before .before .if1 .left) (c .before .before .before .before .before .scan-arcs .ensures .1 (c .before .before .before .if1 .left)) (c .if2 .left))
+judge-points-requires c κs = (
+  search needs,
+  counted (c .before .before .before .before .before .before .before .pre) _ _
+      (c .before .before .before .before .before .scan-arcs .ensures .0)
+      (c .before .before .before .if1 .left)
+      (c .before .before .before .before .before .scan-arcs .ensures .1
+      (c .before .before .before .if1 .left))
+      (c .if2 .left),
+)
 
 returns-3 : tie.Need-returns-3
 returns-3 c =
     let d = c .before in
-    arcs-passed (d .before .before .before .before .before .before .before .pre) _ _ (d .before .before .before .before .before .scan-arcs .ensures .0) (d .before .before .before .if1 .left) (sum-passed (d .before .before .before .before .before .before .before .pre) _ _ (d .before .before .before .before .before .scan-arcs .ensures .1 (d .before .before .before .if1 .left)) (d .if2 .left) (c .judge-points .ensures))
+    arcs-passed (d .before .before .before .before .before .before .before .pre) _ _
+    (d .before .before .before .before .before .scan-arcs .ensures .0)
+    (d .before .before .before .if1 .left)
+    (sum-passed (d .before .before .before .before .before .before .before .pre) _ _
+    (d .before .before .before .before .before .scan-arcs .ensures .1
+    (d .before .before .before .if1 .left)) (d .if2 .left) (c .judge-points .ensures))
 
 pub judge-arcs-spec : {M : Type 1} → statement M
 judge-arcs-spec =

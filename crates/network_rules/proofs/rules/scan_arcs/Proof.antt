@@ -1,4 +1,5 @@
--- `network_rules::rules::scan_arcs` meets its contract: no arc before a is bad, and `sum` is the points of those.
+-- `network_rules::rules::scan_arcs` meets its contract: no arc before a is bad, and `sum` is the points of
+-- those.
 use native.Mathlib.Omega.{arith}
 use mathlib.Core.Path.{_≡_}
 use Prim.Native.Nat.{_≤_, _-_, _*_}
@@ -10,15 +11,24 @@ use Rattle.network.specs.Rules.{badArc}
 use borrow.Author.Needs.{needs}
 use Rattle.network_rules.proofs.rules.scan_arcs.Statement.{statement}
 use Rattle.network_rules.proofs.rules.scan_arcs.Tie as tie
+use Rattle.network.specs.Limits.{mostArcs}
 
 abbrev Inv-loop : tie.InvT-loop
-Inv-loop file l arcs sum₀ a₀ sum a = (a ≤ arcs) × (arcs ≤ 2048) × (first a (badArc (decode file)) ≡ a) × (sum ≡ total a (count (decode file))) × (sum ≤ 65535 * a)
+Inv-loop file l arcs sum₀ a₀ sum a =
+    (a ≤ arcs) × (arcs ≤ mostArcs) × (first a (badArc (decode file)) ≡ a)
+    × (sum ≡ total a (count (decode file))) × (sum ≤ 65535 * a)
 
 abbrev μ-loop : tie.MeasureT-loop
 μ-loop file l arcs sum₀ a₀ sum a = arcs - a
 
 loop-holds : tie.Need-loop-holds Inv-loop μ-loop
-loop-holds c = (search needs, omega (arith, laid-small (c .before .pre)), search firsts, search totals, search needs)
+loop-holds c = (
+  search needs,
+  omega (arith, laid-small (c .before .pre)),
+  search firsts,
+  search totals,
+  search needs,
+)
 
 is-bad-arc-requires : tie.Need-is-bad-arc-requires Inv-loop μ-loop
 is-bad-arc-requires c κs = search needs

@@ -10,13 +10,17 @@ use Rattle.network_rules.proofs.rules.scan_points.Statement.{statement}
 use Rattle.network_rules.proofs.rules.scan_points.Tie as tie
 
 abbrev Inv-loop : tie.InvT-loop
-Inv-loop file l arcs points from₀ late₀ a₀ from late a = ScanningAll (decode file) (l .period) arcs points a from late
+Inv-loop file l arcs points from₀ late₀ a₀ from late a =
+    ScanningAll (decode file) (l .period) arcs points a from late
 
 abbrev μ-loop : tie.MeasureT-loop
 μ-loop file l arcs points from₀ late₀ a₀ from late a = arcs - a
 
 loop-holds : tie.Need-loop-holds Inv-loop μ-loop
-loop-holds c = let s = laid-sizes (c .before .pre .0) in all-start _ _ _ _ (c .before .pre .1) (s .period) (s .arcs) (s .points) (laid-small (c .before .pre .0) .points-most)
+loop-holds c =
+    let s = laid-sizes (c .before .pre .0) in
+    all-start _ _ _ _ (c .before .pre .1) (s .period) (s .arcs) (s .points)
+    (laid-small (c .before .pre .0) .points-most)
 
 count-requires : tie.Need-count-requires Inv-loop μ-loop
 count-requires c κs = search needs
@@ -25,7 +29,11 @@ scan-arc-requires : tie.Need-scan-arc-requires Inv-loop μ-loop
 scan-arc-requires c κs = (search needs, (search alls, search alls))
 
 add-t12 : tie.Need-add-t12 Inv-loop μ-loop
-add-t12 c = omega (arith, all-few _ _ _ _ _ _ _ _ (c .before .before .before .before .loop .inv) (c .before .before .before .loop-test .taken) (c .before .before .count .ensures .0))
+add-t12 c = omega (
+  arith,
+  all-few _ _ _ _ _ _ _ _ (c .before .before .before .before .loop .inv)
+      (c .before .before .before .loop-test .taken) (c .before .before .count .ensures .0),
+)
 
 returns : tie.Need-returns Inv-loop μ-loop
 returns c = search alls
@@ -34,7 +42,11 @@ late-in-requires : tie.Need-late-in-requires Inv-loop μ-loop
 late-in-requires c κs = search alls
 
 add-from : tie.Need-add-from Inv-loop μ-loop
-add-from c = omega (arith, all-few _ _ _ _ _ _ _ _ (c .before .before .before .before .before .loop .inv) (c .before .before .before .before .loop-test .taken) (c .before .before .before .count .ensures .0))
+add-from c = omega (
+  arith,
+  all-few _ _ _ _ _ _ _ _ (c .before .before .before .before .before .loop .inv)
+      (c .before .before .before .before .loop-test .taken) (c .before .before .before .count .ensures .0),
+)
 
 add-a : tie.Need-add-a Inv-loop μ-loop
 add-a c = search needs

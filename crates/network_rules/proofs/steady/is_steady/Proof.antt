@@ -1,14 +1,16 @@
--- `network_rules::steady::is_steady` meets its contract: `Seen` holds before each run, and once all points are seen the day has to close.
+-- `network_rules::steady::is_steady` meets its contract: `Seen` holds before each run, and once all points
+-- are seen the day has to close.
 use Prim.Native.Nat.{_-_}
 use native.Mathlib.Omega.{arith}
 use borrow.Author.Needs.{needs}
 use Rattle.network.specs.Decode.{decode, laid-small}
-use Rattle.network_rules.specs.Steady.{Seen, seens, seen-near}
+use Rattle.network_rules.specs.SteadyRun.{Seen, seens, seen-near}
 use Rattle.network_rules.proofs.steady.is_steady.Statement.{statement}
 use Rattle.network_rules.proofs.steady.is_steady.Tie as tie
 
 abbrev Inv-loop : tie.InvT-loop
-Inv-loop file l from count run₀ base₀ slot₀ done₀ run base slot done = Seen (decode file) l from count done base slot run
+Inv-loop file l from count run₀ base₀ slot₀ done₀ run base slot done =
+    Seen (decode file) l from count done base slot run
 
 abbrev μ-loop : tie.MeasureT-loop
 μ-loop file l from count run₀ base₀ slot₀ done₀ run base slot done = count - done
@@ -56,7 +58,8 @@ travel-requires : tie.Need-travel-requires Inv-loop μ-loop
 travel-requires c κs = search needs
 
 is-unclosed-requires : tie.Need-is-unclosed-requires Inv-loop μ-loop
-is-unclosed-requires c κs = (omega (arith, laid-small (c .before .before .before .before .before .before .pre .0)), search needs)
+is-unclosed-requires c κs =
+    (omega (arith, laid-small (c .before .before .before .before .before .before .pre .0)), search needs)
 
 returns-2 : tie.Need-returns-2 Inv-loop μ-loop
 returns-2 c = search seens

@@ -1,18 +1,22 @@
--- `network_rules::steady::run_on` meets its contract: `Running` holds before each point, and where a point breaks a rule nothing is said.
+-- `network_rules::steady::run_on` meets its contract: `Running` holds before each point, and where a point
+-- breaks a rule nothing is said.
 use Prim.Native.Nat.{_-_}
 use borrow.Author.Needs.{needs}
-use Rattle.network_rules.specs.Steady.{Running, runs}
+use Rattle.theory_loops.specs.Parts.{Running, parts}
+use Rattle.file_blocks.specs.Kind.{pointSize}
+use Rattle.network_rules.specs.SteadyRun.{steadyOf, pointAt, point-more}
 use Rattle.network_rules.proofs.steady.run_on.Statement.{statement}
 use Rattle.network_rules.proofs.steady.run_on.Tie as tie
 
 abbrev Inv-loop : tie.InvT-loop
-Inv-loop file base m period low₀ end₀ e₀ low end e = Running file base m period low₀ end₀ e low end
+Inv-loop file base m period low₀ end₀ e₀ low end e =
+    Running pointSize (pointAt file) (steadyOf period) base m e (low₀, end₀) (low, end)
 
 abbrev μ-loop : tie.MeasureT-loop
 μ-loop file base m period low₀ end₀ e₀ low end e = m - e
 
 loop-holds : tie.Need-loop-holds Inv-loop μ-loop
-loop-holds c = search runs
+loop-holds c = search parts
 
 mul-le16 : tie.Need-mul-le16 Inv-loop μ-loop
 mul-le16 c = search needs
@@ -45,7 +49,7 @@ is-breaking-requires : tie.Need-is-breaking-requires Inv-loop μ-loop
 is-breaking-requires c κs = search needs
 
 returns : tie.Need-returns Inv-loop μ-loop
-returns c = search runs
+returns c = search parts
 
 add-low : tie.Need-add-low Inv-loop μ-loop
 add-low c = search needs
@@ -60,10 +64,10 @@ loop-less : tie.Need-loop-less Inv-loop μ-loop
 loop-less c = search needs
 
 loop-again : tie.Need-loop-again Inv-loop μ-loop
-loop-again c = search runs
+loop-again c = search point-more
 
 returns-2 : tie.Need-returns-2 Inv-loop μ-loop
-returns-2 c = search runs
+returns-2 c = search parts
 
 pub run-on-spec : {M : Type 1} → statement M
 run-on-spec =

@@ -1,12 +1,16 @@
 -- `network_rules::steady::run_over` meets its contract: `Running` holds before each part.
 use Prim.Native.Nat.{_-_}
 use borrow.Author.Needs.{needs}
-use Rattle.network_rules.specs.Steady.{Running, parts}
+use Rattle.theory_loops.specs.Parts.{Running, parts}
+use Rattle.file_blocks.specs.Kind.{pointSize}
+use Rattle.network_rules.specs.SteadyRun.{steadyOf, pointAt}
 use Rattle.network_rules.proofs.steady.run_over.Statement.{statement}
 use Rattle.network_rules.proofs.steady.run_over.Tie as tie
 
 abbrev Inv-loop : tie.InvT-loop
-Inv-loop file base m period last₀ done₀ last done = Running file base m period (last₀ .low) (last₀ .end) done (last .low) (last .end)
+Inv-loop file base m period last₀ done₀ last done =
+    Running pointSize (pointAt file) (steadyOf period) base m done (last₀ .low, last₀ .end)
+    (last .low, last .end)
 
 abbrev μ-loop : tie.MeasureT-loop
 μ-loop file base m period last₀ done₀ last done = m - done

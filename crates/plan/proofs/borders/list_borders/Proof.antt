@@ -1,4 +1,5 @@
--- `plan::borders::list_borders` meets its contract: the marked nodes passed are listed. The two arms of the branch meet, so each is taken by itself.
+-- `plan::borders::list_borders` meets its contract: the marked nodes passed are listed. The two arms of the
+-- branch meet, so each is taken by itself.
 use mathlib.Core.Logic.{⊎-elim}
 use mathlib.Core.Path.{_≡_}
 use Prim.Native.Nat.{_≤_, _-_}
@@ -6,15 +7,23 @@ use native.Mathlib.Omega.{arith}
 use lib.ListN.{length}
 use borrow.Author.Needs.{needs}
 use Rattle.theory_loops.specs.Select.{Chosen, chooses, choose-yes, choose-no, choose-end}
+use Rattle.network.specs.Limits.{mostNodes}
 use Rattle.network.specs.Network.{nodes, arcs}
 use Rattle.network.specs.Decode.{decode, laid-sizes, laid-small}
+use Rattle.network.specs.Town.{partitionOf}
 use Rattle.plan.specs.Border.{isBorder}
 use Rattle.plan.specs.Marks.{Marked, mark-none, border-yes, border-no, borders-listed}
 use Rattle.plan.proofs.borders.list_borders.Statement.{statement}
 use Rattle.plan.proofs.borders.list_borders.Tie as tie
 
 abbrev Inv-loop : tie.InvT-loop
-Inv-loop network out₀ marks count₀ v₀ v-end out count v = (v ≤ v-end) × (v-end ≡ nodes (decode network)) × (v-end ≤ 512) × Marked (decode network) (arcs (decode network)) marks × (length out₀ ≡ 512) × Chosen v (isBorder (decode network)) count out₀ out
+Inv-loop network out₀ marks count₀ v₀ v-end out count v =
+    (v ≤ v-end)
+    × (v-end ≡ nodes (decode network))
+    × (v-end ≤ mostNodes)
+    × Marked (decode network) (arcs (decode network)) marks
+    × (length out₀ ≡ mostNodes)
+    × Chosen v (isBorder (partitionOf (decode network))) count out₀ out
 
 abbrev μ-loop : tie.MeasureT-loop
 μ-loop network out₀ marks count₀ v₀ v-end out count v = v-end - v
@@ -23,7 +32,14 @@ mark-heads-requires : tie.Need-mark-heads-requires Inv-loop μ-loop
 mark-heads-requires c κs = (search needs, (search needs, mark-none _))
 
 loop-holds : tie.Need-loop-holds Inv-loop μ-loop
-loop-holds c = let s = c .before .before .before .pre .0 in (search needs, laid-sizes s .nodes, laid-small s .nodes-most, search needs, c .before .before .before .pre .1 .1, search chooses)
+loop-holds c = let s = c .before .before .before .pre .0 in (
+  search needs,
+  laid-sizes s .nodes,
+  laid-small s .nodes-most,
+  search needs,
+  c .before .before .before .pre .1 .1,
+  search chooses,
+)
 
 array-read-if1 : tie.Need-array-read-if1 Inv-loop μ-loop
 array-read-if1 c = search needs
@@ -56,13 +72,16 @@ loop-again c =
       i .2,
       m,
       i .4,
-      ⊎-elim (λ w. rw (w .1, w .2) (choose-yes _ _ _ _ _ (i .5) (omega (arith, i .5 .few)) (border-yes _ _ m _ (omega arith) (w .0 .taken))))
+      ⊎-elim (λ w. rw (w .1, w .2)
+          (choose-yes _ _ _ _ _ (i .5) (omega (arith, i .5 .few))
+          (border-yes _ _ m _ (omega arith) (w .0 .taken))))
           (λ w. rw (w .1, w .2) (choose-no _ _ _ _ _ (i .5) (border-no _ _ m _ (omega arith) (w .0 .left))))
           (c .if1 .came),
     )
 
 returns : tie.Need-returns Inv-loop μ-loop
-returns c = let i = c .before .loop .inv in borders-listed _ _ _ _ (choose-end _ _ _ _ _ _ (i .5) (omega arith) (omega arith))
+returns c = let i = c .before .loop .inv in
+    borders-listed _ _ _ _ (choose-end _ _ _ _ _ _ (i .5) (omega arith) (omega arith))
 
 pub list-borders-spec : {M : Type 1} → statement M
 list-borders-spec =

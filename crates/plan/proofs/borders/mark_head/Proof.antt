@@ -1,7 +1,9 @@
--- `plan::borders::mark_head` meets its contract: the head is a node, so it has a mark, and each arm leaves the marks after one arc more.
+-- `plan::borders::mark_head` meets its contract: the head is a node, so it has a mark, and each arm leaves
+-- the marks after one arc more.
 use Prim.Native.Nat.{_<_}
 use native.Mathlib.Omega.{arith}
 use borrow.Author.Needs.{needs}
+use Rattle.network.specs.Limits.{mostNodes}
 use Rattle.network.specs.Decode.{laid-small}
 use Rattle.plan.specs.Marks.{markings, head-below, mark-set}
 use Rattle.plan.proofs.borders.mark_head.Statement.{statement}
@@ -20,14 +22,22 @@ cell-requires-2 : tie.Need-cell-requires-2
 cell-requires-2 c κs = (search needs, search markings)
 
 -- the head has a mark
-below : (c : tie.Then1) → c .before .before .before .before .head .result < 512
-below c = let p = c .before .before .before .before .before .before .pre in omega (arith, head-below (p .0) (p .1 .0) (p .1 .1 .0) (c .before .before .before .before .head .ensures .0), laid-small (p .0))
+below : (c : tie.Then1) → c .before .before .before .before .head .result < mostNodes
+below c = let p = c .before .before .before .before .before .before .pre in
+    omega (
+      arith,
+      head-below (p .0) (p .1 .0) (p .1 .1 .0) (c .before .before .before .before .head .ensures .0),
+      laid-small (p .0),
+    )
 
 element-write-marks : tie.Need-element-write-marks
 element-write-marks c = below c
 
 returns : tie.Need-returns
-returns c = mark-set _ _ _ (c .before .before .before .before .before .before .pre .1 .1 .1) _ _ _ _ (c .before .before .before .before .head .ensures .0) (c .before .before .before .tail .ensures .0) (c .before .before .cell .ensures .0) (c .before .cell2 .ensures .0) (c .if1 .taken) (below c)
+returns c =
+    mark-set _ _ _ (c .before .before .before .before .before .before .pre .1 .1 .1) _ _ _ _
+    (c .before .before .before .before .head .ensures .0) (c .before .before .before .tail .ensures .0)
+    (c .before .before .cell .ensures .0) (c .before .cell2 .ensures .0) (c .if1 .taken) (below c)
 
 returns-2 : tie.Need-returns-2
 returns-2 c = search markings

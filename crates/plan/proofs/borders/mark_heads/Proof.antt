@@ -29,7 +29,8 @@ loop-again : tie.Need-loop-again Inv-loop μ-loop
 loop-again c = (search needs, search needs, search needs)
 
 returns : tie.Need-returns Inv-loop μ-loop
-returns c = let i = c .before .loop .inv in let q = laid-sizes (c .before .before .before .pre .0) in mark-end _ _ _ _ (i .2) (i .0) (c .loop-test .left) (i .1 ∙ q .arcs)
+returns c = let i = c .before .loop .inv in let q = laid-sizes (c .before .before .before .pre .0) in
+    mark-end _ _ _ _ (i .2) (i .0) (c .loop-test .left) (i .1 ∙ q .arcs)
 
 pub mark-heads-spec : {M : Type 1} → statement M
 mark-heads-spec =

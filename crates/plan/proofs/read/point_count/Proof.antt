@@ -6,7 +6,8 @@ use Rattle.plan.proofs.read.point_count.Statement.{statement}
 use Rattle.plan.proofs.read.point_count.Tie as tie
 
 offset-requires : tie.Need-offset-requires
-offset-requires c κs = let e = count-in (c .before .pre .0) (c .before .pre .1) in (e .pos, e .fit, omega (arith, e .near))
+offset-requires c κs = let e = count-in (c .before .pre .0) (c .before .pre .1) in
+    (e .pos, e .fit, omega (arith, e .near))
 
 le16-requires : tie.Need-le16-requires
 le16-requires c κs = omega (arith, count-in (c .before .before .pre .0) (c .before .before .pre .1))
@@ -15,7 +16,11 @@ cast-result : tie.Need-cast-result
 cast-result c = search needs
 
 returns : tie.Need-returns
-returns c = (count-is (c .before .before .before .pre .0) (c .before .before .before .pre .1) (rw (c .before .offset .ensures) at (c .le16 .ensures)), search needs)
+returns c = (
+  count-is (c .before .before .before .pre .0) (c .before .before .before .pre .1)
+      (rw (c .before .offset .ensures) at (c .le16 .ensures)),
+  search needs,
+)
 
 pub point-count-spec : {M : Type 1} → statement M
 point-count-spec = tie.close (tie.spec offset-requires le16-requires cast-result returns)

@@ -5,7 +5,8 @@ use Rattle.plan.proofs.read.travel.Statement.{statement}
 use Rattle.plan.proofs.read.travel.Tie as tie
 
 offset-requires : tie.Need-offset-requires
-offset-requires c κs = let e = point-in (c .before .pre .0) (c .before .pre .1) in (e .pos, e .fit, omega (arith, e .near))
+offset-requires c κs = let e = point-in (c .before .pre .0) (c .before .pre .1) in
+    (e .pos, e .fit, omega (arith, e .near))
 
 add-le32 : tie.Need-add-le32
 add-le32 c = omega (arith, point-in (c .before .before .pre .0) (c .before .before .pre .1))
@@ -14,7 +15,9 @@ le32-requires : tie.Need-le32-requires
 le32-requires c κs = omega (arith, point-in (c .before .before .pre .0) (c .before .before .pre .1))
 
 returns : tie.Need-returns
-returns c = travel-is (c .before .before .before .pre .0) (c .before .before .before .pre .1) (rw (c .before .offset .ensures) at (c .le32 .ensures))
+returns c =
+    travel-is (c .before .before .before .pre .0) (c .before .before .before .pre .1)
+    (rw (c .before .offset .ensures) at (c .le32 .ensures))
 
 pub travel-spec : {M : Type 1} → statement M
 travel-spec = tie.close (tie.spec offset-requires add-le32 le32-requires returns)

@@ -1,4 +1,5 @@
--- `plan_check::check::check_tests` meets its contract: 20 is tried first, and the tables that are filled then are those that the other tests ask for.
+-- `plan_check::check::check_tests` meets its contract: 20 is tried first, and the tables that are filled then
+-- are those that the other tests ask for.
 use Rattle.search_arcs.specs.Town.{fresh-tables}
 use Rattle.plan_check.specs.Finding.{checks, equipped-of}
 use borrow.Author.Needs.{needs}
@@ -24,7 +25,11 @@ chain-requires : tie.Need-chain-requires
 chain-requires c κs = (search needs, search fresh-tables)
 
 check-triples-requires : tie.Need-check-triples-requires
-check-triples-requires c κs = equipped-of (c .before .before .before .before .before .before .before .before .before .before .before .before .before .pre .0) (c .before .before .before .before .before .before .first-points .ensures) (c .before .before .before .chain .ensures) (c .before .before .before .before .before .before .before .before .before .before .before .before .before .pre .1)
+check-triples-requires c κs =
+    let far = c .before .before .before .before .before .before .before .before .before .before in
+    equipped-of (far .before .before .before .pre .0)
+    (c .before .before .before .before .before .before .first-points .ensures)
+    (c .before .before .before .chain .ensures) (far .before .before .before .pre .1)
 
 returns-2 : tie.Need-returns-2
 returns-2 c = search checks

@@ -1,14 +1,17 @@
--- `plan_check::check::check_triples` meets its contract: where nothing fails the ladder from 21 on accepts; else it is what is left of it from this number on.
+-- `plan_check::check::check_triples` meets its contract: where nothing fails the ladder from 21 on accepts;
+-- else it is what is left of it from this number on.
 use Rattle.plan_check.specs.Finding.{Passed, passing, passed-none, passed-more, clean-accepted}
 use Rattle.plan.specs.PlanDecode.{decodePlan}
 use Rattle.network.specs.Decode.{decode}
+use Rattle.network.specs.Town.{partitionOf}
 use Prim.Native.Nat.{_-_}
 use borrow.Author.Needs.{needs}
 use Rattle.plan_check.proofs.check.check_triples.Statement.{statement}
 use Rattle.plan_check.proofs.check.check_triples.Tie as tie
 
 abbrev Inv-loop : tie.InvT-loop
-Inv-loop network l plan pl points first next borders number₀ number = Passed (decode network) (decodePlan plan) number
+Inv-loop network l plan pl points first next borders number₀ number =
+    Passed (partitionOf (decode network)) (decodePlan plan) number
 
 abbrev μ-loop : tie.MeasureT-loop
 μ-loop network l plan pl points first next borders number₀ number = 25 - number
@@ -46,7 +49,8 @@ loop-less c = search needs
 loop-again : tie.Need-loop-again Inv-loop μ-loop
 loop-again c =
     let i = c .before .before .before in
-    passed-more (i .before .loop .inv) (i .loop-test .taken) (c .before .before .first-failing .ensures) (c .enum-told .given .1)
+    passed-more (i .before .loop .inv) (i .loop-test .taken) (c .before .before .first-failing .ensures)
+    (c .enum-told .given .1)
 
 returns-3 : tie.Need-returns-3 Inv-loop μ-loop
 returns-3 c = search passing

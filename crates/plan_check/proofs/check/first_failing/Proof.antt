@@ -1,5 +1,6 @@
--- `plan_check::check::first_failing` meets its contract: each loop's invariant says that nothing failed at the indices that it has passed; the outer one also
--- says where the next border's profiles start, and the middle one that the tables are those of border number i.
+-- `plan_check::check::first_failing` meets its contract: each loop's invariant says that nothing failed at
+-- the indices that it has passed; the outer one also says where the next border's profiles start, and the
+-- middle one that the tables are those of border number i.
 use mathlib.Core.Path.{_≡_, refl, sym, _∙_}
 use Prim.Native.Nat.{_≤_, _-_, _*_}
 use lib.Dec.{lit≤}
@@ -7,6 +8,7 @@ use lib.ListN.{length}
 use Rattle.theory_loops.specs.First.{first, any, none-yet, pass, no-any}
 use Rattle.theory_loops.specs.Triple.{triple-at, triple-past}
 use Rattle.network.specs.Decode.{decode}
+use Rattle.network.specs.Town.{partitionOf}
 use Rattle.plan_check.specs.declared.check.Found.the-variants.{Nothing}
 use Rattle.plan.specs.Plan.{pointStart}
 use Rattle.plan.specs.PlanDecode.{decodePlan}
@@ -19,63 +21,80 @@ use Rattle.plan_check.proofs.check.first_failing.Statement.{statement}
 use Rattle.plan_check.proofs.check.first_failing.Tie as tie
 
 abbrev Inv-ticks : tie.InvT-ticks
-Inv-ticks number network l plan pl points first′ next borders count nodes period found₀ starts from i border u x₀ found x =
-    (x ≤ period) × (found ≡ Nothing) × (first x (fails number (decode network) (decodePlan plan) i u) ≡ x)
+Inv-ticks number network l plan pl points first′ next borders count nodes period found₀ starts from i border
+    u x₀ found x =
+    (x ≤ period) × (found ≡ Nothing)
+    × (first x (fails number (partitionOf (decode network)) (decodePlan plan) i u) ≡ x)
 
 abbrev μ-ticks : tie.MeasureT-ticks
-μ-ticks number network l plan pl points first′ next borders count nodes period found₀ starts from i border u x₀ found x =
+μ-ticks number network l plan pl points first′ next borders count nodes period found₀ starts from i border u
+    x₀ found x =
     period - x
 
 abbrev Inv-nodes : tie.InvT-nodes
-Inv-nodes number network l plan pl points first′ next borders count nodes period found₀ starts from i border u₀ found u =
+Inv-nodes number network l plan pl points first′ next borders count nodes period found₀ starts from i border
+    u₀ found u =
     (u ≤ nodes)
     × (found ≡ Nothing)
-    × (first u (λ u. any (l .period) (fails number (decode network) (decodePlan plan) i u)) ≡ u)
+    × (first u (λ u. any (l .period) (fails number (partitionOf (decode network)) (decodePlan plan) i u)) ≡ u)
     × AtBorder network l plan pl points first′ next starts border i
 
 abbrev μ-nodes : tie.MeasureT-nodes
-μ-nodes number network l plan pl points first′ next borders count nodes period found₀ starts from i border u₀ found u =
+μ-nodes number network l plan pl points first′ next borders count nodes period found₀ starts from i border u₀
+    found u =
     nodes - u
 
 abbrev Inv-borders : tie.InvT-borders
-Inv-borders number network l plan pl points first′ next borders count nodes period found₀ starts₀ from₀ i₀ found starts from i =
+Inv-borders number network l plan pl points first′ next borders count nodes period found₀ starts₀ from₀ i₀
+    found starts from i =
     (i ≤ count)
     × (found ≡ Nothing)
-    × (first i (λ i. any (l .nodes) (λ u. any (l .period) (fails number (decode network) (decodePlan plan) i u))) ≡ i)
+    × (first i (λ i. any (l .nodes)
+    (λ u. any (l .period) (fails number (partitionOf (decode network)) (decodePlan plan) i u))) ≡ i)
     × (from ≡ pointStart (decodePlan plan) (i * pl .nodes))
     × (pl .nodes ≤ length starts)
 
 abbrev μ-borders : tie.MeasureT-borders
-μ-borders number network l plan pl points first′ next borders count nodes period found₀ starts₀ from₀ i₀ found starts from i =
+μ-borders number network l plan pl points first′ next borders count nodes period found₀ starts₀ from₀ i₀
+    found starts from i =
     count - i
 
 -- the turns of the loops that a moment stands in, and where the function began
-abbrev in-ticks : tie.After-is-failing Inv-ticks μ-ticks Inv-nodes μ-nodes Inv-borders μ-borders → tie.In-ticks Inv-ticks μ-ticks Inv-nodes μ-nodes Inv-borders μ-borders
+abbrev in-ticks : tie.After-is-failing Inv-ticks μ-ticks Inv-nodes μ-nodes Inv-borders μ-borders
+    → tie.In-ticks Inv-ticks μ-ticks Inv-nodes μ-nodes Inv-borders μ-borders
 in-ticks c = c .before .before
 
-abbrev in-nodes : tie.After-is-failing Inv-ticks μ-ticks Inv-nodes μ-nodes Inv-borders μ-borders → tie.In-nodes Inv-ticks μ-ticks Inv-nodes μ-nodes Inv-borders μ-borders
+abbrev in-nodes : tie.After-is-failing Inv-ticks μ-ticks Inv-nodes μ-nodes Inv-borders μ-borders
+    → tie.In-nodes Inv-ticks μ-ticks Inv-nodes μ-nodes Inv-borders μ-borders
 in-nodes c = in-ticks c .before .before
 
-abbrev in-borders : tie.At-nodes Inv-ticks μ-ticks Inv-nodes μ-nodes Inv-borders μ-borders → tie.In-borders Inv-ticks μ-ticks Inv-nodes μ-nodes Inv-borders μ-borders
+abbrev in-borders : tie.At-nodes Inv-ticks μ-ticks Inv-nodes μ-nodes Inv-borders μ-borders
+    → tie.In-borders Inv-ticks μ-ticks Inv-nodes μ-nodes Inv-borders μ-borders
 in-borders c = c .before .before .before .before .before
 
-abbrev start : tie.In-borders Inv-ticks μ-ticks Inv-nodes μ-nodes Inv-borders μ-borders → tie.Start Inv-ticks μ-ticks Inv-nodes μ-nodes Inv-borders μ-borders
+abbrev start : tie.In-borders Inv-ticks μ-ticks Inv-nodes μ-nodes Inv-borders μ-borders
+    → tie.Start Inv-ticks μ-ticks Inv-nodes μ-nodes Inv-borders μ-borders
 start c = c .before .before .before .before
 
 borders-holds : tie.Need-borders-holds Inv-ticks μ-ticks Inv-nodes μ-nodes Inv-borders μ-borders
-borders-holds c = (zero≤, refl, none-yet _, from-start _ _, c .before .before .pre .check .formed .small .nodes-most)
+borders-holds c =
+    (zero≤, refl, none-yet _, from-start _ _, c .before .before .pre .check .formed .small .nodes-most)
 
-profile-starts-requires : tie.Need-profile-starts-requires Inv-ticks μ-ticks Inv-nodes μ-nodes Inv-borders μ-borders
+profile-starts-requires : tie.Need-profile-starts-requires Inv-ticks μ-ticks Inv-nodes μ-nodes Inv-borders
+    μ-borders
 profile-starts-requires c κs =
-    let i = c .before in
-    (start i .pre .check .formed, ((i .borders-test .taken, i .before .borders .inv .4), i .before .borders .inv .3))
+    let i = c .before in (
+      start i .pre .check .formed,
+      ((i .borders-test .taken, i .before .borders .inv .4), i .before .borders .inv .3),
+    )
 
 mul-wide : tie.Need-mul-wide Inv-ticks μ-ticks Inv-nodes μ-nodes Inv-borders μ-borders
 mul-wide c =
     let i = c .before .before in
     place-fits (i .borders-test .taken) (start i .pre .check .formed .small .borders-most) (lit≤ tt)
 
-element-copy-out-wide : tie.Need-element-copy-out-wide Inv-ticks μ-ticks Inv-nodes μ-nodes Inv-borders μ-borders
+element-copy-out-wide : tie.Need-element-copy-out-wide Inv-ticks μ-ticks Inv-nodes μ-nodes Inv-borders
+    μ-borders
 element-copy-out-wide c =
     let i = c .before .before in
     in-table (i .borders-test .taken) (start i .pre .check .formed .small .borders-most)
@@ -85,8 +104,13 @@ wide-requires c κs = tt
 
 nodes-holds : tie.Need-nodes-holds Inv-ticks μ-ticks Inv-nodes μ-nodes Inv-borders μ-borders
 nodes-holds c =
-    let i = c .before .before .before .before in
-    (zero≤, i .before .borders .inv .1, none-yet _, at-border (start i .pre) (i .borders-test .taken) (c .before .before .profile-starts .ensures .1) (c .wide .ensures .0))
+    let i = c .before .before .before .before in (
+      zero≤,
+      i .before .borders .inv .1,
+      none-yet _,
+      at-border (start i .pre) (i .borders-test .taken) (c .before .before .profile-starts .ensures .1)
+          (c .wide .ensures .0),
+    )
 
 ticks-holds : tie.Need-ticks-holds Inv-ticks μ-ticks Inv-nodes μ-nodes Inv-borders μ-borders
 ticks-holds c = (zero≤, c .before .nodes .inv .1, none-yet _)
@@ -99,7 +123,8 @@ is-failing-requires c κs =
 found-at-requires : tie.Need-found-at-requires Inv-ticks μ-ticks Inv-nodes μ-nodes Inv-borders μ-borders
 found-at-requires c κs =
     let pre = start (in-borders (in-nodes (c .before) .before)) .pre in (
-      in-table (in-borders (in-nodes (c .before) .before) .borders-test .taken) (pre .check .formed .small .borders-most),
+      in-table (in-borders (in-nodes (c .before) .before) .borders-test .taken)
+          (pre .check .formed .small .borders-most),
       in-table (in-nodes (c .before) .nodes-test .taken) (pre .check .town .small .nodes-most),
       in-table (in-ticks (c .before) .ticks-test .taken) (pre .check .town .small .period-most),
     )
@@ -107,7 +132,8 @@ found-at-requires c κs =
 add-x : tie.Need-add-x Inv-ticks μ-ticks Inv-nodes μ-nodes Inv-borders μ-borders
 add-x c =
     let x = c .before .before .before in
-    up-fits (x .ticks-test .taken) (start (in-borders (x .before .before .before)) .pre .check .town .small .period-most) (lit≤ tt)
+    up-fits (x .ticks-test .taken)
+    (start (in-borders (x .before .before .before)) .pre .check .town .small .period-most) (lit≤ tt)
 
 ticks-less : tie.Need-ticks-less Inv-ticks μ-ticks Inv-nodes μ-nodes Inv-borders μ-borders
 ticks-less c = up-less (c .before .before .before .ticks-test .taken)
@@ -116,13 +142,15 @@ ticks-again : tie.Need-ticks-again Inv-ticks μ-ticks Inv-nodes μ-nodes Inv-bor
 ticks-again c = (
   up-within (in-ticks (c .before) .ticks-test .taken),
   in-ticks (c .before) .before .ticks .inv .1,
-  pass _ _ (in-ticks (c .before) .before .ticks .inv .2) (sym (c .before .is-failing .ensures) ∙ c .if1 .left),
+  pass _ _ (in-ticks (c .before) .before .ticks .inv .2)
+      (sym (c .before .is-failing .ensures) ∙ c .if1 .left),
 )
 
 add-u : tie.Need-add-u Inv-ticks μ-ticks Inv-nodes μ-nodes Inv-borders μ-borders
 add-u c =
     let u = c .before .before in
-    up-fits (u .nodes-test .taken) (start (in-borders (u .before)) .pre .check .town .small .nodes-most) (lit≤ tt)
+    up-fits (u .nodes-test .taken) (start (in-borders (u .before)) .pre .check .town .small .nodes-most)
+    (lit≤ tt)
 
 nodes-less : tie.Need-nodes-less Inv-ticks μ-ticks Inv-nodes μ-nodes Inv-borders μ-borders
 nodes-less c = up-less (c .before .before .nodes-test .taken)
@@ -160,7 +188,8 @@ borders-again c =
 returns : tie.Need-returns Inv-ticks μ-ticks Inv-nodes μ-nodes Inv-borders μ-borders
 returns c =
     let i = c .before .borders .inv in
-    failing-is (c .before .before .before .before .pre) _ (triple-past _ _ _ _ _ (i .2) (i .0) (c .borders-test .left) _ _ _ (i .1))
+    failing-is (c .before .before .before .before .pre) _
+    (triple-past _ _ _ _ _ (i .2) (i .0) (c .borders-test .left) _ _ _ (i .1))
 
 returns-2 : tie.Need-returns-2 Inv-ticks μ-ticks Inv-nodes μ-nodes Inv-borders μ-borders
 returns-2 c =

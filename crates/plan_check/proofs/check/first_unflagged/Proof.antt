@@ -2,6 +2,7 @@
 use Rattle.plan_tests.specs.Tests.{fails20}
 use Rattle.plan.specs.PlanDecode.{decodePlan}
 use Rattle.network.specs.Decode.{decode}
+use Rattle.network.specs.Town.{partitionOf}
 use Prim.Native.Nat.{_≤_, _-_}
 use mathlib.Core.Path.{_≡_}
 use Rattle.theory_loops.specs.First.{first, firsts}
@@ -10,7 +11,8 @@ use Rattle.plan_check.proofs.check.first_unflagged.Statement.{statement
 use Rattle.plan_check.proofs.check.first_unflagged.Tie as tie
 
 abbrev Inv-loop : tie.InvT-loop
-Inv-loop network l plan pl arcs a₀ a = (a ≤ arcs) × (first a (fails20 (decode network) (decodePlan plan)) ≡ a)
+Inv-loop network l plan pl arcs a₀ a =
+    (a ≤ arcs) × (first a (fails20 (partitionOf (decode network)) (decodePlan plan)) ≡ a)
 
 abbrev μ-loop : tie.MeasureT-loop
 μ-loop network l plan pl arcs a₀ a = arcs - a

@@ -1,14 +1,23 @@
--- `plan_check::clean::is_clean` meets its contract: every border that was passed is clean at every node and tick, and the next one's profiles start at `from`.
+-- `plan_check::clean::is_clean` meets its contract: every border that was passed is clean at every node and
+-- tick, and the next one's profiles start at `from`.
 use mathlib.Core.Path.{_≡_}
 use Prim.Native.Nat.{_≤_, _<_, _-_, _*_}
 use lib.Dec.{lit≤}
 use lib.ListN.{length}
 use borrow.Author.Tests.{not-false}
 use Rattle.network.specs.Decode.{decode}
+use Rattle.network.specs.Town.{partitionOf}
 use Rattle.plan.specs.Plan.{pointStart}
 use Rattle.plan.specs.PlanDecode.{decodePlan}
 use Rattle.plan_check.specs.Ranges.{up-less, in-table, up-fits, place-fits}
-use Rattle.plan_check.specs.Clean.{CleanBorder, no-yes, clean-none, clean-more, clean-end, nothing-fails}
+use Rattle.plan_check.specs.Clean.{
+  CleanBorder,
+  no-yes,
+  clean-none,
+  clean-more,
+  clean-end,
+  nothing-fails,
+}
 use Rattle.plan_check.specs.Finding.{at-border, still-long, from-start}
 use Rattle.plan_check.proofs.clean.is_clean.Statement.{statement}
 use Rattle.plan_check.proofs.clean.is_clean.Tie as tie
@@ -17,7 +26,8 @@ abbrev Inv-loop : tie.InvT-loop
 Inv-loop network l plan pl points first next borders count starts₀ from₀ i₀ starts from i =
     (from ≡ pointStart (decodePlan plan) (i * pl .nodes))
     × (pl .nodes ≤ length starts)
-    × ((k : _) → k < i → CleanBorder (decode network) (decodePlan plan) (l .nodes) (l .period) k)
+    × ((k : _) → k < i
+    → CleanBorder (partitionOf (decode network)) (decodePlan plan) (l .nodes) (l .period) k)
 
 abbrev μ-loop : tie.MeasureT-loop
 μ-loop network l plan pl points first next borders count starts₀ from₀ i₀ starts from i = count - i
@@ -49,7 +59,8 @@ wide-requires c κs = tt
 is-clean-border-requires : tie.Need-is-clean-border-requires Inv-loop μ-loop
 is-clean-border-requires c κs =
     let i = c .before .before .before .before .before in
-    at-border (start i .pre) (i .loop-test .taken) (c .before .before .before .profile-starts .ensures .1) (c .before .wide .ensures .0)
+    at-border (start i .pre) (i .loop-test .taken) (c .before .before .before .profile-starts .ensures .1)
+    (c .before .wide .ensures .0)
 
 returns : tie.Need-returns Inv-loop μ-loop
 returns c = no-yes
@@ -72,7 +83,9 @@ loop-again c =
     )
 
 returns-2 : tie.Need-returns-2 Inv-loop μ-loop
-returns-2 c _ = nothing-fails (c .before .before .before .before .pre .check) (clean-end _ _ _ (c .before .loop .inv .2) (c .loop-test .left))
+returns-2 c _ =
+    nothing-fails (c .before .before .before .before .pre .check)
+    (clean-end _ _ _ (c .before .loop .inv .2) (c .loop-test .left))
 
 pub is-clean-spec : {M : Type 1} → statement M
 is-clean-spec =

@@ -1,4 +1,5 @@
--- `plan_check::clean::is_kept` meets its contract: the walk stands at an arc out of u, no arc before it gives less, and a yes so far has its flagged arc.
+-- `plan_check::clean::is_kept` meets its contract: the walk stands at an arc out of u, no arc before it gives
+-- less, and a yes so far has its flagged arc.
 use Prim.Native.Nat.{_-_}
 use lib.Dec.{lit≤}
 use Rattle.plan.specs.PlanDecode.{decodePlan}
@@ -21,10 +22,14 @@ is-number-requires : tie.Need-is-number-requires Inv-loop μ-loop
 is-number-requires c κs = tt
 
 mul-wide : tie.Need-mul-wide Inv-loop μ-loop
-mul-wide c = place-fits (c .before .before .before .pre .1 .1 .0 .0) (c .before .before .before .pre .0 .check .town .small .nodes-most) (lit≤ tt)
+mul-wide c =
+    place-fits (c .before .before .before .pre .1 .1 .0 .0)
+    (c .before .before .before .pre .0 .check .town .small .nodes-most) (lit≤ tt)
 
 element-copy-out-wide : tie.Need-element-copy-out-wide Inv-loop μ-loop
-element-copy-out-wide c = in-table (c .before .before .before .pre .1 .1 .0 .0) (c .before .before .before .pre .0 .check .town .small .nodes-most)
+element-copy-out-wide c =
+    in-table (c .before .before .before .pre .1 .1 .0 .0)
+    (c .before .before .before .pre .0 .check .town .small .nodes-most)
 
 wide-requires : tie.Need-wide-requires Inv-loop μ-loop
 wide-requires c κs = tt
@@ -32,7 +37,8 @@ wide-requires c κs = tt
 loop-holds : tie.Need-loop-holds Inv-loop μ-loop
 loop-holds c =
     let pre = c .before .before .before .before .before .pre in
-    keep-first (pre .0 .check .town) (pre .1 .0) (pre .1 .1 .1) (pre .1 .1 .0 .0) (c .before .before .is-number .ensures) (c .wide .ensures .0)
+    keep-first (pre .0 .check .town) (pre .1 .0) (pre .1 .1 .1) (pre .1 .1 .0 .0)
+    (c .before .before .is-number .ensures) (c .wide .ensures .0)
 
 weigh-requires : tie.Need-weigh-requires Inv-loop μ-loop
 weigh-requires c κs =
@@ -64,7 +70,8 @@ loop-again : tie.Need-loop-again Inv-loop μ-loop
 loop-again c =
     let seen = c .before .before .before in
     let d = seen .before in
-    keep-next (d .before .loop .inv) (d .loop-test .taken) (c .wide2 .ensures .0) (seen .weigh .ensures .0) (c .before .before .if1 .left) (seen .weigh .ensures .1)
+    keep-next (d .before .loop .inv) (d .loop-test .taken) (c .wide2 .ensures .0) (seen .weigh .ensures .0)
+    (c .before .before .if1 .left) (seen .weigh .ensures .1)
 
 returns-2 : tie.Need-returns-2 Inv-loop μ-loop
 returns-2 c = keep-end (c .before .loop .inv) (c .loop-test .left)

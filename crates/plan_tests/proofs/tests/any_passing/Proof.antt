@@ -1,4 +1,5 @@
--- `plan_tests::tests::any_passing` meets its contract: the walk stands at an arc out of u, and no arc before it passes.
+-- `plan_tests::tests::any_passing` meets its contract: the walk stands at an arc out of u, and no arc before
+-- it passes.
 use Prim.Native.Nat.{_-_}
 use Rattle.plan.specs.PlanDecode.{decodePlan}
 use Rattle.plan_tests.specs.Passing.{Passing, walks}
@@ -7,7 +8,8 @@ use Rattle.plan_tests.proofs.tests.any_passing.Statement.{statement}
 use Rattle.plan_tests.proofs.tests.any_passing.Tie as tie
 
 abbrev Inv-loop : tie.InvT-loop
-Inv-loop network l plan pl points first next starts asked i u value x arcs a₀ a = Passing network l (decodePlan plan) first next asked i u value x a
+Inv-loop network l plan pl points first next starts asked i u value x arcs a₀ a =
+    Passing network l (decodePlan plan) first next asked i u value x a
 
 abbrev μ-loop : tie.MeasureT-loop
 μ-loop network l plan pl points first next starts asked i u value x arcs a₀ a = arcs - a

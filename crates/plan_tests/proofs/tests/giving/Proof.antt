@@ -1,4 +1,5 @@
--- `plan_tests::tests::giving` meets its contract: the arc's end less the tick is its travel, and the head's value is read at the end, reduced.
+-- `plan_tests::tests::giving` meets its contract: the arc's end less the tick is its travel, and the head's
+-- value is read at the end, reduced.
 use Rattle.plan_tests.specs.Giving.{givings}
 use borrow.Author.Needs.{needs}
 use Rattle.plan_tests.proofs.tests.giving.Statement.{statement}

@@ -27,7 +27,8 @@ returns-3 : tie.Need-returns-3
 returns-3 c = search numbers
 
 is-unflagged-toward-requires : tie.Need-is-unflagged-toward-requires
-is-unflagged-toward-requires c κs = (search needs, (search needs, (search needs, (search needs, search givings))))
+is-unflagged-toward-requires c κs =
+    (search needs, (search needs, (search needs, (search needs, search givings))))
 
 returns-4 : tie.Need-returns-4
 returns-4 c = search numbers

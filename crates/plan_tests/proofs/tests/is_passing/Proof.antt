@@ -1,4 +1,5 @@
--- `plan_tests::tests::is_passing` meets its contract: an arc passes that has the flag and gives what is asked.
+-- `plan_tests::tests::is_passing` meets its contract: an arc passes that has the flag and gives what is
+-- asked.
 use Rattle.plan_tests.specs.Giving.{givings}
 use borrow.Author.Needs.{needs}
 use Rattle.plan_tests.proofs.tests.is_passing.Statement.{statement}

@@ -1,4 +1,5 @@
--- `plan_tests::tests::is_unflagged_toward` meets its contract, test 24: the flag that is asked for is that of the border's cell.
+-- `plan_tests::tests::is_unflagged_toward` meets its contract, test 24: the flag that is asked for is that of
+-- the border's cell.
 use Rattle.plan_tests.specs.Failing.{failings}
 use borrow.Author.Needs.{needs}
 use Rattle.plan_tests.proofs.tests.is_unflagged_toward.Statement.{statement}
@@ -14,7 +15,8 @@ cell-requires : tie.Need-cell-requires
 cell-requires c κs = search needs
 
 any-passing-requires-2 : tie.Need-any-passing-requires-2
-any-passing-requires-2 c κs = (search needs, (search needs, ((search needs, search needs, search failings), search needs)))
+any-passing-requires-2 c κs =
+    (search needs, (search needs, ((search needs, search needs, search failings), search needs)))
 
 returns : tie.Need-returns
 returns c = search failings

@@ -1,4 +1,5 @@
--- `plan_validate::rising::is_rising` meets its contract: `Seen` holds before each part, and once all points are seen the first tick has to be 0 and the last below the period.
+-- `plan_validate::rising::is_rising` meets its contract: `Seen` holds before each part, and once all points
+-- are seen the first tick has to be 0 and the last below the period.
 use Prim.Native.Nat.{_-_}
 use borrow.Author.Tests.{not-false}
 use borrow.Author.Needs.{needs}
@@ -32,7 +33,8 @@ add-offset : tie.Need-add-offset Inv-loop μ-loop
 add-offset c = search needs
 
 offset-requires : tie.Need-offset-requires Inv-loop μ-loop
-offset-requires c κs = let d = c .before in seen-near (start d .pre .0) _ _ (start d .pre .1) _ (d .loop-test .taken)
+offset-requires c κs = let d = c .before in
+    seen-near (start d .pre .0) _ _ (start d .pre .1) _ (d .loop-test .taken)
 
 rise-over-requires : tie.Need-rise-over-requires Inv-loop μ-loop
 rise-over-requires c κs = search seens
@@ -49,7 +51,9 @@ loop-less c = search needs
 loop-again : tie.Need-loop-again Inv-loop μ-loop
 loop-again c =
     let d = c .before .before .before .before in
-    seen-more (start d .pre .0) _ _ (start d .pre .1) _ _ _ (d .loop-test .taken) (c .before .before .before .side-by-side .ensures) (c .before .before .offset .ensures) _ _ (d .before .loop .inv) (c .before .rise-over .ensures) (not-false _ (c .if1 .left))
+    seen-more (start d .pre .0) _ _ (start d .pre .1) _ _ _ (d .loop-test .taken)
+    (c .before .before .before .side-by-side .ensures) (c .before .before .offset .ensures) _ _
+    (d .before .loop .inv) (c .before .rise-over .ensures) (not-false _ (c .if1 .left))
 
 returns-2 : tie.Need-returns-2 Inv-loop μ-loop
 returns-2 c = search seens

@@ -1,12 +1,15 @@
--- `plan_validate::rising::rise_over` meets its contract: `Climbing` holds before each part.
+-- `plan_validate::rising::rise_over` meets its contract: `Running` holds before each part.
 use Prim.Native.Nat.{_-_}
 use borrow.Author.Needs.{needs}
-use Rattle.plan_validate.specs.Rising.{Climbing, parts}
+use Rattle.theory_loops.specs.Parts.{Running, parts}
+use Rattle.file_blocks.specs.Kind.{profilePointSize}
+use Rattle.plan_validate.specs.Rising.{Rising, tickAt}
 use Rattle.plan_validate.proofs.rising.rise_over.Statement.{statement}
 use Rattle.plan_validate.proofs.rising.rise_over.Tie as tie
 
 abbrev Inv-loop : tie.InvT-loop
-Inv-loop plan base m low rise₀ done₀ rise done = Climbing plan base m low done (rise .low)
+Inv-loop plan base m low rise₀ done₀ rise done =
+    Running profilePointSize (tickAt plan) Rising base m done low (rise .low)
 
 abbrev μ-loop : tie.MeasureT-loop
 μ-loop plan base m low rise₀ done₀ rise done = m - done

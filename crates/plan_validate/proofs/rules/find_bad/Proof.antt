@@ -1,17 +1,26 @@
--- `plan_validate::rules::find_bad` meets its contract: the points passed keep the rule, the next tick's range goes by the last, and the cursor
--- stands before the next point.
+-- `plan_validate::rules::find_bad` meets its contract: the points passed keep the rule, the next tick's range
+-- goes by the last, and the cursor stands before the next point.
 use mathlib.Core.Path.{_≡_}
 use Prim.Native.Nat.{_+_, _-_, _<_}
 use native.Mathlib.Omega.{arith}
 use denote.Ref.{now}
 use borrow.Author.Needs.{needs}
 use Rattle.plan.specs.PlanDecode.{decodePlan, pointTick, plan-small}
-use Rattle.plan_validate.specs.PlanScan.{Scanning, scans, scan-stop, scan-more, tick-there, tick-read, tick-step}
+use Rattle.plan_validate.specs.PlanScan.{
+  Scanning,
+  scans,
+  scan-stop,
+  scan-more,
+  tick-there,
+  tick-read,
+  tick-step,
+}
 use Rattle.plan_validate.proofs.rules.find_bad.Statement.{statement}
 use Rattle.plan_validate.proofs.rules.find_bad.Tie as tie
 
 abbrev Inv-loop : tie.InvT-loop
-Inv-loop plan l from count next₀ low₀ high₀ i₀ next low high i = Scanning (decodePlan plan) l from count i low high next
+Inv-loop plan l from count next₀ low₀ high₀ i₀ next low high i =
+    Scanning (decodePlan plan) l from count i low high next
 
 abbrev μ-loop : tie.MeasureT-loop
 μ-loop plan l from count next₀ low₀ high₀ i₀ next low high i = count - i
@@ -20,12 +29,17 @@ abbrev start : tie.In-loop Inv-loop μ-loop → tie.Start Inv-loop μ-loop
 start c = c .before .before .before
 
 -- the point at hand stands in the file
-inside : (c : tie.In-loop Inv-loop μ-loop) → start c .args .from + c .before .loop .i < start c .args .l .points
+inside : (c : tie.In-loop Inv-loop μ-loop)
+    → start c .args .from + c .before .loop .i < start c .args .l .points
 inside c = omega arith
 
 -- what the field that is read there says
-read : (c : tie.After-field Inv-loop μ-loop) → c .field .result ≡ pointTick (decodePlan (now (start (c .before) .args .plan))) (start (c .before) .args .from + c .before .before .loop .i)
-read c = tick-read (start (c .before) .pre .0) (inside (c .before)) (c .before .before .loop .inv .at) (c .field .ensures .0)
+read : (c : tie.After-field Inv-loop μ-loop)
+    → c .field .result
+    ≡ pointTick (decodePlan (now (start (c .before) .args .plan)))
+    (start (c .before) .args .from + c .before .before .loop .i)
+read c = tick-read (start (c .before) .pre .0) (inside (c .before)) (c .before .before .loop .inv .at)
+    (c .field .ensures .0)
 
 loop-holds : tie.Need-loop-holds Inv-loop μ-loop
 loop-holds c = search scans
@@ -40,13 +54,17 @@ add-t13 : tie.Need-add-t13 Inv-loop μ-loop
 add-t13 c = search needs
 
 returns : tie.Need-returns Inv-loop μ-loop
-returns c = let d = c .before .before .before in scan-stop _ _ _ _ _ _ _ _ _ _ (plan-small (start d .pre .0) .period-some) (d .before .loop .inv) (d .loop-test .taken) (read (c .before .before)) (c .before .is-outside .ensures) (c .if1 .taken) (start d .pre .1 .0)
+returns c = let d = c .before .before .before in
+    scan-stop _ _ _ _ _ _ _ _ _ _ (plan-small (start d .pre .0) .period-some) (d .before .loop .inv)
+    (d .loop-test .taken) (read (c .before .before)) (c .before .is-outside .ensures) (c .if1 .taken)
+    (start d .pre .1 .0)
 
 add-low : tie.Need-add-low Inv-loop μ-loop
 add-low c = search needs
 
 next-requires : tie.Need-next-requires Inv-loop μ-loop
-next-requires c κs = let d = c .before .before .before in tick-step (start d .pre .0) (inside d) (d .before .loop .inv .at)
+next-requires c κs = let d = c .before .before .before in
+    tick-step (start d .pre .0) (inside d) (d .before .loop .inv .at)
 
 add-i : tie.Need-add-i Inv-loop μ-loop
 add-i c = search needs
@@ -55,7 +73,10 @@ loop-less : tie.Need-loop-less Inv-loop μ-loop
 loop-less c = search needs
 
 loop-again : tie.Need-loop-again Inv-loop μ-loop
-loop-again c = let d = c .before .before .before .before in scan-more _ _ _ _ _ _ _ _ _ _ (plan-small (start d .pre .0) .period-some) (d .before .loop .inv) (d .loop-test .taken) (read (c .before .before .before)) (c .before .before .is-outside .ensures) _ (c .before .if1 .left) (c .next .ensures)
+loop-again c = let d = c .before .before .before .before in
+    scan-more _ _ _ _ _ _ _ _ _ _ (plan-small (start d .pre .0) .period-some) (d .before .loop .inv)
+    (d .loop-test .taken) (read (c .before .before .before)) (c .before .before .is-outside .ensures) _
+    (c .before .if1 .left) (c .next .ensures)
 
 returns-2 : tie.Need-returns-2 Inv-loop μ-loop
 returns-2 c = search scans

@@ -1,4 +1,5 @@
--- `plan_validate::rules::has_high_bit` meets its contract: 64 cells leave no bit over, and fewer those that a shift keeps.
+-- `plan_validate::rules::has_high_bit` meets its contract: 64 cells leave no bit over, and fewer those that a
+-- shift keeps.
 use borrow.Author.Needs.{needs}
 use Rattle.plan.specs.PlanRules.{no-high, high-shift}
 use Rattle.plan_validate.proofs.rules.has_high_bit.Statement.{statement}

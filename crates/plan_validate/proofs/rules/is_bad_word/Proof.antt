@@ -1,4 +1,5 @@
--- `plan_validate::rules::is_bad_word` meets its contract: the word is the plan's, and no more than 64 cells are.
+-- `plan_validate::rules::is_bad_word` meets its contract: the word is the plan's, and no more than 64 cells
+-- are.
 use borrow.Author.Needs.{needs}
 use Rattle.plan.specs.PlanDecode.{plan-small}
 use Rattle.plan_validate.proofs.rules.is_bad_word.Statement.{statement}

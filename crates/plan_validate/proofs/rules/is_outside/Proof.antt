@@ -1,4 +1,5 @@
--- `plan_validate::rules::is_outside` meets its contract: the first test decides, or leaves the answer to the second.
+-- `plan_validate::rules::is_outside` meets its contract: the first test decides, or leaves the answer to the
+-- second.
 use Rattle.theory_loops.specs.Pick.{picks}
 use Rattle.plan_validate.proofs.rules.is_outside.Statement.{statement}
 use Rattle.plan_validate.proofs.rules.is_outside.Tie as tie

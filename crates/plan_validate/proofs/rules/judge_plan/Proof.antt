@@ -1,4 +1,5 @@
--- `plan_validate::rules::judge_plan` meets its contract: the flags decide, or leave the answer to the profiles.
+-- `plan_validate::rules::judge_plan` meets its contract: the flags decide, or leave the answer to the
+-- profiles.
 use native.Mathlib.Omega.{arith}
 use borrow.Author.Needs.{needs}
 use Rattle.theory_loops.specs.Pick.{picks}

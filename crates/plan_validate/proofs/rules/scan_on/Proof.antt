@@ -1,4 +1,5 @@
--- `plan_validate::rules::scan_on` meets its contract: a scan that has found a point, or whose next points are not in the file, stays as it is.
+-- `plan_validate::rules::scan_on` meets its contract: a scan that has found a point, or whose next points are
+-- not in the file, stays as it is.
 use borrow.Author.Needs.{needs}
 use Rattle.plan_validate.specs.PlanScanAll.{goings}
 use Rattle.plan_validate.proofs.rules.scan_on.Statement.{statement}

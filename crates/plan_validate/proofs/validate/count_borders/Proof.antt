@@ -6,7 +6,10 @@ use Rattle.plan_validate.proofs.validate.count_borders.Statement.{state
 use Rattle.plan_validate.proofs.validate.count_borders.Tie as tie
 
 list-borders-requires : tie.Need-list-borders-requires
-list-borders-requires c κs = (rw (c .before .before .pre .1) (valid-laid (c .before .before .pre .0)), (c .before .before .pre .0 .sound, refl))
+list-borders-requires c κs = (
+  rw (c .before .before .pre .1) (valid-laid (c .before .before .pre .0)),
+  (c .before .before .pre .0 .sound, refl),
+)
 
 returns : tie.Need-returns
 returns c = search needs

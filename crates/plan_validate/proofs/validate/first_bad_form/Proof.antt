@@ -1,4 +1,5 @@
--- `plan_validate::validate::first_bad_form` meets its contract: each run's first block out of its form decides, or leaves the answer to the next run.
+-- `plan_validate::validate::first_bad_form` meets its contract: each run's first block out of its form
+-- decides, or leaves the answer to the next run.
 use native.Mathlib.Omega.{arith}
 use borrow.Author.Needs.{needs}
 use Rattle.plan.specs.PlanDecode.{plan-small}
@@ -19,10 +20,16 @@ returns : tie.Need-returns
 returns c = search forms
 
 first-unformed-requires-2 : tie.Need-first-unformed-requires-2
-first-unformed-requires-2 c κs = (search forms, omega (arith, plan-small (c .before .before .before .before .pre)))
+first-unformed-requires-2 c κs =
+    (search forms, omega (arith, plan-small (c .before .before .before .before .pre)))
 
 add-if2 : tie.Need-add-if2
-add-if2 c = omega (arith, counts-few (c .before .before .before .before .before .before .pre) _ (c .before .first-unformed2 .ensures))
+add-if2 c =
+    omega (
+      arith,
+      counts-few (c .before .before .before .before .before .before .pre) _
+          (c .before .first-unformed2 .ensures),
+    )
 
 add-result-2 : tie.Need-add-result-2
 add-result-2 c = search needs
@@ -31,10 +38,18 @@ returns-2 : tie.Need-returns-2
 returns-2 c = search forms
 
 first-unformed-requires-3 : tie.Need-first-unformed-requires-3
-first-unformed-requires-3 c κs = (search forms, omega (arith, plan-small (c .before .before .before .before .before .before .before .before .pre)))
+first-unformed-requires-3 c κs = (
+  search forms,
+  omega (arith, plan-small (c .before .before .before .before .before .before .before .before .pre)),
+)
 
 add-result-3 : tie.Need-add-result-3
-add-result-3 c = omega (arith, points-few (c .before .before .before .before .before .before .before .before .before .before .pre) _ (c .before .first-unformed3 .ensures))
+add-result-3 c =
+    omega (
+      arith,
+      points-few (c .before .before .before .before .before .before .before .before .before .before .pre) _
+          (c .before .first-unformed3 .ensures),
+    )
 
 returns-3 : tie.Need-returns-3
 returns-3 c = search forms

@@ -31,7 +31,15 @@ returns c =
     let d = e .before in
     let b = d .before in
     let a = b .before in
-    rw (a .before .le32 .ensures, a .le16 .ensures, b .le162 .ensures, d .le163 .ensures, e .le164 .ensures, f .le165 .ensures, c .le322 .ensures)
+    rw (
+      a .before .le32 .ensures,
+      a .le16 .ensures,
+      b .le162 .ensures,
+      d .le163 .ensures,
+      e .le164 .ensures,
+      f .le165 .ensures,
+      c .le322 .ensures,
+    )
 
 pub header-at-spec : {M : Type 1} → statement M
 header-at-spec =

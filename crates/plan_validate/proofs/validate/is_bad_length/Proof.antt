@@ -1,4 +1,5 @@
--- `plan_validate::validate::is_bad_length` meets its contract: the first test decides, or leaves the answer to those after it.
+-- `plan_validate::validate::is_bad_length` meets its contract: the first test decides, or leaves the answer
+-- to those after it.
 use Rattle.theory_loops.specs.Pick.{picks}
 use Rattle.plan.specs.PlanValidate.{badPlanLength}
 use Rattle.plan_validate.proofs.validate.is_bad_length.Statement.{statement}

@@ -1,4 +1,5 @@
--- `plan_validate::validate::is_first_formed` meets its contract: the form decides, or leaves the answer to the zero bits.
+-- `plan_validate::validate::is_first_formed` meets its contract: the form decides, or leaves the answer to
+-- the zero bits.
 use borrow.Author.Needs.{needs}
 use Rattle.plan.specs.PlanValidate.{form-decides, bits-decide}
 use Rattle.plan_validate.proofs.validate.is_first_formed.Statement.{statement}

@@ -1,4 +1,5 @@
--- `plan_validate::validate::validate_first` meets its contract: the first block's form decides, or leaves the answer to the header.
+-- `plan_validate::validate::validate_first` meets its contract: the first block's form decides, or leaves the
+-- answer to the header.
 use borrow.Author.Needs.{needs}
 use Rattle.theory_loops.specs.Pick.{picks}
 use Rattle.plan.specs.PlanValidate.{plannedFirst}

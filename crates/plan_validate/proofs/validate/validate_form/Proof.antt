@@ -1,4 +1,5 @@
--- `plan_validate::validate::validate_form` meets its contract: a block out of its form decides, or leaves the answer to the rules.
+-- `plan_validate::validate::validate_form` meets its contract: a block out of its form decides, or leaves the
+-- answer to the rules.
 use native.Mathlib.Omega.{arith}
 use borrow.Author.Needs.{needs}
 use Rattle.plan.specs.PlanDecode.{plan-small}

@@ -1,4 +1,5 @@
--- `plan_validate::validate::validate_header` meets its contract: the numbers decide; where they are the network's they are within the limits.
+-- `plan_validate::validate::validate_header` meets its contract: the numbers decide; where they are the
+-- network's they are within the limits.
 use borrow.Author.Needs.{needs}
 use Rattle.plan.specs.PlanMatch.{header-within, header-taken, header-passed}
 use Rattle.plan_validate.proofs.validate.validate_header.Statement.{statement}

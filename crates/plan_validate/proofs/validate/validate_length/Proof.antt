@@ -1,4 +1,5 @@
--- `plan_validate::validate::validate_length` meets its contract: the length decides; where it is right the plan is laid out.
+-- `plan_validate::validate::validate_length` meets its contract: the length decides; where it is right the
+-- plan is laid out.
 use native.Mathlib.Omega.{arith}
 use denote.Ref.{now}
 use borrow.Author.Needs.{needs}
@@ -10,7 +11,12 @@ layout-requires : tie.Need-layout-requires
 layout-requires c κs = search needs
 
 mul-if1 : tie.Need-mul-if1
-mul-if1 c = omega (arith, blocks-few (now (c .before .before .before .args .plan)) _ _ (c .before .layout .ensures) (c .before .before .before .pre .0))
+mul-if1 c =
+    omega (
+      arith,
+      blocks-few (now (c .before .before .before .args .plan)) _ _ (c .before .layout .ensures)
+          (c .before .before .before .pre .0),
+    )
 
 refused-requires : tie.Need-refused-requires
 refused-requires c κs = search needs

@@ -1,4 +1,5 @@
--- `plan_validate::validate::validate_plan` meets its contract: the length decides, then the first bad sum, or the answer is left to the first block.
+-- `plan_validate::validate::validate_plan` meets its contract: the length decides, then the first bad sum, or
+-- the answer is left to the first block.
 use native.Mathlib.Omega.{arith}
 use borrow.Author.Needs.{needs}
 use Rattle.theory_loops.specs.Pick.{picks}
@@ -20,7 +21,11 @@ first-bad-sum-requires : tie.Need-first-bad-sum-requires
 first-bad-sum-requires c κs = search needs
 
 cast-refused : tie.Need-cast-refused
-cast-refused c = omega (arith, length-fine _ _ (c .before .before .before .is-bad-length .ensures) (c .before .before .if1 .left))
+cast-refused c =
+    omega (
+      arith,
+      length-fine _ _ (c .before .before .before .is-bad-length .ensures) (c .before .before .if1 .left),
+    )
 
 refused-requires-2 : tie.Need-refused-requires-2
 refused-requires-2 c κs = search needs
@@ -30,7 +35,16 @@ unfolding planned
 returns-2 c = search picks
 
 validate-first-requires : tie.Need-validate-first-requires
-validate-first-requires c κs = (search needs, (search needs, omega (arith, length-fine _ _ (c .before .before .before .is-bad-length .ensures) (c .before .before .if1 .left))))
+validate-first-requires c κs = (
+  search needs,
+  (
+    search needs,
+    omega (
+      arith,
+      length-fine _ _ (c .before .before .before .is-bad-length .ensures) (c .before .before .if1 .left),
+    ),
+  ),
+)
 
 returns-3 : tie.Need-returns-3
 unfolding planned

@@ -1,4 +1,5 @@
--- `plan_values::value::is_less` meets its contract: where both values are numbers, they are taken apart and compared.
+-- `plan_values::value::is_less` meets its contract: where both values are numbers, they are taken apart and
+-- compared.
 use Rattle.plan_values.specs.Value.{values}
 use borrow.Author.Needs.{needs}
 use Rattle.plan_values.proofs.value.is_less.Statement.{statement}

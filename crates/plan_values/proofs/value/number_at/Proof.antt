@@ -1,4 +1,5 @@
--- `plan_values::value::number_at` meets its contract: the segment of the tick and the next point, or the next day's first, are the ends of the line.
+-- `plan_values::value::number_at` meets its contract: the segment of the tick and the next point, or the next
+-- day's first, are the ends of the line.
 use Rattle.theory_travel.specs.Table.{entryAt, entry-start}
 use Rattle.theory_travel.specs.Day.{day-sorted, readings}
 use borrow.Author.Needs.{needs}

@@ -1,4 +1,5 @@
--- `plan_values::value::plus` meets its contract: a travel and a number of 32 bits each make a sum that fits 64.
+-- `plan_values::value::plus` meets its contract: a travel and a number of 32 bits each make a sum that fits
+-- 64.
 use Rattle.plan_values.specs.Value.{values}
 use borrow.Author.Needs.{needs}
 use Rattle.plan_values.proofs.value.plus.Statement.{statement}

@@ -1,4 +1,5 @@
--- `plan_values::value::profile_at` meets its contract: the entry that was read is where the profile with its number starts.
+-- `plan_values::value::profile_at` meets its contract: the entry that was read is where the profile with its
+-- number starts.
 use Rattle.plan_values.specs.Starts.{starting}
 use borrow.Author.Needs.{needs}
 use Rattle.plan_values.proofs.value.profile_at.Statement.{statement}

@@ -1,4 +1,5 @@
--- `plan_values::value::profile_starts` meets its contract: the running sum is where the next profile starts, and the entries passed are filled.
+-- `plan_values::value::profile_starts` meets its contract: the running sum is where the next profile starts,
+-- and the entries passed are filled.
 use Prim.Native.Nat.{_≤_, _-_}
 use mathlib.Core.Path.{_≡_}
 use Rattle.theory_loops.specs.Fill.{Filled, fills}
@@ -9,7 +10,9 @@ use Rattle.plan_values.proofs.value.profile_starts.Statement.{statement
 use Rattle.plan_values.proofs.value.profile_starts.Tie as tie
 
 abbrev Inv-loop : tie.InvT-loop
-Inv-loop plan l i from starts₀ nodes sum₀ u₀ starts sum u = (u ≤ nodes) × (sum ≡ startOf (decodePlan plan) nodes i u) × Filled 0 u (startOf (decodePlan plan) nodes i) starts₀ starts
+Inv-loop plan l i from starts₀ nodes sum₀ u₀ starts sum u =
+    (u ≤ nodes) × (sum ≡ startOf (decodePlan plan) nodes i u)
+    × Filled 0 u (startOf (decodePlan plan) nodes i) starts₀ starts
 
 abbrev μ-loop : tie.MeasureT-loop
 μ-loop plan l i from starts₀ nodes sum₀ u₀ starts sum u = nodes - u

@@ -1,4 +1,5 @@
--- `plan_values::value::segment` meets its contract: the two ends stand on either side of x, and come together by halves.
+-- `plan_values::value::segment` meets its contract: the two ends stand on either side of x, and come together
+-- by halves.
 use Rattle.plan.specs.PlanDecode.{decodePlan}
 use Rattle.theory_travel.specs.Table.{entryAt}
 use Rattle.theory_travel.specs.Search.{Between, halves}

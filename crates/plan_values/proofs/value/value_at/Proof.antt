@@ -1,4 +1,5 @@
--- `plan_values::value::value_at` meets its contract: a profile with no points is never, and the points of any other are a day's.
+-- `plan_values::value::value_at` meets its contract: a profile with no points is never, and the points of any
+-- other are a day's.
 use Rattle.plan_values.specs.Value.{values}
 use borrow.Author.Needs.{needs}
 use Rattle.plan_values.proofs.value.value_at.Statement.{statement}

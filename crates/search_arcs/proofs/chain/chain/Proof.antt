@@ -1,5 +1,7 @@
--- `search_arcs::chain::chain` meets its contract: the invariant is that both tables are as they should be for the arcs passed, from the last on.
+-- `search_arcs::chain::chain` meets its contract: the invariant is that both tables are as they should be for
+-- the arcs passed, from the last on.
 use Prim.Native.Nat.{_≤_, _-_}
+use Rattle.network.specs.Limits.{mostArcs}
 use Rattle.network.specs.Decode.{decode}
 use Rattle.search_arcs.specs.Chain.{endOf, Chained, chains}
 use borrow.Author.Needs.{needs}
@@ -7,7 +9,8 @@ use Rattle.search_arcs.proofs.chain.chain.Statement.{statement}
 use Rattle.search_arcs.proofs.chain.chain.Tie as tie
 
 abbrev Inv-loop : tie.InvT-loop
-Inv-loop file l end first₀ next₀ arcs k₀ first next k = (k ≤ arcs) × (arcs ≤ 2048) × Chained (endOf (decode file) end) (l .nodes) arcs (arcs - k) first next
+Inv-loop file l end first₀ next₀ arcs k₀ first next k =
+    (k ≤ arcs) × (arcs ≤ mostArcs) × Chained (endOf (decode file) end) (l .nodes) arcs (arcs - k) first next
 
 abbrev μ-loop : tie.MeasureT-loop
 μ-loop file l end first₀ next₀ arcs k₀ first next k = arcs - k

@@ -1,4 +1,5 @@
--- `search_arcs::times::ends_at` meets its contract: an arc's travel at the tick, reduced, is that of its points, and at most a period.
+-- `search_arcs::times::ends_at` meets its contract: an arc's travel at the tick, reduced, is that of its
+-- points, and at most a period.
 use Rattle.search_arcs.specs.Times.{times}
 use borrow.Author.Needs.{needs}
 use Rattle.search_arcs.proofs.times.ends_at.Statement.{statement}

@@ -1,4 +1,5 @@
--- `search_arcs::times::first_points` meets its contract: the sum is that of the counts passed, and fits 16 bits, since all points do.
+-- `search_arcs::times::first_points` meets its contract: the sum is that of the counts passed, and fits 16
+-- bits, since all points do.
 use mathlib.Core.Path.{_≡_}
 use Prim.Native.Nat.{_≤_, _-_}
 use Rattle.theory_loops.specs.Total.{total, totals}
@@ -12,7 +13,8 @@ use Rattle.search_arcs.proofs.times.first_points.Tie as tie
 
 abbrev Inv-loop : tie.InvT-loop
 Inv-loop file l starts₀ sum₀ a₀ a-end starts sum a =
-    (a ≤ a-end) × (a-end ≡ l .arcs) × (sum ≡ total a (count (decode file))) × Filled 0 a (start (decode file)) starts₀ starts
+    (a ≤ a-end) × (a-end ≡ l .arcs) × (sum ≡ total a (count (decode file)))
+    × Filled 0 a (start (decode file)) starts₀ starts
 
 abbrev μ-loop : tie.MeasureT-loop
 μ-loop file l starts₀ sum₀ a₀ a-end starts sum a = a-end - a

@@ -1,4 +1,5 @@
--- `search_arcs::times::segment` meets its contract: the two ends stand on either side of x, and come together by halves.
+-- `search_arcs::times::segment` meets its contract: the two ends stand on either side of x, and come together
+-- by halves.
 use Prim.Native.Nat.{_-_}
 use Rattle.theory_travel.specs.Table.{entryAt}
 use Rattle.theory_travel.specs.Search.{Between, halves}

@@ -1,4 +1,5 @@
--- `search_labels::frontier::nearest` meets its contract: the invariant is that entry `best` has the least label, `least`, of the entries passed.
+-- `search_labels::frontier::nearest` meets its contract: the invariant is that entry `best` has the least
+-- label, `least`, of the entries passed.
 use mathlib.Core.Logic.{⊎-elim}
 use Prim.Native.Nat.{_≤_, _-_}
 use Rattle.search_labels.specs.Frontier.{Frontier, entry-in}
@@ -9,7 +10,8 @@ use Rattle.search_labels.proofs.frontier.nearest.Statement.{statement}
 use Rattle.search_labels.proofs.frontier.nearest.Tie as tie
 
 abbrev Inv-loop : tie.InvT-loop
-Inv-loop labels frontier size best₀ least₀ i₀ best least i = (i ≤ size) × Frontier labels frontier size × Least labels frontier i best least
+Inv-loop labels frontier size best₀ least₀ i₀ best least i =
+    (i ≤ size) × Frontier labels frontier size × Least labels frontier i best least
 
 abbrev μ-loop : tie.MeasureT-loop
 μ-loop labels frontier size best₀ least₀ i₀ best least i = size - i
@@ -60,7 +62,8 @@ loop-again c =
     let e = c .before .before .wide2 .ensures .0 in (
       rw add-one l,
       i .1,
-      ⊎-elim (λ w. rw (w .1, w .2) (least-less (i .1) _ _ _ _ (i .2) l e (w .0 .taken))) (λ w. rw (w .1, w .2) (least-more (i .1) _ _ _ _ (i .2) l e (w .0 .left)))
+      ⊎-elim (λ w. rw (w .1, w .2) (least-less (i .1) _ _ _ _ (i .2) l e (w .0 .taken)))
+          (λ w. rw (w .1, w .2) (least-more (i .1) _ _ _ _ (i .2) l e (w .0 .left)))
           (c .if1 .came),
     )
 

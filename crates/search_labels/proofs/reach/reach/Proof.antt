@@ -1,4 +1,5 @@
--- `search_labels::reach::reach` meets its contract: by the chain of the arcs out of each node, and from the source's label alone, all is settled.
+-- `search_labels::reach::reach` meets its contract: by the chain of the arcs out of each node, and from the
+-- source's label alone, all is settled.
 use Rattle.search_labels.specs.Reach.{started-own, started-below, started-kept}
 use Rattle.search_arcs.specs.Town.{fresh-tables}
 use borrow.Author.Needs.{needs}

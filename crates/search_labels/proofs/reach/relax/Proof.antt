@@ -1,4 +1,5 @@
--- `search_labels::reach::relax` meets its contract: each way through the branches is a case of `relaxAt`, and of what becomes of the frontier.
+-- `search_labels::reach::relax` meets its contract: each way through the branches is a case of `relaxAt`, and
+-- of what becomes of the frontier.
 use Rattle.search_labels.specs.Ready.{ready-reads}
 use Rattle.search_labels.specs.Frontier.{pushes}
 use Rattle.search_labels.specs.Relax.{relax-less, relax-same, relax-late, relax-not}
@@ -23,13 +24,15 @@ slice-read-old : tie.Need-slice-read-old
 slice-read-old c = search ready-reads
 
 returns-2 : tie.Need-returns-2
-returns-2 c = record { labels = search (relax-late, eq-eqb, ready-reads); grown = search pushes; front = search needs }
+returns-2 c =
+    record { labels = search (relax-late, eq-eqb, ready-reads); grown = search pushes; front = search needs }
 
 ends-at-requires : tie.Need-ends-at-requires
 ends-at-requires c κs = (search needs, (search needs, search ready-reads))
 
 returns-3 : tie.Need-returns-3
-returns-3 c = record { labels = search (relax-same, eq-eqb, ready-reads); grown = search pushes; front = search needs }
+returns-3 c =
+    record { labels = search (relax-same, eq-eqb, ready-reads); grown = search pushes; front = search needs }
 
 mul-labels : tie.Need-mul-labels
 mul-labels c = search needs
@@ -41,7 +44,12 @@ same-length : tie.Need-same-length
 same-length c = search needs
 
 returns-4 : tie.Need-returns-4
-returns-4 c = record { labels = search (relax-less, eq-eqb, ready-reads); grown = search (pushes, ready-reads); front = search (pushes, ready-reads) }
+returns-4 c =
+    record {
+      labels = search (relax-less, eq-eqb, ready-reads);
+      grown = search (pushes, ready-reads);
+      front = search (pushes, ready-reads);
+    }
 
 cast-frontier : tie.Need-cast-frontier
 cast-frontier c = search needs
@@ -59,7 +67,12 @@ same-length-2 : tie.Need-same-length-2
 same-length-2 c = search needs
 
 returns-5 : tie.Need-returns-5
-returns-5 c = record { labels = search (relax-less, eq-eqb, ready-reads); grown = search (pushes, ready-reads); front = search (pushes, ready-reads) }
+returns-5 c =
+    record {
+      labels = search (relax-less, eq-eqb, ready-reads);
+      grown = search (pushes, ready-reads);
+      front = search (pushes, ready-reads);
+    }
 
 pub relax-spec : {M : Type 1} → statement M
 relax-spec =

@@ -1,6 +1,14 @@
--- `search_labels::reach::settle` meets its contract: the loop walks from each arc out of u to the next, and the arcs before are relaxed.
+-- `search_labels::reach::settle` meets its contract: the loop walks from each arc out of u to the next, and
+-- the arcs before are relaxed.
 use Prim.Native.Nat.{_-_}
-use Rattle.search_labels.specs.Walk.{Walking, walking-start, walking-less, walking-next, walking-end, walks}
+use Rattle.search_labels.specs.Walk.{
+  Walking,
+  walking-start,
+  walking-less,
+  walking-next,
+  walking-end,
+  walks,
+}
 use Rattle.search_labels.specs.Frontier.{entry-in}
 use borrow.Author.Needs.{needs}
 use Rattle.search_labels.proofs.reach.settle.Statement.{statement}
@@ -11,7 +19,8 @@ Inv-loop file l mask starts first next i labels₀ frontier₀ size u last tick 
     Walking file l mask starts first next u tick a labels₀ labels frontier₀ frontier last held
 
 abbrev μ-loop : tie.MeasureT-loop
-μ-loop file l mask starts first next i labels₀ frontier₀ size u last tick held₀ a₀ labels frontier held a = l .arcs - a
+μ-loop file l mask starts first next i labels₀ frontier₀ size u last tick held₀ a₀ labels frontier held a =
+    l .arcs - a
 
 mul-wide : tie.Need-mul-wide Inv-loop μ-loop
 mul-wide c = search needs
@@ -57,7 +66,8 @@ loop-holds c =
     let u = c .before .before .before .before in
     let s = u .before .before .before .before .before .pre in
     let f = s .1 .1 in
-    walking-start (s .0) (f .1) (f .0 .1) (f .0 .0) (u .wide .ensures .0) _ (s .1 .0) (f .0 .2) (c .wide2 .ensures .0)
+    walking-start (s .0) (f .1) (f .0 .1) (f .0 .0) (u .wide .ensures .0) _ (s .1 .0) (f .0 .2)
+    (c .wide2 .ensures .0)
 
 relax-requires : tie.Need-relax-requires Inv-loop μ-loop
 relax-requires c κs =

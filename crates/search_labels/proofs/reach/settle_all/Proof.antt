@@ -1,6 +1,7 @@
--- `search_labels::reach::settle_all` meets its contract: each turn is a step of the theory. The measure falls by one with each node settled: a node that is
--- put into the frontier is one less without a label.
+-- `search_labels::reach::settle_all` meets its contract: each turn is a step of the theory. The measure falls
+-- by one with each node settled: a node that is put into the frontier is one less without a label.
 use Prim.Native.Nat.{_+_}
+use Rattle.network.specs.Limits.{mostNodes}
 use Rattle.theory_paths.specs.Labels.{label}
 use Rattle.network.specs.Town.{graphOf}
 use Rattle.network.specs.Network.{tail}
@@ -22,7 +23,8 @@ Inv-loop file l mask starts first next source target labels₀ frontier₀ size�
     × Searching (graphOf (decode file)) (permitOf mask) source (label labels₀ source) labels frontier size
 
 abbrev μ-loop : tie.MeasureT-loop
-μ-loop file l mask starts first next source target labels₀ frontier₀ size₀ labels frontier size = size + unknown labels
+μ-loop file l mask starts first next source target labels₀ frontier₀ size₀ labels frontier size =
+    size + unknown labels
 
 cast-frontier : tie.Need-cast-frontier Inv-loop μ-loop
 cast-frontier c = search needs
@@ -39,10 +41,14 @@ nearest-requires c κs =
     (t .before .loop .inv .2 .front, t .loop-test .taken)
 
 mul-wide : tie.Need-mul-wide Inv-loop μ-loop
-mul-wide c = scaled-fits _ 512 2 (entry-place (c .before .before .before .before .loop .inv .2 .front) _ (c .nearest .ensures .within)) (lit< tt)
+mul-wide c =
+    scaled-fits _ mostNodes 2
+    (entry-place (c .before .before .before .before .loop .inv .2 .front) _ (c .nearest .ensures .within))
+    (lit< tt)
 
 array-read-wide : tie.Need-array-read-wide Inv-loop μ-loop
-array-read-wide c = entry-place (c .before .before .before .before .loop .inv .2 .front) _ (c .nearest .ensures .within)
+array-read-wide c =
+    entry-place (c .before .before .before .before .loop .inv .2 .front) _ (c .nearest .ensures .within)
 
 wide-requires : tie.Need-wide-requires Inv-loop μ-loop
 wide-requires c κs = search needs

@@ -10,7 +10,8 @@ use Rattle.search_labels.proofs.reach.start.Statement.{statement}
 use Rattle.search_labels.proofs.reach.start.Tie as tie
 
 abbrev Inv-loop : tie.InvT-loop
-Inv-loop labels₀ source departure v₀ v-end labels v = (v ≤ v-end) × (v-end ≡ length labels₀) × Filled 0 v (λ _. never) labels₀ labels
+Inv-loop labels₀ source departure v₀ v-end labels v =
+    (v ≤ v-end) × (v-end ≡ length labels₀) × Filled 0 v (λ _. never) labels₀ labels
 
 abbrev μ-loop : tie.MeasureT-loop
 μ-loop labels₀ source departure v₀ v-end labels v = v-end - v

@@ -1,4 +1,5 @@
--- `search_path::path::arc_into` meets its contract: the walk passes only arcs that do not explain the label, and is left at the first that does.
+-- `search_path::path::arc_into` meets its contract: the walk passes only arcs that do not explain the label,
+-- and is left at the first that does.
 use Prim.Native.Nat.{_-_}
 use Rattle.search_path.specs.Into.{Passing, intos}
 use Rattle.search_labels.specs.Walk.{arc-place, arc-scaled}
@@ -28,7 +29,7 @@ is-into-requires : tie.Need-is-into-requires Inv-loop μ-loop
 is-into-requires c κs =
     let w = c .before .loop .inv in
     let s = c .before .before .before .before .before .before .before .pre in
-    (w .ready, (s .1 .1, (c .loop-test .taken, w .here (c .loop-test .taken))))
+    (w .ready, (s .1 .1, (c .loop-test .taken, w .walk .here (c .loop-test .taken))))
 
 returns : tie.Need-returns Inv-loop μ-loop
 returns c = search intos

@@ -1,4 +1,5 @@
--- `search_path::path::count` meets its contract: the loop goes back along the chosen path, and counts its arcs.
+-- `search_path::path::count` meets its contract: the loop goes back along the chosen path, and counts its
+-- arcs.
 use Prim.Native.Nat.{_-_}
 use Rattle.network.specs.Network.{head}
 use Rattle.network.specs.Decode.{decode}
@@ -10,7 +11,8 @@ use Rattle.search_path.proofs.path.count.Tie as tie
 
 abbrev Inv-loop : tie.InvT-loop
 Inv-loop file l mask starts first next labels source target v₀ count₀ v count =
-    Chained (head (decode file)) (l .nodes) (l .arcs) 0 first next × Backing file l mask starts source target labels v count
+    Chained (head (decode file)) (l .nodes) (l .arcs) 0 first next
+    × Backing file l mask starts source target labels v count
 
 abbrev μ-loop : tie.MeasureT-loop
 μ-loop file l mask starts first next labels source target v₀ count₀ v count = l .nodes - count

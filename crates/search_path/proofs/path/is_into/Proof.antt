@@ -42,7 +42,8 @@ returns-3 c =
     let L = s .args .labels .now in
     let u : e .before .before .tail .result < length L = search ready-reads in
     let v : s .args .v < length L = search ready-reads in
-    too-late (graphOf (decode (s .args .file .now))) (permitOf (s .args .mask .now)) L (s .args .v) (s .args .arc) _ u
+    too-late (graphOf (decode (s .args .file .now))) (permitOf (s .args .mask .now)) L (s .args .v)
+    (s .args .arc) _ u
     (e .before .before .tail .ensures .0)
     (eq-eqb _ _ (f .if1 .left))
     (s .pre .1 .1 .1)
@@ -61,7 +62,8 @@ returns-4 c =
     let L = s .args .labels .now in
     let u : e .before .before .tail .result < length L = search ready-reads in
     let v : s .args .v < length L = search ready-reads in
-    by-end (graphOf (decode (s .args .file .now))) (permitOf (s .args .mask .now)) L (s .args .v) (s .args .arc) _ u
+    by-end (graphOf (decode (s .args .file .now))) (permitOf (s .args .mask .now)) L (s .args .v)
+    (s .args .arc) _ u
     (e .before .before .tail .ensures .0)
     (eq-eqb _ _ (f .if1 .left))
     (s .pre .1 .1 .1)

@@ -1,4 +1,5 @@
--- `search_path::path::path` meets its contract: the path is counted, and written where the list is long enough.
+-- `search_path::path::path` meets its contract: the path is counted, and written where the list is long
+-- enough.
 use Rattle.search_path.specs.Path.{listed-short, listed-way}
 use Rattle.search_arcs.specs.Town.{fresh-tables}
 use borrow.Author.Needs.{needs}

@@ -1,8 +1,17 @@
--- `search_path::path::write` meets its contract: the loop goes back along the chosen path, and writes each arc before those written.
+-- `search_path::path::write` meets its contract: the loop goes back along the chosen path, and writes each
+-- arc before those written.
 use Prim.Native.Nat.{_-_}
 use Rattle.network.specs.Network.{head}
 use Rattle.network.specs.Decode.{decode}
-use Rattle.search_path.specs.Path.{Writing, write-node, write-size, write-place, write-scaled, write-more, writes}
+use Rattle.search_path.specs.Path.{
+  Writing,
+  write-node,
+  write-size,
+  write-place,
+  write-scaled,
+  write-more,
+  writes,
+}
 use Rattle.search_arcs.specs.Chain.{Chained}
 use borrow.Author.Needs.{needs}
 use Rattle.search_path.proofs.path.write.Statement.{statement}
@@ -10,7 +19,8 @@ use Rattle.search_path.proofs.path.write.Tie as tie
 
 abbrev Inv-loop : tie.InvT-loop
 Inv-loop file l mask starts first next labels source target count roads₀ v₀ n₀ roads v n =
-    Chained (head (decode file)) (l .nodes) (l .arcs) 0 first next × Writing file l mask starts source target labels count v n roads₀ roads
+    Chained (head (decode file)) (l .nodes) (l .arcs) 0 first next
+    × Writing file l mask starts source target labels count v n roads₀ roads
 
 abbrev μ-loop : tie.MeasureT-loop
 μ-loop file l mask starts first next labels source target count roads₀ v₀ n₀ roads v n = count - n

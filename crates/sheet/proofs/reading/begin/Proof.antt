@@ -1,5 +1,5 @@
 -- `sheet::reading::begin` meets its contract.
-use Rattle.sheet_line.specs.Text.{printed}
+use Rattle.sheet_text.specs.Printed.{printed}
 use Rattle.sheet.specs.ReadingSteps.{begins}
 use borrow.Author.Needs.{needs}
 use Rattle.sheet.proofs.reading.begin.Statement.{statement}

@@ -1,8 +1,7 @@
 -- `trip::flagged::drive_flagged` meets its contract.
-use denote.Ref.{now}
 use native.Mathlib.Omega.{arith}
 use Rattle.trip_call.specs.Drive.{drive-laid, drive-sizes}
-use Rattle.trip.specs.Flagged.{flags, flagged-answer, flagged-arrivals, flagged-roads}
+use Rattle.trip.specs.Flagged.{flags, flagged-driven}
 use borrow.Author.Needs.{needs}
 use Rattle.trip.proofs.flagged.drive_flagged.Statement.{statement}
 use Rattle.trip.proofs.flagged.drive_flagged.Tie as tie
@@ -11,7 +10,10 @@ layout-requires : tie.Need-layout-requires
 layout-requires c κs = search needs
 
 cell-requires : tie.Need-cell-requires
-cell-requires c κs = (search drive-laid, omega (arith, drive-sizes _ _ (c .layout .ensures), c .before .before .before .before .before .pre .1 .1))
+cell-requires c κs = (
+  search drive-laid,
+  omega (arith, drive-sizes _ _ (c .layout .ensures), c .before .before .before .before .before .pre .1 .1),
+)
 
 layout-requires-2 : tie.Need-layout-requires-2
 layout-requires-2 c κs = search flags
@@ -23,7 +25,7 @@ slice-aggregate-drive : tie.Need-slice-aggregate-drive
 slice-aggregate-drive c = search needs
 
 drive-requires : tie.Need-drive-requires
-drive-requires c κs = (search needs, (search needs, search needs, search needs, search needs, search flags))
+drive-requires c κs = (search needs, (search needs, search flags))
 
 same-length : tie.Need-same-length
 same-length c = search needs
@@ -32,13 +34,14 @@ same-length-2 : tie.Need-same-length-2
 same-length-2 c = search needs
 
 returns : tie.Need-returns
-returns c = (
-  flagged-answer (c .before .before .before .before .before .before .before .before .before .before .before .before .before .before .before .before .before .pre .0) (c .before .before .before .before .before .before .before .before .before .before .before .before .before .before .before .before .before .pre .1 .0) _ _ _ _ _ (c .before .before .before .before .before .before .before .before .before .before .before .cell .ensures .0) (c .before .before .before .before .before .before .before .before .before .before .layout2 .ensures) (c .before .before .before .before .before .before .before .before .fill-mask .ensures) _ _ _ _ (c .before .before .before .before .drive .ensures .0),
-  (
-    flagged-arrivals (c .before .before .before .before .before .before .before .before .before .before .before .before .before .before .before .before .before .pre .0) (c .before .before .before .before .before .before .before .before .before .before .before .before .before .before .before .before .before .pre .1 .0) _ _ _ _ _ (c .before .before .before .before .before .before .before .before .before .before .before .cell .ensures .0) (c .before .before .before .before .before .before .before .before .before .before .layout2 .ensures) (c .before .before .before .before .before .before .before .before .fill-mask .ensures) _ _ _ _ (c .before .before .before .before .drive .ensures .1 .0),
-    flagged-roads (c .before .before .before .before .before .before .before .before .before .before .before .before .before .before .before .before .before .pre .0) (c .before .before .before .before .before .before .before .before .before .before .before .before .before .before .before .before .before .pre .1 .0) _ _ _ _ _ (c .before .before .before .before .before .before .before .before .before .before .before .cell .ensures .0) (c .before .before .before .before .before .before .before .before .before .before .layout2 .ensures) (c .before .before .before .before .before .before .before .before .fill-mask .ensures) (c .before .before .before .before .drive .result) (c .before .before .before .before .before .before .before .before .before .before .before .before .before .before .before .before .before .args .from) (c .before .before .before .before .before .before .before .before .before .before .before .before .before .before .before .before .before .args .departure) (now (c .before .before .before .before .before .before .before .before .before .before .before .before .before .before .before .before .before .args .roads)) _ (c .before .before .before .before .drive .ensures .1 .1),
-  ),
-)
+returns c =
+    let d = c .before .before .before .before in
+    let m = d .before .before .before .before in
+    let l = m .before .before in
+    let s = l .before .before .before .before .before .before .before in
+    flagged-driven (s .pre .0) (s .pre .1 .0) _ _ _ _ _ (l .before .cell .ensures .0) (l .layout2 .ensures)
+    (m .fill-mask .ensures)
+    _ _ _ _ _ _ _ (d .drive .ensures)
 
 pub drive-flagged-spec : {M : Type 1} → statement M
 drive-flagged-spec =

@@ -1,5 +1,4 @@
 -- `trip::flagged::flagged_asked` meets its contract.
-use mathlib.Core.Path.{refl}
 use Rattle.trip_call.specs.Stage.{stages}
 use borrow.Author.Needs.{needs}
 use Rattle.trip.proofs.flagged.flagged_asked.Statement.{statement}
@@ -18,7 +17,7 @@ drive-flagged-requires : tie.Need-drive-flagged-requires
 drive-flagged-requires c κs = (search needs, (search needs, search stages))
 
 returns : tie.Need-returns
-returns c = (search stages, (search stages, refl))
+returns c = search stages
 
 same-length : tie.Need-same-length
 same-length c = search needs
@@ -27,7 +26,7 @@ same-length-2 : tie.Need-same-length-2
 same-length-2 c = search needs
 
 returns-2 : tie.Need-returns-2
-returns-2 c = (search stages, (search stages, search needs))
+returns-2 c = search stages
 
 pub flagged-asked-spec : {M : Type 1} → statement M
 flagged-asked-spec =

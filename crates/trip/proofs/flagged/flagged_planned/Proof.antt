@@ -1,5 +1,4 @@
 -- `trip::flagged::flagged_planned` meets its contract.
-use mathlib.Core.Path.{refl}
 use Rattle.trip.specs.Flagged.{plan-stages}
 use borrow.Author.Needs.{needs}
 use Rattle.trip.proofs.flagged.flagged_planned.Statement.{statement}
@@ -21,7 +20,7 @@ flagged-asked-requires : tie.Need-flagged-asked-requires
 flagged-asked-requires c κs = (search needs, search plan-stages)
 
 returns : tie.Need-returns
-returns c = (search plan-stages, (search plan-stages, refl))
+returns c = search plan-stages
 
 same-length : tie.Need-same-length
 same-length c = search needs
@@ -30,7 +29,7 @@ same-length-2 : tie.Need-same-length-2
 same-length-2 c = search needs
 
 returns-2 : tie.Need-returns-2
-returns-2 c = (search plan-stages, (search plan-stages, search needs))
+returns-2 c = search plan-stages
 
 pub flagged-planned-spec : {M : Type 1} → statement M
 flagged-planned-spec =

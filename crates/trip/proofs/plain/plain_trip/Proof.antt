@@ -1,5 +1,4 @@
 -- `trip::plain::plain_trip` meets its contract.
-use mathlib.Core.Path.{refl}
 use Rattle.trip.specs.Plain.{plains}
 use Rattle.trip_call.specs.Stage.{stages}
 use borrow.Author.Needs.{needs}
@@ -19,10 +18,10 @@ slice-aggregate-drive : tie.Need-slice-aggregate-drive
 slice-aggregate-drive c = search needs
 
 drive-requires : tie.Need-drive-requires
-drive-requires c κs = (search plains, (search plains, search plains, search plains, search plains, search plains))
+drive-requires c κs = (search plains, (search plains, search plains))
 
 returns : tie.Need-returns
-returns c = (search stages, (search stages, refl))
+returns c = search stages
 
 same-length : tie.Need-same-length
 same-length c = search needs
@@ -31,7 +30,7 @@ same-length-2 : tie.Need-same-length-2
 same-length-2 c = search needs
 
 returns-2 : tie.Need-returns-2
-returns-2 c = (search plains, (search plains, search plains))
+returns-2 c = search plains
 
 pub plain-trip-spec : {M : Type 1} → statement M
 plain-trip-spec =

@@ -1,29 +1,35 @@
 -- `varnwalnut::desk::varnwalnut_open_network` meets its contract.
 use mathlib.Core.Path.{refl}
-use Rattle.varnwalnut.specs.Calling.{room-short, kept-short, enough}
+use Rattle.varnwalnut.specs.Calling.{open-short, open-written}
 use borrow.Author.Needs.{needs}
 use Rattle.varnwalnut.proofs.desk.varnwalnut_open_network.Statement.{statement}
 use Rattle.varnwalnut.proofs.desk.varnwalnut_open_network.Tie as tie
 
 returns : tie.Need-returns
-returns c =
-    let l = c .if1 .taken in
-    (room-short 9 _ _ _ l refl, (kept-short 9 _ _ _ l, (kept-short 9 _ _ _ l, ((kept-short 9 _ _ _ l, kept-short 9 _ _ _ l, kept-short 9 _ _ _ l), (kept-short 9 _ _ _ l, kept-short 9 _ _ _ l)))))
+returns c = open-short _ _ _ _ (c .if1 .taken) refl
 
 open-network-requires : tie.Need-open-network-requires
 open-network-requires c κs = search needs
 
 write-opening-requires : tie.Need-write-opening-requires
-write-opening-requires c κs = c .before .before .before .before .before .before .before .before .before .before .before .before .before .before .before .before .before .before .before .before .if1 .left
+write-opening-requires c κs =
+    let far = c .before .before .before .before .before .before .before .before .before .before in
+    let farther = far .before .before .before .before .before .before .before .before .before .before in
+    farther .if1 .left
 
 same-length : tie.Need-same-length
-same-length c = c .before .before .before .before .before .before .before .before .before .before .before .before .before .before .before .cells .given
+same-length c =
+    let far = c .before .before .before .before .before .before .before .before .before .before in
+    far .before .before .before .before .before .cells .given
 
 same-length-2 : tie.Need-same-length-2
-same-length-2 c = c .before .before .before .before .before .before .before .before .before .before .before .before .before .from .given
+same-length-2 c =
+    let far = c .before .before .before .before .before .before .before .before .before .before in
+    far .before .before .before .from .given
 
 same-length-3 : tie.Need-same-length-3
-same-length-3 c = c .before .before .before .before .before .before .before .before .before .before .before .to .given
+same-length-3 c =
+    c .before .before .before .before .before .before .before .before .before .before .before .to .given
 
 same-length-4 : tie.Need-same-length-4
 same-length-4 c = c .before .before .before .before .before .before .before .before .before .points .given
@@ -38,7 +44,7 @@ same-length-7 : tie.Need-same-length-7
 same-length-7 c = c .before .answer .given
 
 returns-2 : tie.Need-returns-2
-returns-2 c = rw (← (c .before .before .before .before .before .before .before .before .before .before .before .before .before .before .before .before .open-network .ensures .0)) (search enough, (search enough, (search enough, ((search enough, search enough, search enough), (search enough, search enough)))))
+returns-2 c = search open-written
 
 pub varnwalnut-open-network-spec : {M : Type 1} → statement M
 varnwalnut-open-network-spec =

@@ -1,14 +1,12 @@
 -- `varnwalnut::desk::varnwalnut_pack_network` meets its contract.
 use mathlib.Core.Path.{refl}
-use Rattle.varnwalnut.specs.Calling.{room-short, kept-short, enough}
+use Rattle.varnwalnut.specs.Calling.{pack-short, pack-written}
 use borrow.Author.Needs.{needs}
 use Rattle.varnwalnut.proofs.desk.varnwalnut_pack_network.Statement.{statement}
 use Rattle.varnwalnut.proofs.desk.varnwalnut_pack_network.Tie as tie
 
 returns : tie.Need-returns
-returns c =
-    let l = c .if1 .taken in
-    (room-short 4 _ _ _ l refl, (kept-short 4 _ _ _ l, kept-short 4 _ _ _ l))
+returns c = pack-short _ _ _ _ _ (c .if1 .taken) refl
 
 pack-network-requires : tie.Need-pack-network-requires
 pack-network-requires c κs = search needs
@@ -23,7 +21,7 @@ same-length-2 : tie.Need-same-length-2
 same-length-2 c = search needs
 
 returns-2 : tie.Need-returns-2
-returns-2 c = rw (← (c .before .before .before .before .before .before .pack-network .ensures .0)) (search enough, (search enough, search enough))
+returns-2 c = search pack-written
 
 pub varnwalnut-pack-network-spec : {M : Type 1} → statement M
 varnwalnut-pack-network-spec =

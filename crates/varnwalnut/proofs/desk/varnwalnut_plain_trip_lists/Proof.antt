@@ -1,20 +1,21 @@
 -- `varnwalnut::desk::varnwalnut_plain_trip_lists` meets its contract.
 use mathlib.Core.Path.{refl}
-use Rattle.varnwalnut.specs.Calling.{room-short, kept-short, enough, plain-count}
+use Rattle.varnwalnut.specs.Calling.{lists-short, lists-written, plain-count}
 use borrow.Author.Needs.{needs}
 use Rattle.varnwalnut.proofs.desk.varnwalnut_plain_trip_lists.Statement.{statement}
 use Rattle.varnwalnut.proofs.desk.varnwalnut_plain_trip_lists.Tie as tie
 
 returns : tie.Need-returns
-returns c =
-    let l = c .if1 .taken in
-    (room-short 5 _ _ _ l refl, (kept-short 5 _ _ _ l, (kept-short 5 _ _ _ l, kept-short 5 _ _ _ l)))
+returns c = lists-short _ _ _ _ _ _ _ _ _ _ (c .if1 .taken) refl
 
 plain-trip-requires : tie.Need-plain-trip-requires
 plain-trip-requires c κs = search needs
 
 write-lists-requires : tie.Need-write-lists-requires
-write-lists-requires c κs = (plain-count _ _ _ _ _ _ _ (c .before .before .before .before .before .plain-trip .ensures .0), search needs)
+write-lists-requires c κs = (
+  plain-count _ _ _ _ _ _ _ (c .before .before .before .before .before .plain-trip .ensures .answer),
+  search needs,
+)
 
 same-length : tie.Need-same-length
 same-length c = search needs
@@ -26,7 +27,7 @@ same-length-3 : tie.Need-same-length-3
 same-length-3 c = search needs
 
 returns-2 : tie.Need-returns-2
-returns-2 c = rw (← (c .before .before .before .before .before .before .before .before .plain-trip .ensures .0)) (search enough, (search enough, (search enough, search enough)))
+returns-2 c = search lists-written
 
 pub varnwalnut-plain-trip-lists-spec : {M : Type 1} → statement M
 varnwalnut-plain-trip-lists-spec =

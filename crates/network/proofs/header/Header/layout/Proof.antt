@@ -1,6 +1,5 @@
 -- `network::header::Header::layout` meets its contract.
-use mathlib.Core.Path.{refl}
-use Rattle.network.specs.Layout.{layoutOf}
+use Rattle.network.specs.Layout.{layout-told}
 use borrow.Author.Needs.{needs}
 use Rattle.network.proofs.header.Header.layout.Statement.{statement}
 use Rattle.network.proofs.header.Header.layout.Tie as tie
@@ -14,17 +13,17 @@ cast-arcs c = search needs
 cast-points : tie.Need-cast-points
 cast-points c = search needs
 
+blocks-requires : tie.Need-blocks-requires
+blocks-requires c κs = search needs
+
 add-arcblock : tie.Need-add-arcblock
 add-arcblock c = search needs
 
-add-arcblock-2 : tie.Need-add-arcblock-2
-add-arcblock-2 c = search needs
+blocks-requires-2 : tie.Need-blocks-requires-2
+blocks-requires-2 c κs = search needs
 
 add-pointblock : tie.Need-add-pointblock
 add-pointblock c = search needs
-
-add-pointblock-2 : tie.Need-add-pointblock-2
-add-pointblock-2 c = search needs
 
 cast-t7 : tie.Need-cast-t7
 cast-t7 c = search needs
@@ -32,15 +31,14 @@ cast-t7 c = search needs
 cast-t8 : tie.Need-cast-t8
 cast-t8 c = search needs
 
-add-t9 : tie.Need-add-t9
-add-t9 c = search needs
+blocks-requires-3 : tie.Need-blocks-requires-3
+blocks-requires-3 c κs = search needs
 
-add-t11 : tie.Need-add-t11
-add-t11 c = search needs
+add-t10 : tie.Need-add-t10
+add-t10 c = search needs
 
 returns : tie.Need-returns
-unfolding layoutOf
-returns c = refl
+returns c = search layout-told
 
 pub layout-spec : {M : Type 1} → statement M
 layout-spec =
@@ -49,12 +47,12 @@ layout-spec =
     cast-nodes
     cast-arcs
     cast-points
+    blocks-requires
     add-arcblock
-    add-arcblock-2
+    blocks-requires-2
     add-pointblock
-    add-pointblock-2
     cast-t7
     cast-t8
-    add-t9
-    add-t11
+    blocks-requires-3
+    add-t10
     returns)

@@ -1,5 +1,4 @@
 -- `plan::header::PlanHeader::layout` meets its contract: the profiles are few, so no sum or product wraps.
-use mathlib.Core.Path.{refl}
 use native.Mathlib.Omega.{arith}
 use borrow.Author.Needs.{needs}
 use Rattle.plan.specs.PlanHeader.{profiles-few}
@@ -22,17 +21,20 @@ cast-points c = search needs
 mul-profiles : tie.Need-mul-profiles
 mul-profiles c = omega (arith, profiles-few (c .before .before .before .before .pre))
 
+blocks-requires : tie.Need-blocks-requires
+blocks-requires c κs = search needs
+
 add-countblock : tie.Need-add-countblock
 add-countblock c = search needs
 
-add-countblock-2 : tie.Need-add-countblock-2
-add-countblock-2 c = search needs
+blocks-requires-2 : tie.Need-blocks-requires-2
+blocks-requires-2 c κs =
+    (search needs, omega (arith, profiles-few (c .before .before .before .before .before .pre)))
 
 add-pointblock : tie.Need-add-pointblock
-add-pointblock c = omega (arith, profiles-few (c .before .before .before .before .pre))
-
-add-pointblock-2 : tie.Need-add-pointblock-2
-add-pointblock-2 c = omega (arith, profiles-few (c .before .before .before .before .pre))
+add-pointblock c =
+    let start = c .before .before .before .before .before .before in
+    omega (arith, c .before .blocks2 .ensures, c .blocks3 .ensures, start .pre, profiles-few (start .pre))
 
 cast-t9 : tie.Need-cast-t9
 cast-t9 c = search needs
@@ -40,15 +42,30 @@ cast-t9 c = search needs
 cast-t10 : tie.Need-cast-t10
 cast-t10 c = search needs
 
-add-t11 : tie.Need-add-t11
-add-t11 c = search needs
+blocks-requires-3 : tie.Need-blocks-requires-3
+blocks-requires-3 c κs = search needs
 
-add-t13 : tie.Need-add-t13
-add-t13 c = omega (arith, profiles-few (c .before .before .before .before .before .before .pre))
+add-t12 : tie.Need-add-t12
+add-t12 c =
+    let start = c .before .before .before .before .before .before .before .before .before in
+    let found = c .before .before .before .before .blocks2 .ensures in
+    omega (
+      arith,
+      found,
+      c .before .before .before .blocks3 .ensures,
+      c .blocks4 .ensures,
+      start .pre,
+      profiles-few (start .pre),
+    )
 
 returns : tie.Need-returns
 unfolding planLayoutOf
-returns c = refl
+returns c =
+    rw (
+      c .before .before .before .before .blocks2 .ensures,
+      c .before .before .before .blocks3 .ensures,
+      c .blocks4 .ensures,
+    )
 
 pub layout-spec : {M : Type 1} → statement M
 layout-spec =
@@ -59,12 +76,12 @@ layout-spec =
     cast-borders
     cast-points
     mul-profiles
+    blocks-requires
     add-countblock
-    add-countblock-2
+    blocks-requires-2
     add-pointblock
-    add-pointblock-2
     cast-t9
     cast-t10
-    add-t11
-    add-t13
+    blocks-requires-3
+    add-t12
     returns)

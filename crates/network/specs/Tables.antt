@@ -1,0 +1,49 @@
+-- The six tables of a network as a caller lends them, which may be longer than their counts, and the network
+-- of their first entries.
+use mathlib.Core.Path.{_≡_}
+use mathlib.Core.List.{List}
+use Prim.Native.Nat.{ℕ}
+use lib.ListN.{take}
+use Rattle.network.specs.declared.header.Header.{Header}
+use Rattle.network.specs.Network.{Network}
+
+pub record Tables : Type 0 where
+  -- for each node its cell
+  pub cells : List ℕ
+  -- for each arc its tail, its head and the count of its points
+  pub tails : List ℕ
+  pub heads : List ℕ
+  pub counts : List ℕ
+  -- for each point its tick and its travel
+  pub ticks : List ℕ
+  pub travels : List ℕ
+
+abbrev pub tables : List ℕ → List ℕ → List ℕ → List ℕ → List ℕ → List ℕ → Tables
+tables cells tails heads counts ticks travels =
+    record { cells = cells; tails = tails; heads = heads; counts = counts; ticks = ticks; travels = travels }
+
+-- each table made anew, of the network's and the lent one
+abbrev pub each : (List ℕ → List ℕ → List ℕ) → Network → Tables → Tables
+each f n t =
+    tables (f (n .cellOf) (t .cells)) (f (n .tails) (t .tails)) (f (n .heads) (t .heads))
+    (f (n .counts) (t .counts)) (f (n .ticks) (t .ticks)) (f (n .travels) (t .travels))
+
+-- the network of a header and of the first entries of the tables
+abbrev pub networkOf : Header → Tables → Network
+networkOf h t = record {
+  number = h .number;
+  period = h .period;
+  cells = h .cells;
+  cellOf = take (h .nodes) (t .cells);
+  tails = take (h .arcs) (t .tails);
+  heads = take (h .arcs) (t .heads);
+  counts = take (h .arcs) (t .counts);
+  ticks = take (h .points) (t .ticks);
+  travels = take (h .points) (t .travels);
+}
+
+-- tables are the same where each is
+pub tables-same : {a b c d e f : List ℕ} {t : Tables} → a ≡ t .cells → b ≡ t .tails → c ≡ t .heads
+    → d ≡ t .counts
+    → e ≡ t .ticks → f ≡ t .travels → tables a b c d e f ≡ t
+tables-same p q r s x y = λ i. tables (p i) (q i) (r i) (s i) (x i) (y i)

@@ -1,0 +1,75 @@
+-- What a call returns and leaves, by its answer: the tablet's trips in bytes, the desk's calls in numbers.
+-- `before` and `after` are the lent answer at entry and at exit, and `returned` is the number that the call
+-- returns. Tables and lists at entry and at exit have a 0 and a 1.
+use mathlib.Core.Path.{_≡_}
+use mathlib.Core.List.{List}
+use Prim.Native.Nat.{ℕ}
+use lib.ListN.{length}
+use Rattle.theory_loops.specs.Fill.{overwritten}
+use Rattle.theory_paths.specs.Graph.{Graph, Permit, all}
+use Rattle.file_refusals.specs.Says.{Says, numbersOf}
+use Rattle.network.specs.declared.answer.Opening.{Opening}
+use Rattle.network.specs.declared.header.Header.{Header}
+use Rattle.network.specs.Answer.{openingSays}
+use Rattle.network.specs.Decode.{decode}
+use Rattle.network.specs.Tables.{Tables, networkOf}
+use Rattle.network.specs.Town.{graphOf}
+use Rattle.network_open.specs.Open.{opening, tablesAfter}
+use Rattle.network_encode.specs.Encode.{encode}
+use Rattle.network_pack.specs.Answer.{packingSays}
+use Rattle.network_pack.specs.Pack.{packing, bytesAfter}
+use Rattle.search_path.specs.declared.answer.Answer.{Answer}
+use Rattle.search_path.specs.Answer.{searched}
+use Rattle.search_path.specs.Says.{tripSays}
+use Rattle.trip_call.specs.Trip.{tripAnswer, tripArrivals, tripRoads}
+use Rattle.trip.specs.Plain.{plainBegin}
+use Rattle.trip.specs.Flagged.{flaggedBegin, flaggedArcs}
+use Rattle.c_replies.specs.Reply.{tripSize, tripBytes}
+use Rattle.varnwalnut.specs.Room.{roomed, kept}
+
+-- the tablet's answer to a trip whose chosen path this is
+pub record TripReply (trip : Answer) (path before after : List ℕ) (returned : ℕ) : Type 0 where
+  pub code : returned ≡ roomed tripSize (length before) (tripSays trip .number)
+  pub bytes : after ≡ kept tripSize (length before) before (overwritten (tripBytes trip path) before)
+
+-- the desk's answer, which takes so many numbers
+pub record DeskReply (size : ℕ) (says : Says) (before after : List ℕ) (returned : ℕ) : Type 0 where
+  pub code : returned ≡ roomed size (length before) (says .number)
+  pub numbers : after ≡ kept size (length before) before (overwritten (numbersOf says) before)
+
+-- Open: beside the reply, the six tables
+pub record OpenReply (file : List ℕ) (tables₀ tables₁ : Tables) (before after : List ℕ)
+    (returned : ℕ) : Type 0 where
+  pub reply : DeskReply 9 (openingSays (opening file tables₀)) before after returned
+  pub written : tables₁
+      ≡ kept 9 (length before) tables₀ (tablesAfter (opening file tables₀) (decode file) tables₀)
+
+-- Pack: beside the reply, the bytes for the file of these numbers and tables
+pub record PackReply (h : Header) (t : Tables) (out₀ out₁ before after : List ℕ) (returned : ℕ) : Type 0 where
+  pub reply : DeskReply 4 (packingSays (packing h t (length out₀))) before after returned
+  pub written : out₁ ≡ kept 4 (length before) out₀
+      (bytesAfter (packing h t (length out₀)) (encode (networkOf h t)) out₀)
+
+-- A trip: beside the reply, the lists of arrivals and of roads. b is what comes before the search, from s to
+-- t over the permitted arcs of g, leaving at tick x.
+pub record TripDesk (b : Opening) (g : Graph) (p : Permit) (s t x : ℕ)
+    (arrivals₀ arrivals₁ roads₀ roads₁ : List ℕ)
+    (before after : List ℕ) (returned : ℕ) : Type 0 where
+  pub reply : DeskReply 5 (tripSays (tripAnswer b (searched g p s t x (length roads₀)))) before after returned
+  pub arrivals : arrivals₁ ≡ kept 5 (length before) arrivals₀ (tripArrivals b g p s t x arrivals₀)
+  pub roads : roads₁ ≡ kept 5 (length before) roads₀
+      (tripRoads (tripAnswer b (searched g p s t x (length roads₀))) g p s t x roads₀)
+
+-- the plain trip, and the flagged one
+abbrev pub PlainDesk : List ℕ → ℕ → ℕ → ℕ → List ℕ → List ℕ → List ℕ → List ℕ → List ℕ → List ℕ → ℕ → Type 0
+PlainDesk network from to departure arrivals₀ arrivals₁ roads₀ roads₁ before after returned =
+    TripDesk (plainBegin network from to departure (length arrivals₀))
+    (graphOf (decode network)) all from to departure
+    arrivals₀ arrivals₁ roads₀ roads₁ before after returned
+
+abbrev pub FlaggedDesk : List ℕ → List ℕ → ℕ → ℕ → ℕ → List ℕ → List ℕ → List ℕ → List ℕ → List ℕ → List ℕ → ℕ
+    → Type 0
+FlaggedDesk network plan from to departure arrivals₀ arrivals₁ roads₀ roads₁ before after returned =
+    TripDesk (flaggedBegin network plan from to departure (length arrivals₀))
+    (graphOf (decode network)) (flaggedArcs network plan to) from to departure
+    arrivals₀ arrivals₁ roads₀ roads₁ before after returned
