@@ -1,5 +1,6 @@
 -- The laws by which the search comes to its answer, from the labels that it left: exact up to the target's,
--- they tell and show what the true labels do. In the shape of the needs of `tell`, `search_nodes` and `search`.
+-- they tell and show what the true labels do. In the shape of the needs of `tell`, `search_nodes` and
+-- `search`.
 use mathlib.Core.Path.{_≡_, sym, _∙_}
 use mathlib.Core.Logic.{_≢_}
 use mathlib.Core.List.{List, _++_}
