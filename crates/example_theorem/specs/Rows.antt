@@ -62,25 +62,25 @@ answerTo (flagged network plan from to departure) =
     tripTold (flaggedCall network plan from to departure) (flaggedPath network plan from to departure)
 answerTo (prints network plan input) = sheetText network plan input
 
--- a refusal of a call that would give so many values; what an opening and a check give; a trip's arrival by
--- these roads
+-- a refusal of a call that would give so many values; what an opening and a check grant; a trip's arrival
+-- by these roads
 abbrev pub refused : ℕ → ℕ → ℕ → ℕ → ℕ → List ℕ
 refused count number first second third =
     told (says.refuses count (record { number = number; first = first; second = second; third = third }))
 
-abbrev pub given : List ℕ → List ℕ
-given values = told (says.gives values)
+abbrev pub granted : List ℕ → List ℕ
+granted values = told (says.answers values)
 
 abbrev pub arrived : ℕ → List ℕ → List ℕ
-arrived tick roads = given (tick ∷ length roads ∷ []) ++ roads
+arrived tick roads = granted (tick ∷ length roads ∷ []) ++ roads
 
 pub record Row : Type 0 where
   pub question : Question
   pub answer : List ℕ
 
-infix 10 _gives_
-abbrev pub _gives_ : Question → List ℕ → Row
-q gives a = record { question = q; answer = a }
+infix 10 _yields_
+abbrev pub _yields_ : Question → List ℕ → Row
+q yields a = record { question = q; answer = a }
 
 abbrev pub network : List ℕ
 network = networkFile 7 (37 ∷ 0 ∷ 214 ∷ 35 ∷ [])
@@ -91,55 +91,55 @@ plan = planFile 3 2 (21 ∷ 0 ∷ 124 ∷ 20 ∷ []) 6 (78 ∷ 0 ∷ 137 ∷ 74 
 unfoldable pub rows : List Row
 rows =
     -- four blocks each, and the border
-    (blocks network gives 0 ∷ 4 ∷ [])
-    ∷ (blocks plan gives 0 ∷ 4 ∷ [])
-    ∷ (bordering network gives 2 ∷ [])
+    (blocks network yields 0 ∷ 4 ∷ [])
+    ∷ (blocks plan yields 0 ∷ 4 ∷ [])
+    ∷ (bordering network yields 2 ∷ [])
     -- road 1 at ticks 0 to 9
-    ∷ (travel network 1 0 gives 3 ∷ [])
-    ∷ (travel network 1 1 gives 3 ∷ [])
-    ∷ (travel network 1 2 gives 4 ∷ [])
-    ∷ (travel network 1 3 gives 5 ∷ [])
-    ∷ (travel network 1 4 gives 6 ∷ [])
-    ∷ (travel network 1 5 gives 7 ∷ [])
-    ∷ (travel network 1 6 gives 6 ∷ [])
-    ∷ (travel network 1 7 gives 5 ∷ [])
-    ∷ (travel network 1 8 gives 4 ∷ [])
-    ∷ (travel network 1 9 gives 3 ∷ [])
+    ∷ (travel network 1 0 yields 3 ∷ [])
+    ∷ (travel network 1 1 yields 3 ∷ [])
+    ∷ (travel network 1 2 yields 4 ∷ [])
+    ∷ (travel network 1 3 yields 5 ∷ [])
+    ∷ (travel network 1 4 yields 6 ∷ [])
+    ∷ (travel network 1 5 yields 7 ∷ [])
+    ∷ (travel network 1 6 yields 6 ∷ [])
+    ∷ (travel network 1 7 yields 5 ∷ [])
+    ∷ (travel network 1 8 yields 4 ∷ [])
+    ∷ (travel network 1 9 yields 3 ∷ [])
     -- plain trips; the first is a tie of two ways
-    ∷ (drives network (0 ∷ 1 ∷ 3 ∷ []) 0 gives 7 ∷ [])
-    ∷ (drives network (2 ∷ 3 ∷ []) 0 gives 7 ∷ [])
-    ∷ (plain network 0 3 0 gives arrived 7 (0 ∷ 1 ∷ 3 ∷ []))
-    ∷ (plain network 0 3 1 gives arrived 8 (2 ∷ 3 ∷ []))
-    ∷ (plain network 0 3 8 gives arrived 14 (0 ∷ 1 ∷ 3 ∷ []))
-    ∷ (plain network 3 3 4 gives arrived 4 [])
+    ∷ (drives network (0 ∷ 1 ∷ 3 ∷ []) 0 yields 7 ∷ [])
+    ∷ (drives network (2 ∷ 3 ∷ []) 0 yields 7 ∷ [])
+    ∷ (plain network 0 3 0 yields arrived 7 (0 ∷ 1 ∷ 3 ∷ []))
+    ∷ (plain network 0 3 1 yields arrived 8 (2 ∷ 3 ∷ []))
+    ∷ (plain network 0 3 8 yields arrived 14 (0 ∷ 1 ∷ 3 ∷ []))
+    ∷ (plain network 3 3 4 yields arrived 4 [])
     -- there is no way from 3 to 0, whenever one leaves
-    ∷ (plain network 3 0 0 gives refused 2 28 0 0 0)
-    ∷ (plain network 3 0 1 gives refused 2 28 0 0 0)
-    ∷ (plain network 3 0 2 gives refused 2 28 0 0 0)
-    ∷ (plain network 3 0 3 gives refused 2 28 0 0 0)
-    ∷ (plain network 3 0 4 gives refused 2 28 0 0 0)
-    ∷ (plain network 3 0 5 gives refused 2 28 0 0 0)
-    ∷ (plain network 3 0 6 gives refused 2 28 0 0 0)
-    ∷ (plain network 3 0 7 gives refused 2 28 0 0 0)
-    ∷ (plain network 3 0 8 gives refused 2 28 0 0 0)
-    ∷ (plain network 3 0 9 gives refused 2 28 0 0 0)
+    ∷ (plain network 3 0 0 yields refused 2 28 0 0 0)
+    ∷ (plain network 3 0 1 yields refused 2 28 0 0 0)
+    ∷ (plain network 3 0 2 yields refused 2 28 0 0 0)
+    ∷ (plain network 3 0 3 yields refused 2 28 0 0 0)
+    ∷ (plain network 3 0 4 yields refused 2 28 0 0 0)
+    ∷ (plain network 3 0 5 yields refused 2 28 0 0 0)
+    ∷ (plain network 3 0 6 yields refused 2 28 0 0 0)
+    ∷ (plain network 3 0 7 yields refused 2 28 0 0 0)
+    ∷ (plain network 3 0 8 yields refused 2 28 0 0 0)
+    ∷ (plain network 3 0 9 yields refused 2 28 0 0 0)
     -- the second point of road 1 as (5, 7), (5, 8) and (5, 9)
-    ∷ (opens network gives given (9 ∷ 10 ∷ 4 ∷ 4 ∷ 2 ∷ 5 ∷ []))
-    ∷ (opens (networkFile 8 (38 ∷ 0 ∷ 203 ∷ 36 ∷ [])) gives given (9 ∷ 10 ∷ 4 ∷ 4 ∷ 2 ∷ 5 ∷ []))
-    ∷ (opens (networkFile 9 (39 ∷ 0 ∷ 192 ∷ 37 ∷ [])) gives refused 6 10 2 0 0)
+    ∷ (opens network yields granted (9 ∷ 10 ∷ 4 ∷ 4 ∷ 2 ∷ 5 ∷ []))
+    ∷ (opens (networkFile 8 (38 ∷ 0 ∷ 203 ∷ 36 ∷ [])) yields granted (9 ∷ 10 ∷ 4 ∷ 4 ∷ 2 ∷ 5 ∷ []))
+    ∷ (opens (networkFile 9 (39 ∷ 0 ∷ 192 ∷ 37 ∷ [])) yields refused 6 10 2 0 0)
     -- the plan; flags 1, 2, 2, 2 and 3, 2, 0, 2; place 0's first travel as 5 and 7
-    ∷ (checks network plan gives given [])
+    ∷ (checks network plan yields granted [])
     ∷ (checks network (planFile 1 2 (19 ∷ 0 ∷ 136 ∷ 18 ∷ []) 6 (78 ∷ 0 ∷ 137 ∷ 74 ∷ []))
-    gives refused 0 24 0 0 7)
+    yields refused 0 24 0 0 7)
     ∷ (checks network (planFile 3 0 (19 ∷ 0 ∷ 152 ∷ 18 ∷ []) 6 (78 ∷ 0 ∷ 137 ∷ 74 ∷ []))
-    gives refused 0 24 0 0 1)
+    yields refused 0 24 0 0 1)
     ∷ (checks network (planFile 3 2 (21 ∷ 0 ∷ 124 ∷ 20 ∷ []) 5 (77 ∷ 0 ∷ 144 ∷ 73 ∷ []))
-    gives refused 0 23 0 0 0)
+    yields refused 0 23 0 0 0)
     ∷ (checks network (planFile 3 2 (21 ∷ 0 ∷ 124 ∷ 20 ∷ []) 7 (79 ∷ 0 ∷ 130 ∷ 75 ∷ []))
-    gives refused 0 22 0 0 0)
+    yields refused 0 22 0 0 0)
     -- the run sheet, and its two flagged trips
-    ∷ (flagged network plan 0 3 7 gives arrived 13 (0 ∷ 1 ∷ 3 ∷ []))
-    ∷ (flagged network plan 3 0 7 gives refused 2 28 0 0 0)
+    ∷ (flagged network plan 0 3 7 yields arrived 13 (0 ∷ 1 ∷ 3 ∷ []))
+    ∷ (flagged network plan 3 0 7 yields refused 2 28 0 0 0)
     ∷ (prints network plan (ascii "0 3 7\n3 0 7\n")
-    gives ascii "plan accepted\n0 3 7 13 3 0 1 3\n3 0 7 refused 28\n")
+    yields ascii "plan accepted\n0 3 7 13 3 0 1 3\n3 0 7 refused 28\n")
     ∷ []

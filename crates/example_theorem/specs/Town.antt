@@ -23,6 +23,7 @@ use Rattle.theory_travel.specs.Day.{closed, dayValue}
 use Rattle.theory_travel.specs.Table.{entryAt}
 use Rattle.theory_travel.specs.Ticks.{badTick}
 use Rattle.file_blocks.specs.Place.{offset}
+use Rattle.file_blocks.specs.Form.{badLength}
 use Rattle.network.specs.declared.answer.Opening.{Opening}
 use Rattle.network.specs.declared.answer.Opening.the-variants as opening
 use Rattle.network.specs.declared.header.Header.{Header}
@@ -40,7 +41,7 @@ use Rattle.network.specs.Rules.{
   badPoint,
   overtaken,
 }
-use Rattle.network.specs.Validate.{badLength, validated}
+use Rattle.network.specs.Validate.{validated}
 use Rattle.network.specs.Town.{graphOf, partitionOf, travelAt}
 use Rattle.network_open.specs.Open.{openedIn, tooShort, tooShortBy}
 use Rattle.plan.specs.declared.answer.Planning.{Planning}
@@ -48,7 +49,7 @@ use Rattle.plan.specs.Border.{borders, isBorder}
 use Rattle.plan.specs.Plan.{pointStart, profileValue}
 use Rattle.plan.specs.PlanDecode.{decodePlan}
 use Rattle.plan.specs.PlanRules as rules
-use Rattle.plan.specs.PlanValidate.{badPlanLength, matching, planned}
+use Rattle.plan.specs.PlanValidate.{matching, planned}
 use Rattle.plan_tests.specs.Tests.{fails, fails22, given}
 use Rattle.plan_check.specs.declared.answer.Checking.{Checking}
 use Rattle.plan_check.specs.declared.answer.Checking.the-variants as checking
@@ -193,7 +194,7 @@ unfolding allAgree agrees same rows first firstRung select total tab offset line
     dayValue entryAt ends relaxed rounds labels lowest back chosen made start decode judged judgedArcs
     judgedSum judgedPoints badEnds firstPoint badPoint badTick overtaken badLength tooShortBy
     travelAt borders isBorder pointStart profileValue decodePlan rules.badProfile
-    rules.firstBadPoint rules.judgedTicks rules.judgedSum rules.judgedCounts rules.judgedFlags badPlanLength
+    rules.firstBadPoint rules.judgedTicks rules.judgedSum rules.judgedCounts rules.judgedFlags
     matching fails fails22 given checked tripleRung firstTripleRung asked networkFile planFile summed
     blank quickFormed headText verdictText isAccepted reads textsOf linesFrom scannedAll scanned
     spaceScanned digitScanned ended askingText answerText pathFor spaced decimal digitsOf

@@ -11,13 +11,13 @@ use Rattle.theory_loops.specs.Pick.{firstRung}
 use Rattle.file_fields.specs.Fields.{le16}
 use Rattle.file_blocks.specs.Place.{blocks, entriesIn}
 use Rattle.file_fields.specs.Sum.{good}
-use Rattle.file_blocks.specs.Form.{formed}
+use Rattle.file_blocks.specs.Form.{formed, unformedOr, badLength}
 use Rattle.network.specs.declared.answer.Opening.{Opening}
 use Rattle.network.specs.declared.header.Header.{Header}
 use Rattle.network.specs.declared.header.Made.{Made}
 use Rattle.network.specs.declared.header.Made.the-variants.{Inside, Outside}
 use Rattle.network.specs.Network.{Network}
-use Rattle.network.specs.Layout.{arcBlock, pointBlock, allBlocks}
+use Rattle.network.specs.Layout.{arcBlock, pointBlock, allBlocks, mostBytes}
 use Rattle.network.specs.Decode.{decode}
 use Rattle.network.specs.Town.{partitionOf}
 use Rattle.network.specs.Rules.{judged}
@@ -25,8 +25,9 @@ use Rattle.network.specs.Validate as network
 use Rattle.plan.specs.declared.answer.Planning.{Planning}
 use Rattle.plan.specs.declared.header.PlanHeader.{PlanHeader}
 use Rattle.plan.specs.Border.{borderCount}
+use Rattle.plan.specs.PlanLimits.{mostPlanBytes}
 use Rattle.plan.specs.PlanHeader.{planHeaderAt}
-use Rattle.plan.specs.PlanLayout.{profileCount, countBlock, planPointBlock, planBlocks, planLayoutOf}
+use Rattle.plan.specs.PlanLayout.{profileCount, countBlock, planPointBlock, planBlocks}
 use Rattle.plan.specs.PlanDecode.{decodePlan}
 use Rattle.plan.specs.PlanRules.{planJudged}
 use Rattle.plan.specs.PlanValidate as plan
@@ -62,7 +63,7 @@ module _ (check : Checks) (form : Forms) where
 
   abbrev pub validatedBy : List ℕ → Opening
   validatedBy file =
-      cond (network.badLength (length file)) (network.unopened 1 0)
+      cond (badLength mostBytes (length file)) (network.unopened 1 0)
       (firstRung (network.unopened 2) (length file / 512) (λ b. not (check b))
       (cond (form 0 1 1 24) (headedBy file (network.madeAt file)) (network.unopened 3 0)))
 
@@ -82,7 +83,7 @@ module _ (check : Checks) (form : Forms) where
 
   abbrev pub plannedBy : Header → Network → List ℕ → Planning
   plannedBy h n file =
-      cond (plan.badPlanLength (length file)) (plan.unplanned 11 0)
+      cond (badLength mostPlanBytes (length file)) (plan.unplanned 11 0)
       (firstRung (plan.unplanned 12) (length file / 512) (λ b. not (check b))
       (cond (form 0 5 1 28 && eqb (le16 file 22) 0)
       (cond (plan.matching h (borderCount (partitionOf n)) (planHeaderAt file))
@@ -92,8 +93,7 @@ module _ (check : Checks) (form : Forms) where
 
 header-by : (file : List ℕ) (m : Made)
     → network.validatedHeader file m ≡ headedBy (good file) (formed file) file m
-unfolding network.validatedLength network.validatedForm network.firstUnformed network.unformedArcs
-    network.unformedPoints
+unfolding network.validatedLength network.validatedForm network.firstUnformed unformedOr
 header-by file (Inside h) = refl
 header-by file Outside = refl
 
@@ -104,7 +104,7 @@ validated-by file = rw (header-by file (network.madeAt file))
 planned-by : (h : Header) (n : Network) (file : List ℕ)
     → plan.planned h n file ≡ plannedBy (good file) (formed file) h n file
 unfolding plan.planned plan.plannedFirst plan.firstFormed plan.plannedHeader plan.plannedLength
-    plan.plannedForm plan.firstUnformed plan.unformedCounts plan.unformedPoints planLayoutOf
+    plan.plannedForm plan.firstUnformed unformedOr
 planned-by h n file = refl
 
 -- by the quick tests

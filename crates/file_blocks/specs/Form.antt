@@ -1,16 +1,19 @@
 -- A block's form: its kind, a zero byte, its number of entries, its own number, and zeros from its last entry
--- up to its check. Every test is executable, and nested as the code makes it.
-use mathlib.Core.Path.{_≡_, ap}
-use mathlib.Core.Bool.{Bool, true, false, not, _&&_, and-eq-true-iff}
+-- up to its check; the form of a run of blocks; and a file's length. Every test is executable, and nested as
+-- the code makes it.
+use mathlib.Core.Path.{_≡_, refl, sym, _∙_, ap}
+use mathlib.Core.Bool.{Bool, true, false, not, _&&_, _||_, and-eq-true-iff}
 use mathlib.Core.List.{List}
-use Prim.Native.Nat.{ℕ, _+_, _-_, _*_, _≤_, _<_}
+use Prim.Native.Nat.{ℕ, _+_, _-_, _*_, _%_, _≤_, _<_}
+use native.Mathlib.Decide.{decLt}
 use native.Mathlib.Omega.{arith}
 use lib.ListN.{getD}
-use lib.Dec.{eqb}
-use borrow.Author.Tests.{eq-eqb, ne-eqb, eqb-true, le-ltb, ltb-false, not-true, not-false}
+use lib.Dec.{ltb, eqb}
+use borrow.Author.Tests.{eq-eqb, ne-eqb, eqb-true, eqb-false, le-ltb, ltb-false, not-true, not-false}
 use Rattle.theory_loops.specs.First.{first, any, First, some, none, none-yet, pass, clear, first-le, first-is}
+use Rattle.theory_loops.specs.Pick.{firstRung, at-first, past-first, rung-passed, rung-clear, or-passed}
 use Rattle.file_fields.specs.Fields.{le16, le32}
-use Rattle.file_blocks.specs.Place.{entriesIn}
+use Rattle.file_blocks.specs.Place.{blocks, entriesIn}
 use Rattle.file_fields.specs.Block.{blockSize, summedSize, headSize}
 
 -- byte k from a on is no zero
@@ -37,6 +40,20 @@ runFormed file from kind per size n j =
 
 abbrev pub unformed : List ℕ → ℕ → ℕ → ℕ → ℕ → ℕ → ℕ → Bool
 unformed file from kind per size n j = not (runFormed file from kind per size n j)
+
+-- every block of the run is in its form
+abbrev pub RunFormed : List ℕ → ℕ → ℕ → ℕ → ℕ → ℕ → Type 0
+RunFormed file from kind per size n =
+    (j : ℕ) → j < blocks per n → runFormed file from kind per size n j ≡ true
+
+-- the number of the run's first block that is out of its form, or else b
+unfoldable pub unformedOr : List ℕ → ℕ → ℕ → ℕ → ℕ → ℕ → ℕ → ℕ
+unformedOr file from kind per size n b =
+    firstRung (λ j. from + j) (blocks per n) (unformed file from kind per size n) b
+
+-- the length of no file of at most `most` bytes: no block, a part of a block, or more
+unfoldable pub badLength : ℕ → ℕ → Bool
+badLength most long = eqb long 0 || (not (eqb (long % blockSize) 0) || ltb most long)
 
 -- FOR THE LOOP over the bytes
 module _ (file : List ℕ) (a : ℕ) where
@@ -114,6 +131,61 @@ pub run-unformed : (file : List ℕ) (from kind per size n j e : ℕ) (t : Bool)
     → t ≡ formed file (from + j) kind e (headSize + size * e)
     → not t ≡ unformed file from kind per size n j
 run-unformed file from kind per size n j e t f h = rw (h, f)
+
+module _ (file : List ℕ) (from kind per size n : ℕ) where
+  -- FOR CODE that has found that block, which is i, in a run that ends before block `end`
+  module _ (i end : ℕ) (e : i ≡ from + first (blocks per n) (unformed file from kind per size n))
+      (f : end ≡ from + blocks per n) where
+    pub run-taken : (b : ℕ) → i < end → i ≡ unformedOr file from kind per size n b
+    unfolding unformedOr
+    run-taken b l = at-first i b (λ j. from + j) _ _ (unformed file from kind per size n) refl (omega arith) e
+
+    pub run-passed : (r b : ℕ) → end ≤ i → r ≡ b → r ≡ unformedOr file from kind per size n b
+    unfolding unformedOr
+    run-passed r b l g =
+        past-first r b (λ j. from + j) _ _ (unformed file from kind per size n) refl (omega arith) g
+
+    -- the last run's, or its end, which is the file's
+    pub run-last : i ≡ unformedOr file from kind per size n end
+    run-last = elim (decLt i end) [
+      | yes l ↦ run-taken end l
+      | no l ↦
+          run-passed i end (omega arith)
+          (omega (arith, first-le (unformed file from kind per size n) (blocks per n)))
+    ]
+
+  -- FOR A READER of the tests: a run is passed exactly when it is in its form
+  pub formed-past : (b x : ℕ) → from + blocks per n ≤ x → unformedOr file from kind per size n b ≡ x
+      → RunFormed file from kind per size n × (b ≡ x)
+  unfolding unformedOr
+  formed-past b x l e =
+      let (h, f) = rung-passed (λ j. from + j) (blocks per n) (unformed file from kind per size n) b x
+      (λ i m q. omega arith) e in
+      (λ j m. not-false _ (h j m), f)
+
+  pub past-formed : (b : ℕ) → RunFormed file from kind per size n → unformedOr file from kind per size n b ≡ b
+  unfolding unformedOr
+  past-formed b h = rung-clear (λ j. from + j) (blocks per n) _ b (λ j m. ap not (h j m))
+
+-- what a length that is passed says, and that the length of some blocks is passed
+pub length-fine : (most long : ℕ) (t : Bool) → t ≡ badLength most long → t ≡ false
+    → (blockSize ≤ long) × (long ≤ most)
+unfolding badLength
+length-fine most long t e f =
+    let (z, g) = or-passed _ _ (sym e ∙ f) in
+    let (m, h) = or-passed _ _ g in
+    let n : (long ≡ 0) → ⊥ = eqb-false long 0 z in
+    let k : long % blockSize ≡ 0 = eqb-true (long % blockSize) 0 (not-false _ m) in
+    (omega arith, ltb-false most long h)
+
+pub fine-length : (most n long : ℕ) → long ≡ blockSize * n → 1 ≤ n → blockSize * n ≤ most
+    → badLength most long ≡ false
+unfolding badLength
+fine-length most n long e l m = rw (
+  ne-eqb long 0 (omega arith),
+  eq-eqb (long % blockSize) 0 (omega arith),
+  le-ltb most long (omega arith),
+)
 
 -- what `formed` says, part by part
 pub record Formed (file : List ℕ) (b kind entries used : ℕ) : Type 0 where

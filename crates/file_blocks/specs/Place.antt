@@ -1,9 +1,9 @@
 -- Where the entries of a kind stand. A kind's blocks are a run from block `from` on, with `per` entries of
 -- `size` bytes a block, all blocks but the last full: entry i is entry i % per of block from + i / per.
 -- Nothing here says what an entry means.
-use mathlib.Core.Path.{_≡_, _∙_}
+use mathlib.Core.Path.{_≡_, sym, _∙_}
 use mathlib.Core.List.{List}
-use Prim.Native.Nat.{ℕ, _+_, _-_, _*_, _/_, _%_, _≤_, _<_, min}
+use Prim.Native.Nat.{ℕ, _+_, _-_, _*_, _/_, _%_, _^_, _≤_, _<_, min}
 use native.Mathlib.Nat.{mod-lt, mul-le-mul-left, le-div-iff-mul-le, div-mul-le-self, div-add-mod, mul-add-div}
 use native.Mathlib.Nat.{mul-add-mod-self-left, div-eq-of-lt, mod-eq-of-lt, mul-comm, min-le-left}
 use native.Mathlib.Omega.{arith}
@@ -28,6 +28,13 @@ pub record RunInFile (from per size n : ℕ) (file : List ℕ) : Type 0 where
   pub fit : size * per ≤ entriesSize
   pub room : blockSize * (from + blocks per n) ≤ length file
 
+-- a file in which entry i of a run stands whole, at a place that the code can count
+pub record EntryInFile (from per size i : ℕ) (file : List ℕ) : Type 0 where
+  pub pos : 0 < per
+  pub fit : size * per ≤ entriesSize
+  pub room : offset from per size i + size ≤ length file
+  pub near : from + i / per < 2 ^ 54
+
 module _ (from per size : ℕ) (pos : 0 < per) (fit : size * per ≤ entriesSize) where
   -- the whole entry stands before its block's check
   pub offset-in : (i : ℕ) → offset from per size i + size ≤ blockSize * (from + i / per) + summedSize
@@ -38,9 +45,17 @@ module _ (from per size : ℕ) (pos : 0 < per) (fit : size * per ≤ entriesSize
   pub block-below : (n i : ℕ) → i < n → i / per < blocks per n
   block-below n i l = le-div-iff-mul-le pos .1 (omega (arith, div-mul-le-self i per))
 
-  -- so it stands in the file
-  pub entry-in : (n i : ℕ) → i < n → offset from per size i + size ≤ blockSize * (from + blocks per n)
-  entry-in n i l = omega (arith, offset-in i, block-below n i l)
+-- so it stands in the file
+pub entry-stands : {from per size n : ℕ} {file : List ℕ} → RunInFile from per size n file
+    → length file ≤ 2 ^ 63 → {i : ℕ} → i < n → EntryInFile from per size i file
+entry-stands {from} {per} {size} {n} s few {i} l =
+    let b = block-below from per size (s .pos) (s .fit) n i l in
+    record {
+      pos = s .pos;
+      fit = s .fit;
+      room = omega (arith, s .room, offset-in from per size (s .pos) (s .fit) i, b);
+      near = omega (arith, s .room, b);
+    }
 
 -- every index is that of an entry in a block, and back
 module _ (per : ℕ) (pos : 0 < per) where
@@ -67,13 +82,25 @@ unfolding offset
 offset-at from per size pos j e l = rw (index-block per pos j e l, index-entry per pos j e l)
 
 -- and the entries after entry i in its block stand behind it
-pub offset-on : (from per size : ℕ) → 0 < per → (i e : ℕ) → i % per + e < per
+offset-on : (from per size : ℕ) → 0 < per → (i e : ℕ) → i % per + e < per
     → offset from per size (i + e) ≡ offset from per size i + size * e
 unfolding offset
 offset-on from per size pos i e l =
     let q : i + e ≡ per * (i / per) + (i % per + e) = omega (arith, div-add-mod i per) in
     rw (q, index-block per pos (i / per) (i % per + e) l, index-entry per pos (i / per) (i % per + e) l)
     (omega arith)
+
+-- k entries of a stored run from entry i on, in one block: each stands behind the one before it, in the file
+module _ {from per size n : ℕ} {file : List ℕ} (s : RunInFile from per size n file) (i : ℕ)
+    {k base : ℕ} (l : i + k ≤ n) (m : k ≤ per - i % per) (f : base ≡ offset from per size i) where
+  pub beside-at : (e : ℕ) → e < k → base + size * e ≡ offset from per size (i + e)
+  beside-at e h = rw f (sym (offset-on from per size (s .pos) i e (omega arith)))
+
+  pub beside-room : i < n → base + size * k ≤ length file
+  unfolding offset
+  beside-room h =
+      let t : i % per + k ≤ per = omega (arith, mod-lt i (s .pos)) in
+      omega (arith, s, mul-le-mul-left size t, block-below from per size (s .pos) (s .fit) n i h)
 
 -- FOR A WALK over the blocks of a stored run: block j starts at an entry of the run, stands whole in the
 -- file, and its entries fit

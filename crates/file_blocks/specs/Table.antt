@@ -1,20 +1,36 @@
--- A table filled from one 16-bit field of a kind's entries. The code goes block by block, so that no entry
--- costs a division.
-use mathlib.Core.Path.{_≡_}
+-- The fields of a kind's entries: one that is read in place is the table's, and a table is filled from those
+-- of 16 bits block by block, so that no entry costs a division.
+use mathlib.Core.Path.{_≡_, sym, _∙_}
 use mathlib.Core.List.{List}
 use Prim.Native.Nat.{ℕ, _+_, _-_, _*_, _≤_, _<_, min}
 use native.Mathlib.Nat.{mul-le-mul-left, lt-div-mul-add, mul-comm}
 use native.Mathlib.Omega.{arith}
-use lib.ListN.{length, set}
-use Rattle.theory_loops.specs.Fill.{Filled, fill-none, fill-up, fill-end}
-use Rattle.file_fields.specs.Fields.{le16}
+use lib.ListN.{length, getD, set}
+use Rattle.theory_loops.specs.Fill.{Filled, fill-none, fill-up, fill-end, tab, getD-tab}
+use Rattle.file_fields.specs.Fields.{le16, le32, le64}
 use Rattle.file_fields.specs.Put.{fill-within, fill-join}
 use Rattle.file_blocks.specs.Place.{offset, blocks, entriesIn, RunInFile, offset-at, block-starts}
 use Rattle.file_fields.specs.Block.{blockSize, headSize}
 
--- the field at byte `at` of entry i
+-- the field at byte `at` of entry i, read by w: of two, of four or of eight bytes
+abbrev pub entry : (List ℕ → ℕ → ℕ) → List ℕ → ℕ → ℕ → ℕ → ℕ → ℕ → ℕ
+entry w file from per size at i = w file (offset from per size i + at)
+
 abbrev pub entry16 : List ℕ → ℕ → ℕ → ℕ → ℕ → ℕ → ℕ
-entry16 file from per size at i = le16 file (offset from per size i + at)
+entry16 = entry le16
+
+abbrev pub entry32 : List ℕ → ℕ → ℕ → ℕ → ℕ → ℕ → ℕ
+entry32 = entry le32
+
+abbrev pub entry64 : List ℕ → ℕ → ℕ → ℕ → ℕ → ℕ → ℕ
+entry64 = entry le64
+
+-- FOR CODE that reads it in place: it is the table's, where the run starts and ends as the table says
+pub entry-is : (w : List ℕ → ℕ → ℕ) (file : List ℕ) (per size at : ℕ) {from first n m i r : ℕ}
+    → from ≡ first → n ≡ m → i < n → r ≡ entry w file from per size at i
+    → r ≡ getD (tab m (entry w file first per size at)) i 0
+entry-is w file per size at {first = first} p q l e =
+    (rw p at e) ∙ sym (getD-tab _ (entry w file first per size at) _ (rw q at l))
 
 -- the same field of the entries that start at `base`, the first of them entry `first`
 unfoldable pub part16 : List ℕ → ℕ → ℕ → ℕ → ℕ → ℕ → ℕ

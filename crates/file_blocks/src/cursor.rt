@@ -41,7 +41,7 @@ impl Cursor {
 
     // Before the next entry, in a run of `per` entries a block.
     pub fn next(self, per: usize) -> Cursor
-        requires { ⌜ (self .slot < blockSize) × (self .base < 2 ^ 62) ⌝ }
+        requires { ⌜ (self .slot < blockSize) × (self .base < 2 ^ 63) ⌝ }
         ensures { λ r. ⌜ r ≡ moved per self ⌝ }
     {
         if self.slot + 1 < per {

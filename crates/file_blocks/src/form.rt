@@ -13,7 +13,20 @@ ghost use Rattle.theory_loops.specs.First.{first};
 ghost use Rattle.file_fields.specs.Block.{blockSize, summedSize};
 ghost use Rattle.file_blocks.specs.Place;
 ghost use Rattle.file_blocks.specs.Place.{RunInFile};
-ghost use Rattle.file_blocks.specs.Form.{zeros, formed, unformed};
+ghost use Rattle.file_blocks.specs.Form.{badLength, zeros, formed, unformed};
+
+// Is this the length of no file of at most `most` bytes: no block, a part of a block, or more?
+pub fn is_bad_length(long: usize, most: usize) -> bool
+    ensures { λ r. ⌜ r ≡ badLength most long ⌝ }
+{
+    if long == 0 {
+        return true;
+    }
+    if long % BLOCK != 0 {
+        return true;
+    }
+    most < long
+}
 
 // Are all bytes from a up to e zero?
 pub fn is_zero(file: &[u8], a: usize, e: usize) -> bool
@@ -58,7 +71,7 @@ fn is_unformed(
     !is_formed(file, from + j, kind, entries, HEAD + size * entries)
 }
 
-// The first block of a run of n entries that is out of its form, or the number of blocks.
+// The number of the first block of a run of n entries that is out of its form, or of the block after the run.
 pub fn first_unformed(
     file: &[u8],
     from: usize,
@@ -69,13 +82,14 @@ pub fn first_unformed(
 ) -> usize
     requires { ⌜ RunInFile from per size n (now file) ⌝ }
     requires { ⌜ n + per < 2 ^ 64 ⌝ }
-    ensures { λ r. ⌜ r ≡ first (Place.blocks per n) (unformed (now (file .entry)) from kind per size n) ⌝ }
+    ensures { λ r. ⌜ r
+        ≡ from + first (Place.blocks per n) (unformed (now (file .entry)) from kind per size n) ⌝ }
 {
     let m = blocks(per, n);
     for j in 0..m {
         if is_unformed(file, from, kind, per, size, n, j) {
-            return j;
+            return from + j;
         }
     }
-    m
+    from + m
 }

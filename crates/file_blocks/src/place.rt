@@ -9,7 +9,7 @@ ghost use lib.ListN.{length};
 ghost use Rattle.theory_loops.specs.Fill.{Filled};
 ghost use Rattle.file_fields.specs.Block.{entriesSize};
 ghost use Rattle.file_blocks.specs.Place;
-ghost use Rattle.file_blocks.specs.Place.{RunInFile, entriesIn};
+ghost use Rattle.file_blocks.specs.Place.{RunInFile, EntryInFile, entriesIn};
 ghost use Rattle.file_blocks.specs.Table.{entry16, part16};
 
 // The byte at which entry i starts.
@@ -18,6 +18,15 @@ pub fn offset(from: usize, per: usize, size: usize, i: usize) -> usize
     ensures { λ r. ⌜ r ≡ Place.offset from per size i ⌝ }
 {
     BLOCK * (from + i / per) + HEAD + size * (i % per)
+}
+
+// The 16-bit field at byte `at` of entry i.
+pub fn field16(file: &[u8], from: usize, per: usize, size: usize, at: usize, i: usize) -> usize
+    requires { ⌜ EntryInFile from per size i (now file) ⌝ }
+    requires { ⌜ at + 2 ≤ size ⌝ }
+    ensures { λ r. ⌜ (r ≡ entry16 (now (file .entry)) from per size at i) × (r < 65536) ⌝ }
+{
+    le16(file, offset(from, per, size, i) + at) as usize
 }
 
 // The blocks that n entries take.

@@ -14,8 +14,8 @@ pub record Says : Type 0 where
   pub values : List ℕ
 
 -- an answer that is no refusal: number and places are 0
-abbrev pub gives : List ℕ → Says
-gives values = record { number = 0; first = 0; second = 0; third = 0; values = values }
+abbrev pub answers : List ℕ → Says
+answers values = record { number = 0; first = 0; second = 0; third = 0; values = values }
 
 -- a refusal, where an answer would give so many values: they are 0
 abbrev pub refuses : ℕ → Refusal → Says

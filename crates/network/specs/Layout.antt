@@ -42,6 +42,20 @@ layoutOf h = record {
   blocks = allBlocks h;
 }
 
+-- the layout's counts and blocks, by the header
+pub record LaidBlocks (h : Header) (l : Layout) : Type 0 where
+  pub nodes : l .nodes ≡ h .nodes
+  pub arcs : l .arcs ≡ h .arcs
+  pub points : l .points ≡ h .points
+  pub arcblock : l .arcblock ≡ arcBlock h
+  pub pointblock : l .pointblock ≡ pointBlock h
+  pub all : l .blocks ≡ allBlocks h
+
+pub layout-blocks : {h : Header} {l : Layout} → l ≡ layoutOf h → LaidBlocks h l
+unfolding layoutOf
+layout-blocks e = rw e (record
+    { nodes = refl; arcs = refl; points = refl; arcblock = refl; pointblock = refl; all = refl })
+
 -- FOR THE CODE, which has counted the blocks of each run
 pub layout-told : (h : Header) (a b c : ℕ) → a ≡ blocks cellPer (h .nodes) → b ≡ blocks arcPer (h .arcs)
     → c ≡ blocks pointPer (h .points)

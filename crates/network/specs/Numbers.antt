@@ -7,7 +7,7 @@ use native.Mathlib.Omega.{arith}
 use lib.ListN.{length}
 use lib.Dec.{eqb, ltb}
 use Rattle.theory_loops.specs.Pick.{cond-holds, rung-holds}
-use Rattle.file_blocks.specs.Form.{formed}
+use Rattle.file_blocks.specs.Form.{formed, badLength}
 use Rattle.file_refusals.specs.declared.Refusal.{Refusal}
 use Rattle.file_refusals.specs.declared.Judged.{Judged}
 use Rattle.file_refusals.specs.declared.Judged.the-variants.{Sound, Faulty}
@@ -16,14 +16,14 @@ use Rattle.network.specs.declared.answer.Opening.the-variants.{Refused}
 use Rattle.network.specs.declared.header.Header.{Header}
 use Rattle.network.specs.declared.header.Made.{Made}
 use Rattle.network.specs.declared.header.Made.the-variants.{Inside, Outside}
-use Rattle.network.specs.Layout.{allBlocks}
+use Rattle.network.specs.Layout.{allBlocks, mostBytes}
 use Rattle.network.specs.Network.{Network, arcs, points, start}
 use Rattle.network.specs.Decode.{decode}
 use Rattle.file_refusals.specs.Refusal.{refusal}
 use Rattle.file_refusals.specs.Numbered.{Numbered, numbered, same-faulty}
 use Rattle.network.specs.Rules.{firstPoint, badPointOf, overtakenOf, judgedPoints, judgedSum}
 use Rattle.network.specs.Rules.{judgedArcs, judged}
-use Rattle.network.specs.Validate.{badLength, firstUnformed, madeAt, validatedRules, validatedForm}
+use Rattle.network.specs.Validate.{firstUnformed, madeAt, validatedRules, validatedForm}
 use Rattle.network.specs.Validate.{validatedLength, validatedHeader, validatedFirst, validated}
 use Rattle.file_fields.specs.Block.{blockSize, headSize}
 use Rattle.file_blocks.specs.Kind.{networkKind, networkSize}
@@ -65,7 +65,7 @@ is-numbered number place l h = numbered Refused 1 10 same-refused (refusal numbe
 pub validated-numbers : (file : List ℕ) → Numbered Refused 1 10 (validated file)
 unfolding validated validatedFirst validatedLength validatedForm
 validated-numbers file =
-    cond-holds Opens (badLength (length file)) _ _ (is-numbered 1 0 (omega arith) (omega arith))
+    cond-holds Opens (badLength mostBytes (length file)) _ _ (is-numbered 1 0 (omega arith) (omega arith))
     (rung-holds Opens _ _ _ _ (λ i. is-numbered 2 i (omega arith) (omega arith))
     (cond-holds Opens (formed file 0 networkKind 1 (headSize + networkSize)) _ _ (by-header (madeAt file))
     (is-numbered 3 0 (omega arith) (omega arith))))

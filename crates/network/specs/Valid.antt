@@ -5,15 +5,15 @@ use mathlib.Core.Path.{_≡_, refl, _∙_, ap, subst}
 use mathlib.Core.Logic.{_↔_}
 use mathlib.Core.Bool.{true, false, not}
 use mathlib.Core.List.{List}
-use Prim.Native.Nat.{ℕ, _+_, _*_, _/_, _%_, _≤_, _<_}
+use Prim.Native.Nat.{ℕ, _+_, _*_, _/_, _≤_, _<_}
 use native.Mathlib.Omega.{arith}
 use lib.ListN.{length}
 use lib.Dec.{ltb, eqb}
-use borrow.Author.Tests.{ltb-false, eqb-true, not-false, le-ltb, eq-eqb, ne-eqb}
+use borrow.Author.Tests.{ltb-false, eqb-true, not-false, le-ltb, eq-eqb}
 use Rattle.theory_loops.specs.Pick.{firstRung, passed-by, reached-by, rung-passed, rung-clear}
-use Rattle.file_blocks.specs.Place.{blocks}
+use Rattle.file_blocks.specs.Laid.{laid-by}
 use Rattle.file_fields.specs.Sum.{good}
-use Rattle.file_blocks.specs.Form.{formed, runFormed, unformed}
+use Rattle.file_blocks.specs.Form.{formed, RunFormed, badLength, formed-past, past-formed, fine-length}
 use Rattle.file_blocks.specs.Read.{bad}
 use Rattle.file_refusals.specs.declared.Judged.{Judged}
 use Rattle.file_refusals.specs.declared.Judged.the-variants.{Sound, Faulty}
@@ -22,21 +22,16 @@ use Rattle.network.specs.declared.header.Header.{Header}
 use Rattle.network.specs.declared.header.Made.{Made}
 use Rattle.network.specs.declared.header.Made.the-variants.{Inside, Outside}
 use Rattle.network.specs.Limits.{WithinLimits, within-made}
-use Rattle.network.specs.Layout.{arcBlock, pointBlock, allBlocks, layoutOf, mostBlocks, mostBytes}
+use Rattle.network.specs.Layout.{arcBlock, pointBlock, allBlocks, layoutOf, mostBytes}
 use Rattle.network.specs.Decode.{headerAt, decode, Laid}
 use Rattle.network.specs.Rules.{judged}
 use Rattle.network.specs.Sound.{SoundNetwork, sound-exactly}
-use Rattle.network.specs.Validate.{unopened, badLength, unformedPoints, unformedArcs, firstUnformed}
+use Rattle.network.specs.Validate.{unopened, firstUnformed}
 use Rattle.network.specs.Validate.{validatedRules, validatedForm, validatedLength, validatedHeader}
 use Rattle.network.specs.Validate.{madeAt, validatedFirst, validated, header-within, header-is}
 use Rattle.file_fields.specs.Block.{blockSize, headSize}
 use Rattle.file_blocks.specs.Kind.{networkKind, networkSize, cellKind, cellSize, cellPer, arcKind, arcSize}
 use Rattle.file_blocks.specs.Kind.{arcPer, pointKind, pointSize, pointPer}
-
--- every block of a run is in its form
-abbrev pub RunFormed : List ℕ → ℕ → ℕ → ℕ → ℕ → ℕ → Type 0
-RunFormed file from kind per size n =
-    (j : ℕ) → j < blocks per n → runFormed file from kind per size n j ≡ true
 
 pub record ValidFile (file : List ℕ) (h : Header) : Type 0 where
   pub is : h ≡ headerAt file
@@ -51,8 +46,7 @@ pub record ValidFile (file : List ℕ) (h : Header) : Type 0 where
 
 -- such a file is laid out as its header says
 pub valid-laid : {file : List ℕ} {h : Header} → ValidFile file h → Laid file (layoutOf h)
-valid-laid v = record
-    { is = ap layoutOf (v .is); within = rw (v .is) at (v .within); long = rw (v .is) at (v .long) }
+valid-laid v = laid-by (v .is) refl (v .within) (v .long)
 
 -- no refusal opens
 not-opened : (number place : ℕ) (h : Header) → unopened number place ≡ Opened h → ⊥
@@ -75,38 +69,30 @@ module _ (file : List ℕ) (h : Header) where
     points-formed : RunFormed file (pointBlock h) pointKind pointPer pointSize (h .points)
 
   all-formed : allBlocks h ≤ firstUnformed file h → RunsFormed
-  unfolding firstUnformed unformedArcs unformedPoints
+  unfolding firstUnformed
   all-formed l =
       let x = firstUnformed file h in
-      let (n, e) = rung-passed (λ j. 1 + j) (blocks cellPer (h .nodes))
-      (unformed file 1 cellKind cellPer cellSize (h .nodes)) _ x (λ i m q. omega arith) refl in
-      let (a, f) = rung-passed (λ j. arcBlock h + j) (blocks arcPer (h .arcs))
-      (unformed file (arcBlock h) arcKind arcPer arcSize (h .arcs)) _ x (λ i m q. omega arith) e in
-      let (p, g) = rung-passed (λ j. pointBlock h + j) (blocks pointPer (h .points))
-      (unformed file (pointBlock h) pointKind pointPer pointSize (h .points)) _ x (λ i m q. omega arith)
+      let (n, e) = formed-past file 1 cellKind cellPer cellSize (h .nodes) _ x (omega arith) refl in
+      let (a, f) = formed-past file (arcBlock h) arcKind arcPer arcSize (h .arcs) _ x (omega arith) e in
+      let (p, g) = formed-past file (pointBlock h) pointKind pointPer pointSize (h .points) _ x (omega arith)
       f in
-      record {
-        nodes-formed = λ j m. not-false _ (n j m);
-        arcs-formed = λ j m. not-false _ (a j m);
-        points-formed = λ j m. not-false _ (p j m);
-      }
+      record { nodes-formed = n; arcs-formed = a; points-formed = p }
 
   formed-all : RunsFormed → firstUnformed file h ≡ allBlocks h
-  unfolding firstUnformed unformedArcs unformedPoints
+  unfolding firstUnformed
   formed-all f =
-      rung-clear (λ j. 1 + j) (blocks cellPer (h .nodes)) _ _ (λ j m. ap not (f .nodes-formed j m))
-      ∙ rung-clear (λ j. arcBlock h + j) (blocks arcPer (h .arcs)) _ _ (λ j m. ap not (f .arcs-formed j m))
-      ∙ rung-clear (λ j. pointBlock h + j) (blocks pointPer (h .points)) _ _
-      (λ j m. ap not (f .points-formed j m))
+      past-formed file 1 cellKind cellPer cellSize (h .nodes) _ (f .nodes-formed)
+      ∙ past-formed file (arcBlock h) arcKind arcPer arcSize (h .arcs) _ (f .arcs-formed)
+      ∙ past-formed file (pointBlock h) pointKind pointPer pointSize (h .points) _ (f .points-formed)
 
-within-file : (b n long : ℕ) → long ≡ blockSize * n → b < n → b < long / blockSize
+pub within-file : (b n long : ℕ) → long ≡ blockSize * n → b < n → b < long / blockSize
 within-file b n long e l = omega arith
 
 module _ (file : List ℕ) (h : Header) where
   validated-valid : validated file ≡ Opened h → ValidFile file h
   unfolding validated validatedFirst validatedLength validatedForm
   validated-valid e =
-      let (_, e₁) = passed-by (badLength (length file)) (unopened 1 0)
+      let (_, e₁) = passed-by (badLength mostBytes (length file)) (unopened 1 0)
       (firstRung (unopened 2) (length file / blockSize) (bad file) (validatedFirst file)) (Opened h)
       (not-opened 1 0 h) e in
       let (s, e₂) = rung-passed (unopened 2) (length file / blockSize) (bad file) (validatedFirst file)
@@ -136,16 +122,8 @@ module _ (file : List ℕ) (h : Header) where
       subst (λ (x : Header). ValidFile file x) q v
 
   module _ (v : ValidFile file h) where
-    few : (1 ≤ allBlocks h) × (allBlocks h ≤ mostBlocks)
-    few = (omega arith, omega (arith, v .within))
-
-    length-passed : badLength (length file) ≡ false
-    unfolding badLength
-    length-passed = rw (
-      ne-eqb (length file) 0 (omega (arith, v .long, few)),
-      eq-eqb (length file % blockSize) 0 (omega (arith, v .long)),
-      le-ltb mostBytes (length file) (omega (arith, v .long, few)),
-    )
+    length-passed : badLength mostBytes (length file) ≡ false
+    length-passed = fine-length _ _ _ (v .long) (omega arith) (omega (arith, v .within))
 
     made-inside : madeAt file ≡ Inside h
     made-inside = rw (v .is) (within-made _ _ _ _ _ _ (rw (v .is) at (v .within)))

@@ -1,20 +1,19 @@
 -- Validation of a network file, refusals 1 to 10 in the order of document 01: the length, every block's
 -- check, the first block's form, the header's limits, the length again, the later blocks' forms, and the
 -- rules of the tables. Every whole block is summed before the header is looked at.
-use mathlib.Core.Path.{_≡_, sym, _∙_, ap}
-use mathlib.Core.Bool.{Bool, false, cond, not, _||_}
+use mathlib.Core.Path.{_≡_, sym, _∙_}
+use mathlib.Core.Bool.{cond}
 use mathlib.Core.List.{List}
-use Prim.Native.Nat.{ℕ, _+_, _*_, _/_, _%_, _≤_, _<_}
+use Prim.Native.Nat.{ℕ, _+_, _*_, _/_, _≤_, _<_}
 use native.Mathlib.Omega.{arith}
-use native.Mathlib.Decide.{decLt}
 use lib.ListN.{length}
-use lib.Dec.{ltb, eqb, lit<, lit≤}
-use borrow.Author.Tests.{lt-ltb, le-ltb, eq-eqb, ne-eqb, eqb-true, eqb-false, ltb-false, not-false}
-use Rattle.theory_loops.specs.First.{first, first-le}
-use Rattle.theory_loops.specs.Pick.{firstRung, at-first, past-first, or-passed}
+use lib.Dec.{ltb, eqb}
+use borrow.Author.Tests.{lt-ltb, le-ltb, eq-eqb, ne-eqb}
+use Rattle.theory_loops.specs.Pick.{firstRung}
 use Rattle.file_fields.specs.Fields.{le16, le32}
-use Rattle.file_blocks.specs.Place.{blocks, RunInFile}
-use Rattle.file_blocks.specs.Form.{formed, unformed}
+use Rattle.file_blocks.specs.Place.{blocks}
+use Rattle.file_blocks.specs.Laid.{laid-by}
+use Rattle.file_blocks.specs.Form.{formed, unformedOr, badLength, run-taken, run-passed, run-last}
 use Rattle.file_blocks.specs.Read.{bad}
 use Rattle.file_refusals.specs.declared.Refusal.{Refusal}
 use Rattle.file_refusals.specs.declared.Judged.{Judged}
@@ -27,7 +26,8 @@ use Rattle.network.specs.declared.header.Made.the-variants.{Inside, Outs
 use Rattle.network.specs.Limits.{made, WithinLimits, made-within}
 use Rattle.network.specs.Layout.{arcBlock, pointBlock, allBlocks, layoutOf, mostBlocks, mostBytes}
 use Rattle.network.specs.declared.header.Layout.{Layout}
-use Rattle.network.specs.Decode.{headerAt, decode, Laid, laid-blocks}
+use Rattle.network.specs.Decode.{headerAt, decode, Laid, laid-blocks, nodes-stored, arcs-stored}
+use Rattle.network.specs.Decode.{points-stored}
 use Rattle.file_refusals.specs.Refusal.{refusal}
 use Rattle.network.specs.Rules.{judged}
 use Rattle.file_fields.specs.Block.{blockSize, headSize}
@@ -37,31 +37,17 @@ use Rattle.file_blocks.specs.Kind.{arcPer, pointKind, pointSize, pointPer}
 abbrev pub unopened : ℕ → ℕ → Opening
 unopened number place = Refused (refusal number place)
 
--- 1: no block, a part of a block, or more blocks than any network has
-unfoldable pub badLength : ℕ → Bool
-badLength long = eqb long 0 || (not (eqb (long % blockSize) 0) || ltb mostBytes long)
-
 -- 7 to 10
 abbrev pub validatedRules : Header → Judged → Opening
 validatedRules h Sound = Opened h
 validatedRules h (Faulty r) = Refused r
 
--- the first block after the header that is out of its form, by its number, or the count of blocks: of the
--- points' blocks, then of the arcs' and the points', then of all
-unfoldable pub unformedPoints : List ℕ → Header → ℕ
-unformedPoints file h =
-    firstRung (λ j. pointBlock h + j) (blocks pointPer (h .points))
-    (unformed file (pointBlock h) pointKind pointPer pointSize (h .points)) (allBlocks h)
-
-unfoldable pub unformedArcs : List ℕ → Header → ℕ
-unformedArcs file h =
-    firstRung (λ j. arcBlock h + j) (blocks arcPer (h .arcs))
-    (unformed file (arcBlock h) arcKind arcPer arcSize (h .arcs)) (unformedPoints file h)
-
+-- the first block after the header that is out of its form, by its number, or the count of blocks
 unfoldable pub firstUnformed : List ℕ → Header → ℕ
 firstUnformed file h =
-    firstRung (λ j. 1 + j) (blocks cellPer (h .nodes)) (unformed file 1 cellKind cellPer cellSize (h .nodes))
-    (unformedArcs file h)
+    unformedOr file 1 cellKind cellPer cellSize (h .nodes)
+    (unformedOr file (arcBlock h) arcKind arcPer arcSize (h .arcs)
+    (unformedOr file (pointBlock h) pointKind pointPer pointSize (h .points) (allBlocks h)))
 
 -- 6: that block
 unfoldable pub validatedForm : List ℕ → Header → Opening
@@ -88,97 +74,44 @@ validatedFirst file =
     cond (formed file 0 networkKind 1 (headSize + networkSize)) (validatedHeader file (madeAt file))
     (unopened 3 0)
 
--- 2: a block's check is wrong
+-- 1: no block, a part of a block, or more blocks than any network has; 2: a block's check is wrong
 unfoldable pub validated : List ℕ → Opening
 validated file =
-    cond (badLength (length file)) (unopened 1 0)
+    cond (badLength mostBytes (length file)) (unopened 1 0)
     (firstRung (unopened 2) (length file / blockSize) (bad file)
     (validatedFirst file))
 
--- FOR CODE on a file that is laid out as its header says: the first block out of its form
-module _ {file : List ℕ} {l : Layout} (s : Laid file l) (j r : ℕ) where
-  pub nodes-taken : j ≡ first (blocks cellPer (l .nodes))
-      (unformed file 1 cellKind cellPer cellSize (l .nodes)) → 1 + j < l .arcblock → r ≡ 1 + j
-      → r ≡ firstUnformed file (headerAt file)
-  unfolding firstUnformed
-  nodes-taken e m f =
-      let q = laid-blocks s in
-      at-first r _ (λ j. 1 + j) _ j _ (rw (q .nodes) at e) (omega arith) f
-
-  pub nodes-passed : j ≡ first (blocks cellPer (l .nodes))
-      (unformed file 1 cellKind cellPer cellSize (l .nodes)) → l .arcblock ≤ 1 + j
-      → r ≡ unformedArcs file (headerAt file)
-      → r ≡ firstUnformed file (headerAt file)
-  unfolding firstUnformed
-  nodes-passed e m f =
-      let q = laid-blocks s in past-first r _ (λ j. 1 + j) _ j _ (rw (q .nodes) at e) (omega arith) f
-
-  pub arcs-taken : j ≡ first (blocks arcPer (l .arcs))
-      (unformed file (l .arcblock) arcKind arcPer arcSize (l .arcs)) → l .arcblock + j < l .pointblock
-      → r ≡ l .arcblock + j
-      → r ≡ unformedArcs file (headerAt file)
-  unfolding unformedArcs
-  arcs-taken e m f =
-      let q = laid-blocks s in
-      at-first r _ (λ j. arcBlock (headerAt file) + j) _ j _ (rw (q .arcs, q .arcblock) at e) (omega arith)
-      (rw (q .arcblock) at f)
-
-  pub arcs-passed : j ≡ first (blocks arcPer (l .arcs))
-      (unformed file (l .arcblock) arcKind arcPer arcSize (l .arcs)) → l .pointblock ≤ l .arcblock + j
-      → r ≡ unformedPoints file (headerAt file) → r ≡ unformedArcs file (headerAt file)
-  unfolding unformedArcs
-  arcs-passed e m f =
-      let q = laid-blocks s in
-      past-first r _ (λ j. arcBlock (headerAt file) + j) _ j _ (rw (q .arcs, q .arcblock) at e) (omega arith)
-      f
-
-  -- the last run's first, or its end, which is the file's
-  pub points-told : j ≡ first (blocks pointPer (l .points))
-      (unformed file (l .pointblock) pointKind pointPer pointSize (l .points)) → r ≡ l .pointblock + j
-      → r ≡ unformedPoints file (headerAt file)
-  unfolding unformedPoints
-  points-told e f =
-      let q = laid-blocks s in
-      let h = headerAt file in
-      let d : j ≡ first (blocks pointPer (h .points))
-      (unformed file (pointBlock h) pointKind pointPer pointSize (h .points)) =
-      rw (q .points, q .pointblock) at e in
-      elim (decLt j (blocks pointPer (h .points))) [
-        | yes m ↦ at-first r (allBlocks h) (λ j. pointBlock h + j) _ j _ d m (rw (q .pointblock) at f)
-        | no m ↦ past-first r (allBlocks h) (λ j. pointBlock h + j) _ j _ d (omega arith)
-            (omega (
-              arith,
-              q .pointblock,
-              first-le (unformed file (pointBlock h) pointKind pointPer pointSize (h .points))
-                  (blocks pointPer (h .points)),
-            ))
-      ]
-
--- what the scan of a run's blocks requires
+-- FOR CODE on a file that is laid out as its header says: where each run ends, and the first block out of
+-- its form
 module _ {file : List ℕ} {l : Layout} (s : Laid file l) where
-  pub nodes-stored : RunInFile 1 cellPer cellSize (l .nodes) file
-  nodes-stored = record { pos = lit< tt; fit = lit≤ tt; room = omega (arith, s .long, laid-blocks s) }
+  pub nodes-end : l .arcblock ≡ 1 + blocks cellPer (l .nodes)
+  nodes-end = omega (arith, laid-blocks s)
 
-  pub arcs-stored : RunInFile (l .arcblock) arcPer arcSize (l .arcs) file
-  arcs-stored = record { pos = lit< tt; fit = lit≤ tt; room = omega (arith, s .long, laid-blocks s) }
+  pub arcs-end : l .pointblock ≡ l .arcblock + blocks arcPer (l .arcs)
+  arcs-end = omega (arith, laid-blocks s)
 
-  pub points-stored : RunInFile (l .pointblock) pointPer pointSize (l .points) file
-  points-stored = record { pos = lit< tt; fit = lit≤ tt; room = omega (arith, s .long, laid-blocks s) }
+  pub points-end : l .blocks ≡ l .pointblock + blocks pointPer (l .points)
+  points-end = omega (arith, laid-blocks s)
 
--- what is found is no later than the run's end
-pub found-few : (p : ℕ → Bool) (n j : ℕ) → j ≡ first n p → j ≤ n
-found-few p n j e = omega (arith, first-le p n)
+  pub unformed-told : (r : ℕ) → r ≡ unformedOr file 1 cellKind cellPer cellSize (l .nodes)
+      (unformedOr file (l .arcblock) arcKind arcPer arcSize (l .arcs)
+      (unformedOr file (l .pointblock) pointKind pointPer pointSize (l .points) (l .blocks)))
+      → r ≡ firstUnformed file (headerAt file)
+  unfolding firstUnformed layoutOf
+  unformed-told r e = rw (s .is) at e
 
 -- for `search forms` where that block is looked for
 pub ruleset forms = (
   nodes-stored,
   arcs-stored,
   points-stored,
-  nodes-taken,
-  nodes-passed,
-  arcs-taken,
-  arcs-passed,
-  points-told,
+  nodes-end,
+  arcs-end,
+  points-end,
+  unformed-told,
+  run-taken,
+  run-passed,
+  run-last,
 )
 
 -- FOR THE LADDER
@@ -216,7 +149,7 @@ length-taken file h l r e f g = rw (ne-eqb (length file) (blockSize * allBlocks 
 pub now-laid : (file : List ℕ) (h : Header) (l : Layout) → WithinLimits h → h ≡ headerAt file → l ≡ layoutOf h
     → length file ≡ blockSize * l .blocks → Laid file l
 unfolding layoutOf
-now-laid file h l w d e f = record { is = e ∙ ap layoutOf d; within = rw d at w; long = rw (e, d) at f }
+now-laid file h l w d e f = laid-by d e w (rw e at f)
 
 -- the header that is made of the first block's numbers
 pub header-within : (file : List ℕ) (m : Made) (h : Header) → m ≡ madeAt file → m ≡ Inside h → WithinLimits h
@@ -232,17 +165,6 @@ header-inside file m k h r e f g = rw (← e, f) g
 pub header-outside : (file : List ℕ) (m k : Made) (r : Opening) → m ≡ k → m ≡ Outside → r ≡ unopened 4 0
     → r ≡ validatedHeader file k
 header-outside file m k r e f g = rw (← e, f) g
-
--- what the lengths that are passed say: a block at least, and no more than any network has
-pub length-fine : (long : ℕ) (t : Bool) → t ≡ badLength long → t ≡ false
-    → (blockSize ≤ long) × (long ≤ mostBytes)
-unfolding badLength
-length-fine long t e f =
-    let (z, g) = or-passed _ _ (sym e ∙ f) in
-    let (m, h) = or-passed _ _ g in
-    let n : (long ≡ 0) → ⊥ = eqb-false long 0 z in
-    let k : long % blockSize ≡ 0 = eqb-true (long % blockSize) 0 (not-false _ m) in
-    (omega arith, ltb-false mostBytes long h)
 
 pub blocks-few : (h : Header) (l : Layout) → WithinLimits h → l ≡ layoutOf h → l .blocks ≤ mostBlocks
 unfolding layoutOf

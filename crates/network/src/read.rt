@@ -3,19 +3,11 @@
 // bytes.
 use crate::header::Layout;
 use file_blocks::kind;
+use file_blocks::place::field16;
 ghost use mathlib.Core.Path.{_≡_};
-ghost use Prim.Native.Nat.{_+_, _<_};
+ghost use Prim.Native.Nat.{_<_};
 ghost use Rattle.network.specs.Network;
-ghost use Rattle.network.specs.Decode.{Readable, decode, Laid};
-ghost use Rattle.file_blocks.specs.Table.{entry16};
-
-// The 16-bit field at byte `at` of entry i of a run of blocks.
-fn field(file: &[u8], from: usize, per: usize, size: usize, at: usize, i: usize) -> usize
-    requires { ⌜ Readable (now file) from per size at i ⌝ }
-    ensures { λ r. ⌜ (r ≡ entry16 (now (file .entry)) from per size at i) × (r < 65536) ⌝ }
-{
-    file_fields::fields::le16(file, file_blocks::place::offset(from, per, size, i) + at) as usize
-}
+ghost use Rattle.network.specs.Decode.{decode, Laid};
 
 // The cell of node v.
 pub fn cell(file: &[u8], l: Layout, v: usize) -> usize
@@ -23,7 +15,7 @@ pub fn cell(file: &[u8], l: Layout, v: usize) -> usize
     requires { ⌜ v < l .nodes ⌝ }
     ensures { λ r. ⌜ (r ≡ Network.cell (decode (now (file .entry))) v) × (r < 65536) ⌝ }
 {
-    field(file, 1, kind::CELL_PER, kind::CELL_SIZE, 0, v)
+    field16(file, 1, kind::CELL_PER, kind::CELL_SIZE, 0, v)
 }
 
 // The tail of arc a.
@@ -32,7 +24,7 @@ pub fn tail(file: &[u8], l: Layout, a: usize) -> usize
     requires { ⌜ a < l .arcs ⌝ }
     ensures { λ r. ⌜ (r ≡ Network.tail (decode (now (file .entry))) a) × (r < 65536) ⌝ }
 {
-    field(file, l.arcblock, kind::ARC_PER, kind::ARC_SIZE, 0, a)
+    field16(file, l.arcblock, kind::ARC_PER, kind::ARC_SIZE, 0, a)
 }
 
 // The head of arc a.
@@ -41,7 +33,7 @@ pub fn head(file: &[u8], l: Layout, a: usize) -> usize
     requires { ⌜ a < l .arcs ⌝ }
     ensures { λ r. ⌜ (r ≡ Network.head (decode (now (file .entry))) a) × (r < 65536) ⌝ }
 {
-    field(file, l.arcblock, kind::ARC_PER, kind::ARC_SIZE, 2, a)
+    field16(file, l.arcblock, kind::ARC_PER, kind::ARC_SIZE, 2, a)
 }
 
 // How many points arc a has.
@@ -50,7 +42,7 @@ pub fn count(file: &[u8], l: Layout, a: usize) -> usize
     requires { ⌜ a < l .arcs ⌝ }
     ensures { λ r. ⌜ (r ≡ Network.count (decode (now (file .entry))) a) × (r < 65536) ⌝ }
 {
-    field(file, l.arcblock, kind::ARC_PER, kind::ARC_SIZE, 4, a)
+    field16(file, l.arcblock, kind::ARC_PER, kind::ARC_SIZE, 4, a)
 }
 
 // The tick of point q.
@@ -59,7 +51,7 @@ pub fn tick(file: &[u8], l: Layout, q: usize) -> usize
     requires { ⌜ q < l .points ⌝ }
     ensures { λ r. ⌜ (r ≡ Network.tick (decode (now (file .entry))) q) × (r < 65536) ⌝ }
 {
-    field(file, l.pointblock, kind::POINT_PER, kind::POINT_SIZE, 0, q)
+    field16(file, l.pointblock, kind::POINT_PER, kind::POINT_SIZE, 0, q)
 }
 
 // The travel of point q.
@@ -68,5 +60,5 @@ pub fn travel(file: &[u8], l: Layout, q: usize) -> usize
     requires { ⌜ q < l .points ⌝ }
     ensures { λ r. ⌜ (r ≡ Network.travel (decode (now (file .entry))) q) × (r < 65536) ⌝ }
 {
-    field(file, l.pointblock, kind::POINT_PER, kind::POINT_SIZE, 2, q)
+    field16(file, l.pointblock, kind::POINT_PER, kind::POINT_SIZE, 2, q)
 }

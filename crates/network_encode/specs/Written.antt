@@ -15,10 +15,9 @@ use Rattle.file_fields.specs.Put.{put, fill-join}
 use Rattle.network.specs.declared.header.Header.{Header}
 use Rattle.network.specs.declared.header.Layout.{Layout}
 use Rattle.network.specs.Limits.{WithinLimits}
-use Rattle.network.specs.Layout.{layoutOf, arcBlock, pointBlock, allBlocks, mostBlocks}
+use Rattle.network.specs.Layout.{arcBlock, pointBlock, allBlocks, mostBlocks, LaidBlocks, layout-blocks}
 use Rattle.network.specs.Network.{Network}
 use Rattle.network.specs.Tables.{Tables, networkOf}
-use Rattle.network.specs.Decode.{LaidBlocks}
 use Rattle.network_encode.specs.Encode.{headerOf, encodeBy, encode, headerByte, cellByte, arcByte}
 use Rattle.network_encode.specs.Encode.{pointByte, bodyBy, header-body, cells-body, arcs-body}
 use Rattle.network_encode.specs.Encode.{points-body, number-byte, period-byte, nodes-byte, arcs-byte}
@@ -79,23 +78,11 @@ header-put h w l old s₁ s₂ s₃ s₄ s₅ s₆ r e₁ e₂ e₃ e₄ e₅ e�
     entry-field networkSize f headSize 0 4 0 12 _ old s₅ s₆ cells (lit≤ tt) (omega arith)
     (λ k n. points-byte h w l k) e₆
 
--- the layout's counts and blocks, by the header
-pub layout-blocks : (h : Header) (l : Layout) → l ≡ layoutOf h → LaidBlocks h l
-unfolding layoutOf
-layout-blocks h l e = record {
-  nodes = ap (λ (k : Layout). k .nodes) e;
-  arcs = ap (λ (k : Layout). k .arcs) e;
-  points = ap (λ (k : Layout). k .points) e;
-  arcblock = ap (λ (k : Layout). k .arcblock) e;
-  pointblock = ap (λ (k : Layout). k .pointblock) e;
-  all = ap (λ (k : Layout). k .blocks) e;
-}
-
 -- A BLOCK stands in its run
 module _ {h : Header} {l : Layout} {t : Tables} (p : Packable h l t) (b room : ℕ)
     (m : b < l .blocks) (r : blockSize * l .blocks ≤ room) where
   abbrev at : LaidBlocks h l
-  at = layout-blocks h l (p .is)
+  at = layout-blocks (p .is)
 
   near : b < mostBlocks
   near = omega (arith, at, p .within)
@@ -116,7 +103,7 @@ module _ {h : Header} {l : Layout} (t : Tables) (p : Packable h l t) (b : ℕ)
   n = networkOf h t
 
   abbrev q : LaidBlocks h l
-  q = layout-blocks h l (p .is)
+  q = layout-blocks (p .is)
 
   -- a run written from whole tables is that of their first entries
   told : (kind per size m : ℕ) (f g : ℕ → ℕ → ℕ) (from : ℕ) → 0 < per → ((i r : ℕ) → i < m → f i r ≡ g i r)
@@ -187,7 +174,7 @@ file-more f b old mid new g h =
 module _ {h : Header} {l : Layout} (t : Tables) (p : Packable h l t) where
   pub packed-header : headerOf (networkOf h t) ≡ h
   packed-header =
-      let q = layout-blocks h l (p .is) in
+      let q = layout-blocks (p .is) in
       λ i. record {
         number = h .number;
         period = h .period;
@@ -203,7 +190,7 @@ module _ {h : Header} {l : Layout} (t : Tables) (p : Packable h l t) where
   unfolding encode
   file-whole b old new r w y z =
       let n = networkOf h t in
-      let e : b ≡ allBlocks h = omega (arith, layout-blocks h l (p .is) .all) in
+      let e : b ≡ allBlocks h = omega (arith, layout-blocks (p .is) .all) in
       let f : new ≡ overwritten (encodeBy h n) old =
       rw length-tab (filled-list (fileByte (bodyBy h n)) (blockSize * allBlocks h) old new (omega arith)
       (rw e at w)) in

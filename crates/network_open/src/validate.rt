@@ -1,6 +1,7 @@
 // Validation of a network file: refusals 1 to 10, in place, each fault found as the first in its order.
 // Nothing is copied, and every call ends at the first refusal.
 use file_blocks::form::first_unformed;
+use file_blocks::form::is_bad_length;
 use file_blocks::form::is_formed;
 use file_blocks::kind;
 use file_blocks::reader::first_bad_sum;
@@ -23,25 +24,12 @@ ghost use lib.ListN.{length};
 ghost use Rattle.file_fields.specs.Block.{blockSize};
 ghost use Rattle.network.specs.Limits.{WithinLimits};
 ghost use Rattle.network.specs.Decode.{headerAt, decode, Laid};
-ghost use Rattle.network.specs.Validate.{badLength, madeAt, firstUnformed, validatedRules, validatedForm};
+ghost use Rattle.network.specs.Validate.{madeAt, firstUnformed, validatedRules, validatedForm};
 ghost use Rattle.network.specs.Validate.{validatedLength, validatedHeader, validatedFirst, validated};
 ghost use Rattle.network.specs.Rules.{judged};
 
 // The bytes of the first block that its head and its one entry take.
 const USED: usize = HEAD + kind::NETWORK_SIZE;
-
-// Refusal 1.
-fn is_bad_length(long: usize) -> bool
-    ensures { λ r. ⌜ r ≡ badLength long ⌝ }
-{
-    if long == 0 {
-        return true;
-    }
-    if long % BLOCK != 0 {
-        return true;
-    }
-    MOST_BYTES < long
-}
 
 // The header that the first block's numbers make.
 fn header_at(file: &[u8]) -> Made
@@ -71,8 +59,8 @@ fn first_bad_form(file: &[u8], l: Layout) -> usize
         kind::CELL_SIZE,
         l.nodes,
     );
-    if 1 + i < l.arcblock {
-        return 1 + i;
+    if i < l.arcblock {
+        return i;
     }
     let j = first_unformed(
         file,
@@ -82,18 +70,17 @@ fn first_bad_form(file: &[u8], l: Layout) -> usize
         kind::ARC_SIZE,
         l.arcs,
     );
-    if l.arcblock + j < l.pointblock {
-        return l.arcblock + j;
+    if j < l.pointblock {
+        return j;
     }
-    let k = first_unformed(
+    first_unformed(
         file,
         l.pointblock,
         kind::POINT,
         kind::POINT_PER,
         kind::POINT_SIZE,
         l.points,
-    );
-    l.pointblock + k
+    )
 }
 
 // Refusals 7 to 10.
@@ -159,7 +146,7 @@ fn validate_first(file: &[u8]) -> Opening
 pub fn validate(file: &[u8]) -> Opening
     ensures { λ r. ⌜ r ≡ validated (now (file .entry)) ⌝ }
 {
-    if is_bad_length(file.len()) {
+    if is_bad_length(file.len(), MOST_BYTES) {
         return refused(number::NETWORK_LENGTH, 0);
     }
     let b = first_bad_sum(file);

@@ -9,21 +9,22 @@ use native.Mathlib.Decide.{decLt}
 use lib.ListN.{length, getD, take, length-take, List·getD-eq-default}
 use lib.Seq.{getD-take, length-take-le, take-at}
 use Rattle.theory_loops.specs.Fill.{Filled, filled-list, overwritten}
+use Rattle.file_blocks.specs.Laid.{laid-by}
 use Rattle.network.specs.declared.header.Header.{Header}
 use Rattle.network.specs.declared.header.Layout.{Layout}
 use Rattle.network_pack.specs.declared.pack.Packing.{Packing}
 use Rattle.network.specs.Limits.{WithinLimits}
-use Rattle.network.specs.Layout.{layoutOf, allBlocks}
+use Rattle.network.specs.Layout.{allBlocks, LaidBlocks, layout-blocks}
 use Rattle.network.specs.Network.{Network}
 use Rattle.network.specs.Tables.{Tables, networkOf}
-use Rattle.network.specs.Decode.{headerAt, decode, Laid, LaidBlocks}
+use Rattle.network.specs.Decode.{headerAt, decode, Laid}
 use Rattle.network.specs.Rules.{judged}
 use Rattle.network_encode.specs.Encode.{encode, Words, Proper}
 use Rattle.network_pack.specs.HoldsRead.{tab-is}
 use Rattle.network_pack.specs.RoundTrip.{encode-long, header-encode, decode-encode}
 use Rattle.network_encode.specs.Packable.{Packable}
 use Rattle.network_pack.specs.Pack.{packedRules, Packs}
-use Rattle.network_encode.specs.Written.{layout-blocks, packed-header}
+use Rattle.network_encode.specs.Written.{packed-header}
 use Rattle.file_fields.specs.Block.{blockSize}
 
 -- bytes copied from the first to the last
@@ -58,7 +59,7 @@ module _ {h : Header} {l : Layout} (t : Tables) (p : Packable h l t) where
   n = networkOf h t
 
   abbrev q : LaidBlocks h l
-  q = layout-blocks h l (p .is)
+  q = layout-blocks (p .is)
 
   -- its file has the length that the layout says
   pub packed-long : length (encode (networkOf h t)) ≡ blockSize * l .blocks
@@ -89,11 +90,7 @@ module _ {h : Header} {l : Layout} (t : Tables) (p : Packable h l t) where
     packed-read = header-encode packed-proper ∙ packed-header t p
 
     packed-laid : Laid (encode (networkOf h t)) l
-    packed-laid = record {
-      is = p .is ∙ ap layoutOf (sym packed-read);
-      within = subst⁻¹ (λ (y : Header). WithinLimits y) packed-read (p .within);
-      long = encode-long n ∙ ap (λ (y : Header). blockSize * allBlocks y) (sym (header-encode packed-proper));
-    }
+    packed-laid = laid-by (sym packed-read) (p .is) (p .within) (packed-long ∙ rw (q .all))
 
   -- FOR THE CODE, which has written the file into the first bytes of a longer list
   module _ (old new : List ℕ) (e : new ≡ overwritten (encode (networkOf h t)) old) where

@@ -13,7 +13,7 @@ use Rattle.theory_loops.specs.Fill.{tab, getD-tab, length-tab}
 use Rattle.file_fields.specs.Fields.{Bytes, le16, le32, number, byteOf, byteOf-number, le16-number, le16-is}
 use Rattle.file_fields.specs.Fields.{le32-is}
 use Rattle.file_blocks.specs.Place.{offset, blocks}
-use Rattle.file_blocks.specs.Form.{formed}
+use Rattle.file_blocks.specs.Form.{formed, RunFormed}
 use Rattle.file_blocks.specs.Run.{RunLaid}
 use Rattle.file_blocks.specs.RunLaws.{run-formed, formed-run, run-value}
 use Rattle.file_blocks.specs.Table.{entry16}
@@ -22,7 +22,6 @@ use Rattle.network.specs.Limits.{WithinLimits}
 use Rattle.network.specs.Layout.{arcBlock, pointBlock}
 use Rattle.network.specs.Network.{Network, nodes, arcs, points}
 use Rattle.network.specs.Decode.{headerAt, decodeBy, decode}
-use Rattle.network.specs.Valid.{RunFormed}
 use Rattle.network_encode.specs.Encode.{headerOf, headerByte, cellByte, arcByte, pointByte}
 use Rattle.network_encode.specs.Encode.{Words, Proper}
 use Rattle.network_encode.specs.Encode.{cell-byte, tail-byte, head-byte, count-byte, tick-byte, travel-byte}

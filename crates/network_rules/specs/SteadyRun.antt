@@ -14,17 +14,16 @@ use Rattle.theory_loops.specs.Pick.{or-passed}
 use Rattle.theory_loops.specs.Parts.{Beside, Ran, Running, part-one}
 use Rattle.theory_travel.specs.Table.{entryAt, entry-first}
 use Rattle.file_fields.specs.Fields.{le16}
-use Rattle.file_blocks.specs.Place.{offset, offset-on, index-block, index-entry}
+use Rattle.file_blocks.specs.Place.{offset, beside-at, beside-room, index-block, index-entry}
 use Rattle.file_blocks.specs.Cursor.{cursorAt}
 use Rattle.file_blocks.specs.declared.cursor.Cursor.{Cursor}
 use Rattle.network.specs.declared.header.Layout.{Layout}
 use Rattle.network_rules.specs.declared.steady.Run.{Run}
 use Rattle.network.specs.Network.{Network, tick, travel}
-use Rattle.network.specs.Decode.{decode, Laid, tick-in, travel-in, tick-is, travel-is}
+use Rattle.network.specs.Decode.{decode, Laid, points-stored, point-in, tick-is, travel-is}
 use Rattle.network_rules.specs.Scan.{Scanned}
 use Rattle.file_fields.specs.Block.{blockSize, headSize}
 use Rattle.file_blocks.specs.Kind.{pointSize, pointPer}
-use Rattle.network.specs.Layout.{mostBlocks, mostBytes}
 use Rattle.network_rules.specs.Steady.{breaks, unclosed, Steady, steady-none, steady-more, steady-end}
 
 -- THE RUN over points that stand side by side: it carries along `low` and `end`
@@ -65,21 +64,21 @@ pub record Seen (n : Network) (l : Layout) (from m done base slot : ℕ) (run : 
       (run .end)
   pub base-is : done < m → base ≡ blockSize * (l .pointblock + (from + done) / pointPer) + headSize
   pub slot-is : done < m → slot ≡ (from + done) % pointPer
-  pub base-in : base ≤ mostBytes + headSize
+  pub base-in : base ≤ 2 ^ 63 + headSize
   pub slot-in : slot < pointPer
 
 module _ {file : List ℕ} {l : Layout} (s : Laid file l) (from m : ℕ) (room : from + m ≤ l .points) where
   pub seen-near : 0 < m → (0 < pointPer) × (l .pointblock + from / pointPer < 2 ^ 54)
   seen-near h =
       let g : from < l .points = omega arith in
-      (lit< tt, omega (arith, tick-in s g .near))
+      (lit< tt, point-in s g .near)
 
   pub seen-start : (c : Cursor) → 0 < m → c ≡ cursorAt (l .pointblock) pointPer from
       → Seen (decode file) l from m 0 (c .base) (c .slot) (record { low = 0; end = 0; good = true })
   seen-start c h e =
       let g : from < l .points = omega arith in
-      let n : blockSize * (l .pointblock + from / pointPer) + headSize ≤ mostBytes + headSize =
-      omega (arith, tick-in s g .near) in
+      let n : blockSize * (l .pointblock + from / pointPer) + headSize ≤ 2 ^ 63 + headSize =
+      omega (arith, point-in s g .near) in
       record {
         within = omega arith;
         steady = steady-none _ _ _;
@@ -96,10 +95,10 @@ module _ {file : List ℕ} {l : Layout} (s : Laid file l) (from m : ℕ) (room :
     unfolding offset
     at-first = rw (q .base-is h, q .slot-is h)
 
-    near : l .pointblock + (from + done) / pointPer < mostBlocks
+    near : l .pointblock + (from + done) / pointPer < 2 ^ 54
     near =
         let g : from + done < l .points = omega arith in
-        tick-in s g .near
+        point-in s g .near
 
     module _ (k : ℕ) (e : k ≡ min (m - done) (pointPer - slot)) where
       few : k ≡ min (m - done) (pointPer - (from + done) % pointPer)
@@ -108,17 +107,12 @@ module _ {file : List ℕ} {l : Layout} (s : Laid file l) (from m : ℕ) (room :
       there : (i : ℕ) → i < k
           → base + pointSize * slot + pointSize * i ≡ offset (l .pointblock) pointPer pointSize
           (from + done + i)
-      there i g =
-          let z : base + pointSize * slot + pointSize * i ≡ offset (l .pointblock) pointPer pointSize
-          (from + done) + pointSize * i = rw at-first in
-          z ∙ sym (offset-on (l .pointblock) pointPer pointSize (lit< tt) (from + done) i
-          (omega (arith, few)))
+      there = beside-at (points-stored s) (from + done) (omega (arith, few)) (omega (arith, few)) at-first
 
       pub seen-room : base + pointSize * slot + pointSize * k ≤ length file
       seen-room =
-          let o : 0 < k = omega (arith, few, in-one (from + done)) in
-          let g : from + done + (k - 1) < l .points = omega (arith, few) in
-          omega (arith, there (k - 1) (omega arith), travel-in s g .room)
+          beside-room (points-stored s) (from + done) (omega (arith, few)) (omega (arith, few)) at-first
+          (omega arith)
 
       beside : Beside pointSize (pointAt file)
           (entryAt (decode file .ticks) from, entryAt (decode file .travels) from) (base + pointSize * slot)

@@ -7,6 +7,7 @@ use lib.ListN.{length}
 use lib.Dec.{eqb, ltb}
 use Rattle.theory_loops.specs.Pick.{cond-holds, rung-holds}
 use Rattle.file_fields.specs.Block.{blockSize}
+use Rattle.file_blocks.specs.Form.{badLength}
 use Rattle.file_refusals.specs.declared.Refusal.{Refusal}
 use Rattle.file_refusals.specs.declared.Judged.{Judged}
 use Rattle.file_refusals.specs.declared.Judged.the-variants.{Sound, Faulty}
@@ -20,11 +21,12 @@ use Rattle.plan.specs.declared.answer.Planning.the-variants as planning
 use Rattle.plan.specs.declared.header.PlanHeader.{PlanHeader}
 use Rattle.plan.specs.Border.{borderCount}
 use Rattle.plan.specs.Plan.{Plan, pointStart}
+use Rattle.plan.specs.PlanLimits.{mostPlanBytes}
 use Rattle.plan.specs.PlanHeader.{planHeaderAt}
-use Rattle.plan.specs.PlanLayout.{planBlocks, planLayoutOf}
+use Rattle.plan.specs.PlanLayout.{planBlocks}
 use Rattle.plan.specs.PlanDecode.{decodePlan, pointTotal}
 use Rattle.plan.specs.PlanRules.{judgedTicks, judgedSum, judgedCounts, judgedFlags, planJudged}
-use Rattle.plan.specs.PlanValidate.{badPlanLength, firstUnformed, plannedRules, plannedForm}
+use Rattle.plan.specs.PlanValidate.{firstUnformed, plannedRules, plannedForm}
 use Rattle.plan.specs.PlanValidate.{plannedLength, matching, plannedHeader, firstFormed, plannedFirst}
 use Rattle.plan.specs.PlanValidate.{planned}
 
@@ -69,7 +71,8 @@ pub planned-numbers : (h : Header) (n : Network) (file : List ℕ)
     → Numbered planning.Refused 11 19 (planned h n file)
 unfolding planned plannedFirst plannedHeader plannedLength plannedForm
 planned-numbers h n file =
-    cond-holds Plans (badPlanLength (length file)) _ _ (plan-numbered 11 0 (omega arith) (omega arith))
+    cond-holds Plans (badLength mostPlanBytes (length file)) _ _
+    (plan-numbered 11 0 (omega arith) (omega arith))
     (rung-holds Plans _ _ _ _ (λ i. plan-numbered 12 i (omega arith) (omega arith))
     (cond-holds Plans (firstFormed file) _ _
     (cond-holds Plans (matching h (borderCount (partitionOf n)) k) _ _
@@ -84,4 +87,4 @@ planned-numbers h n file =
     k = planHeaderAt file
 
     bad : ℕ
-    bad = firstUnformed file (planLayoutOf k)
+    bad = firstUnformed file k

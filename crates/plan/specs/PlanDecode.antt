@@ -1,18 +1,17 @@
 -- The plan that a file holds, field by field, and the laws by which code reads it in place.
 -- Every list of bytes decodes to some plan; what makes it a plan file is validation.
-use mathlib.Core.Path.{_≡_, refl, sym, _∙_, ap}
+use mathlib.Core.Path.{_≡_, refl, sym}
 use mathlib.Core.List.{List}
-use Prim.Native.Nat.{ℕ, _+_, _*_, _/_, _≤_, _<_}
-use native.Mathlib.Nat.{add-zero}
+use Prim.Native.Nat.{ℕ, _*_, _^_, _≤_, _<_}
 use native.Mathlib.Omega.{arith}
 use lib.ListN.{length, getD}
 use lib.Dec.{lit<, lit≤}
-use Rattle.theory_loops.specs.Fill.{tab, getD-tab, length-tab}
+use Rattle.theory_loops.specs.Fill.{tab, length-tab}
 use Rattle.file_fields.specs.Fields.{le16, le32, le64}
-use Rattle.file_fields.specs.Block.{blockSize}
 use Rattle.file_blocks.specs.Kind.{flagPer, flagSize, countPer, countSize, profilePointPer, profilePointSize}
-use Rattle.file_blocks.specs.Table.{entry16}
-use Rattle.file_blocks.specs.Place.{offset, blocks, RunInFile, entry-in, block-below}
+use Rattle.file_blocks.specs.Table.{entry16, entry32, entry64, entry-is}
+use Rattle.file_blocks.specs.Place.{RunInFile, EntryInFile, entry-stands}
+use Rattle.file_blocks.specs.Laid.{LaidOut}
 use Rattle.network.specs.Limits.{mostPeriod, mostNodes, mostArcs, mostCells}
 use Rattle.plan.specs.declared.header.PlanHeader.{PlanHeader}
 use Rattle.plan.specs.declared.header.PlanLayout.{PlanLayout}
@@ -21,14 +20,6 @@ use Rattle.plan.specs.Plan.{Plan, pointCount}
 use Rattle.plan.specs.PlanHeader.{planHeaderAt, PlanWithin, profiles-few}
 use Rattle.plan.specs.PlanLayout.{profileCount, countBlock, planPointBlock, planBlocks, planLayoutOf}
 use Rattle.plan.specs.PlanLayout.{plan-few}
-
--- the fields of four and of eight bytes at byte `at` of entry i of a run, as `entry16` of the crate
--- `file_blocks` is that of two
-abbrev pub entry32 : List ℕ → ℕ → ℕ → ℕ → ℕ → ℕ → ℕ
-entry32 file from per size at i = le32 file (offset from per size i + at)
-
-abbrev pub entry64 : List ℕ → ℕ → ℕ → ℕ → ℕ → ℕ → ℕ
-entry64 file from per size at i = le64 file (offset from per size i + at)
 
 -- the plan of the tables where a header says that they stand
 abbrev pub decodePlanBy : PlanHeader → List ℕ → Plan
@@ -56,18 +47,9 @@ pointTravel p q = getD (p .travels) q 0
 abbrev pub pointTotal : Plan → ℕ
 pointTotal p = length (p .ticks)
 
--- A file that is as long as its header says, laid out so: what all reading in place requires.
-pub record PlanLaid (file : List ℕ) (l : PlanLayout) : Type 0 where
-  pub is : l ≡ planLayoutOf (planHeaderAt file)
-  pub within : PlanWithin (planHeaderAt file)
-  pub long : length file ≡ blockSize * planBlocks (planHeaderAt file)
-
--- Entry i of a run stands in the file.
-pub record EntryIn (file : List ℕ) (from per size i : ℕ) : Type 0 where
-  pub pos : 0 < per
-  pub fit : size * per ≤ 500
-  pub room : offset from per size i + size ≤ length file
-  pub near : from + i / per < mostPlanBlocks
+-- a plan file that is as long as its header says, laid out so
+abbrev pub PlanLaid : List ℕ → PlanLayout → Type 0
+PlanLaid = LaidOut planHeaderAt planLayoutOf PlanWithin planBlocks
 
 -- the counts of the layout are those of the plan
 pub record PlanSizes (p : Plan) (l : PlanLayout) : Type 0 where
@@ -100,35 +82,20 @@ pub record LaidPlan (h : PlanHeader) (l : PlanLayout) : Type 0 where
   pub pointblock : l .pointblock ≡ planPointBlock h
   pub all : l .blocks ≡ planBlocks h
 
-stored-in : (file : List ℕ) (from per size n : ℕ) → RunInFile from per size n file
-    → from + blocks per n ≤ mostPlanBlocks → (i : ℕ) → i < n → EntryIn file from per size i
-stored-in file from per size n s few i l = record {
-  pos = s .pos;
-  fit = s .fit;
-  room = omega (arith, s .room, entry-in from per size (s .pos) (s .fit) n i l);
-  near = omega (arith, block-below from per size (s .pos) (s .fit) n i l);
-}
-
 module _ {file : List ℕ} {l : PlanLayout} (s : PlanLaid file l) where
   pub plan-sizes : PlanSizes (decodePlan file) l
   unfolding decodePlan planLayoutOf
-  plan-sizes = record {
-    arcs = ap (λ (k : PlanLayout). k .arcs) (s .is) ∙ sym (length-tab _ _);
-    profiles = ap (λ (k : PlanLayout). k .profiles) (s .is) ∙ sym (length-tab _ _);
-    points = ap (λ (k : PlanLayout). k .points) (s .is) ∙ sym (length-tab _ _);
-    travels = ap (λ (k : PlanLayout). k .points) (s .is) ∙ sym (length-tab _ _);
-  }
+  plan-sizes = rw (s .is) (record {
+    arcs = sym (length-tab _ _);
+    profiles = sym (length-tab _ _);
+    points = sym (length-tab _ _);
+    travels = sym (length-tab _ _);
+  })
 
   pub laid-plan : LaidPlan (planHeaderAt file) l
   unfolding planLayoutOf
-  laid-plan = record {
-    arcs = ap (λ (k : PlanLayout). k .arcs) (s .is);
-    profiles = ap (λ (k : PlanLayout). k .profiles) (s .is);
-    points = ap (λ (k : PlanLayout). k .points) (s .is);
-    countblock = ap (λ (k : PlanLayout). k .countblock) (s .is);
-    pointblock = ap (λ (k : PlanLayout). k .pointblock) (s .is);
-    all = ap (λ (k : PlanLayout). k .blocks) (s .is);
-  }
+  laid-plan = rw (s .is) (record
+      { arcs = refl; profiles = refl; points = refl; countblock = refl; pointblock = refl; all = refl })
 
   pub plan-small : PlanSmall l
   unfolding planLayoutOf
@@ -159,53 +126,42 @@ module _ {file : List ℕ} {l : PlanLayout} (s : PlanLaid file l) where
   pub points-stored : RunInFile (l .pointblock) profilePointPer profilePointSize (l .points) file
   points-stored = record { pos = lit< tt; fit = lit≤ tt; room = omega (arith, s .long, laid-plan) }
 
+  few : length file ≤ 2 ^ 63
+  few = omega (arith, s .long, plan-few (s .within))
+
   -- FOR CODE that reads an entry of arc a, profile k or point q: it stands in the file, and is the plan's
   module _ {a : ℕ} (h : a < l .arcs) where
-    pub flag-in : EntryIn file 1 flagPer flagSize a
-    flag-in =
-        stored-in file 1 flagPer flagSize (l .arcs) flags-stored
-        (omega (arith, laid-plan, plan-few (s .within))) a h
+    pub flag-in : EntryInFile 1 flagPer flagSize a file
+    flag-in = entry-stands flags-stored few h
 
-    pub flag-is : {r : ℕ} → r ≡ le64 file (offset 1 flagPer flagSize a) → r ≡ flagWord (decodePlan file) a
+    pub flag-is : {r : ℕ} → r ≡ entry64 file 1 flagPer flagSize 0 a → r ≡ flagWord (decodePlan file) a
     unfolding decodePlan
-    flag-is e =
-        e ∙ sym (getD-tab _ (entry64 file 1 flagPer flagSize 0) a (omega (arith, laid-plan)) ∙ rw add-zero)
+    flag-is = entry-is le64 file flagPer flagSize 0 refl (laid-plan .arcs) h
 
   module _ {k : ℕ} (h : k < l .profiles) where
-    pub count-in : EntryIn file (l .countblock) countPer countSize k
-    count-in =
-        stored-in file (l .countblock) countPer countSize (l .profiles) counts-stored
-        (omega (arith, laid-plan, plan-few (s .within))) k h
+    pub count-in : EntryInFile (l .countblock) countPer countSize k file
+    count-in = entry-stands counts-stored few h
 
-    pub count-is : {r : ℕ} → r ≡ le16 file (offset (l .countblock) countPer countSize k)
+    pub count-is : {r : ℕ} → r ≡ entry16 file (l .countblock) countPer countSize 0 k
         → r ≡ pointCount (decodePlan file) k
     unfolding decodePlan
-    count-is e =
-        (rw (laid-plan .countblock) at e)
-        ∙ sym
-        (getD-tab _ (entry16 file (countBlock (planHeaderAt file)) countPer countSize 0) k
-        (omega (arith, laid-plan)) ∙ rw add-zero)
+    count-is = entry-is le16 file countPer countSize 0 (laid-plan .countblock) (laid-plan .profiles) h
 
   module _ {q : ℕ} (h : q < l .points) where
-    pub point-in : EntryIn file (l .pointblock) profilePointPer profilePointSize q
-    point-in =
-        stored-in file (l .pointblock) profilePointPer profilePointSize (l .points) points-stored
-        (omega (arith, laid-plan, plan-few (s .within))) q h
+    pub point-in : EntryInFile (l .pointblock) profilePointPer profilePointSize q file
+    point-in = entry-stands points-stored few h
 
-    pub tick-is : {r : ℕ} → r ≡ le16 file (offset (l .pointblock) profilePointPer profilePointSize q)
+    pub tick-is : {r : ℕ} → r ≡ entry16 file (l .pointblock) profilePointPer profilePointSize 0 q
         → r ≡ pointTick (decodePlan file) q
     unfolding decodePlan
-    tick-is e =
-        (rw (laid-plan .pointblock) at e)
-        ∙ sym
-        (getD-tab _ (entry16 file (planPointBlock (planHeaderAt file)) profilePointPer profilePointSize 0) q
-        (omega (arith, laid-plan)) ∙ rw add-zero)
+    tick-is =
+        entry-is le16 file profilePointPer profilePointSize 0 (laid-plan .pointblock) (laid-plan .points) h
 
-    pub travel-is : {r : ℕ} → r ≡ le32 file (offset (l .pointblock) profilePointPer profilePointSize q + 2)
+    pub travel-is : {r : ℕ} → r ≡ entry32 file (l .pointblock) profilePointPer profilePointSize 2 q
         → r ≡ pointTravel (decodePlan file) q
     unfolding decodePlan
-    travel-is e =
-        (rw (laid-plan .pointblock) at e)
-        ∙ sym
-        (getD-tab _ (entry32 file (planPointBlock (planHeaderAt file)) profilePointPer profilePointSize 2) q
-        (omega (arith, laid-plan)))
+    travel-is =
+        entry-is le32 file profilePointPer profilePointSize 2 (laid-plan .pointblock) (laid-plan .points) h
+
+-- for `search reads` where code reads a field
+pub ruleset reads = (flag-in, count-in, point-in, flag-is, count-is, tick-is, travel-is)

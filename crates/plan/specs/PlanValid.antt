@@ -5,19 +5,19 @@ use mathlib.Core.Path.{_≡_, refl, _∙_, ap, subst}
 use mathlib.Core.Logic.{_↔_}
 use mathlib.Core.Bool.{true, false, not, and-eq-true-iff}
 use mathlib.Core.List.{List}
-use Prim.Native.Nat.{ℕ, _+_, _*_, _/_, _%_, _≤_, _<_}
+use Prim.Native.Nat.{ℕ, _+_, _*_, _/_, _≤_, _<_}
 use native.Mathlib.Omega.{arith}
 use lib.ListN.{length}
 use lib.Dec.{ltb, eqb}
-use borrow.Author.Tests.{ltb-false, eqb-true, not-false, le-ltb, eq-eqb, ne-eqb}
+use borrow.Author.Tests.{ltb-false, eqb-true, not-false, le-ltb, eq-eqb}
 use Rattle.theory_loops.specs.Pick.{firstRung, passed-by, reached-by, rung-passed, rung-clear}
 use Rattle.file_fields.specs.Fields.{le16}
-use Rattle.file_blocks.specs.Place.{blocks}
+use Rattle.file_blocks.specs.Laid.{laid-by}
 use Rattle.file_fields.specs.Sum.{good}
 use Rattle.file_fields.specs.Block.{blockSize}
 use Rattle.file_blocks.specs.Kind.{flagKind, flagPer, flagSize, countKind, countPer, countSize}
 use Rattle.file_blocks.specs.Kind.{profilePointKind, profilePointPer, profilePointSize, planKind, planSize}
-use Rattle.file_blocks.specs.Form.{formed, unformed}
+use Rattle.file_blocks.specs.Form.{formed, RunFormed, badLength, formed-past, past-formed, fine-length}
 use Rattle.file_blocks.specs.Read.{bad}
 use Rattle.file_refusals.specs.declared.Judged.{Judged}
 use Rattle.file_refusals.specs.declared.Judged.the-variants.{Sound, Faulty}
@@ -25,11 +25,11 @@ use Rattle.network.specs.declared.header.Header.{Header}
 use Rattle.network.specs.Network.{Network, nodes, arcs}
 use Rattle.network.specs.Town.{partitionOf}
 use Rattle.network.specs.Decode.{decode}
-use Rattle.network.specs.Valid.{ValidFile, RunFormed}
+use Rattle.network.specs.Valid.{ValidFile, within-file}
 use Rattle.plan.specs.declared.answer.Planning.the-variants as planning
 use Rattle.plan.specs.declared.header.PlanHeader.{PlanHeader}
 use Rattle.plan.specs.declared.header.PlanLayout.{PlanLayout}
-use Rattle.plan.specs.PlanLimits.{mostPlanBlocks, mostPlanBytes}
+use Rattle.plan.specs.PlanLimits.{mostPlanBytes}
 use Rattle.plan.specs.Border.{borderCount}
 use Rattle.plan.specs.PlanHeader.{planHeaderAt, PlanWithin}
 use Rattle.plan.specs.PlanLayout.{profileCount, countBlock, planPointBlock, planBlocks, planLayoutOf}
@@ -37,7 +37,7 @@ use Rattle.plan.specs.PlanLayout.{plan-few}
 use Rattle.plan.specs.PlanDecode.{decodePlan, PlanLaid}
 use Rattle.plan.specs.PlanRules.{profiles, planJudged}
 use Rattle.plan.specs.WellFormed.{WellFormed, well-formed-exactly}
-use Rattle.plan.specs.PlanValidate.{unplanned, badPlanLength, unformedPoints, unformedCounts}
+use Rattle.plan.specs.PlanValidate.{unplanned}
 use Rattle.plan.specs.PlanValidate.{firstUnformed, plannedRules, plannedForm, plannedLength, matching}
 use Rattle.plan.specs.PlanValidate.{plannedHeader, firstFormed, plannedFirst, planned}
 use Rattle.plan.specs.PlanMatch.{Matches, matching-matches, matches-matching, matches-within}
@@ -75,11 +75,7 @@ module _ {network : List ℕ} {h : Header} (v : ValidFile network h) {file : Lis
       (omega (arith, valid-headed v .nodes-are, borders-few (partitionOf (decode network)))) (w .matches)
 
   pub valid-plan-laid : PlanLaid file (planLayoutOf k)
-  valid-plan-laid = record {
-    is = ap planLayoutOf (w .is);
-    within = rw (w .is) at valid-within;
-    long = rw (w .is) at (w .long);
-  }
+  valid-plan-laid = laid-by (w .is) refl valid-within (w .long)
 
   pub valid-for : PlanFor (decode network) (planLayoutOf k)
   unfolding planLayoutOf
@@ -112,38 +108,24 @@ module _ (file : List ℕ) (k : PlanHeader) where
     points-formed : RunFormed file (planPointBlock k) profilePointKind profilePointPer profilePointSize
         (k .points)
 
-  all-formed : planBlocks k ≤ firstUnformed file (planLayoutOf k) → RunsFormed
-  unfolding firstUnformed unformedCounts unformedPoints planLayoutOf
+  all-formed : planBlocks k ≤ firstUnformed file k → RunsFormed
+  unfolding firstUnformed
   all-formed l =
-      let x = firstUnformed file (planLayoutOf k) in
-      let (f, e₁) =
-      rung-passed (λ j. 1 + j) (blocks flagPer (k .arcs))
-      (unformed file 1 flagKind flagPer flagSize (k .arcs)) _ x (λ i m q. omega arith) refl in
-      let (c, e₂) =
-      rung-passed (λ j. countBlock k + j) (blocks countPer (profileCount k))
-      (unformed file (countBlock k) countKind countPer countSize (profileCount k)) _ x
-      (λ i m q. omega arith) e₁ in
-      let (p, _) =
-      rung-passed (λ j. planPointBlock k + j) (blocks profilePointPer (k .points))
-      (unformed file (planPointBlock k) profilePointKind profilePointPer profilePointSize (k .points)) _ x
-      (λ i m q. omega arith) e₂ in
-      record {
-        flags-formed = λ j m. not-false _ (f j m);
-        counts-formed = λ j m. not-false _ (c j m);
-        points-formed = λ j m. not-false _ (p j m);
-      }
+      let x = firstUnformed file k in
+      let (f, e₁) = formed-past file 1 flagKind flagPer flagSize (k .arcs) _ x (omega arith) refl in
+      let (c, e₂) = formed-past file (countBlock k) countKind countPer countSize (profileCount k) _ x
+      (omega arith) e₁ in
+      let (p, _) = formed-past file (planPointBlock k) profilePointKind profilePointPer profilePointSize
+      (k .points) _ x (omega arith) e₂ in
+      record { flags-formed = f; counts-formed = c; points-formed = p }
 
-  formed-all : RunsFormed → firstUnformed file (planLayoutOf k) ≡ planBlocks k
-  unfolding firstUnformed unformedCounts unformedPoints planLayoutOf
+  formed-all : RunsFormed → firstUnformed file k ≡ planBlocks k
+  unfolding firstUnformed
   formed-all f =
-      rung-clear (λ j. 1 + j) (blocks flagPer (k .arcs)) _ _ (λ j m. ap not (f .flags-formed j m))
-      ∙ rung-clear (λ j. countBlock k + j) (blocks countPer (profileCount k)) _ _
-      (λ j m. ap not (f .counts-formed j m))
-      ∙ rung-clear (λ j. planPointBlock k + j) (blocks profilePointPer (k .points)) _ _
-      (λ j m. ap not (f .points-formed j m))
-
-within-file : (b n long : ℕ) → long ≡ blockSize * n → b < n → b < long / blockSize
-within-file b n long e l = omega arith
+      past-formed file 1 flagKind flagPer flagSize (k .arcs) _ (f .flags-formed)
+      ∙ past-formed file (countBlock k) countKind countPer countSize (profileCount k) _ (f .counts-formed)
+      ∙ past-formed file (planPointBlock k) profilePointKind profilePointPer profilePointSize (k .points) _
+      (f .points-formed)
 
 module _ (h : Header) (n : Network) (file : List ℕ) (k : PlanHeader) where
   planned-valid : planned h n file ≡ planning.WellFormed k → ValidPlan h n file k
@@ -153,7 +135,7 @@ module _ (h : Header) (n : Network) (file : List ℕ) (k : PlanHeader) where
       let j = planJudged n (decodePlan file) in
       let x = planning.WellFormed k in
       let (_, e₁) =
-      passed-by (badPlanLength (length file)) (unplanned 11 0)
+      passed-by (badLength mostPlanBytes (length file)) (unplanned 11 0)
       (firstRung (unplanned 12) (length file / blockSize) (bad file) (plannedFirst h n file)) x
       (not-well 11 0 k) e in
       let (s, e₂) =
@@ -168,9 +150,8 @@ module _ (h : Header) (n : Network) (file : List ℕ) (k : PlanHeader) where
       reached-by (eqb (length file) (blockSize * planBlocks m)) (plannedForm file m j) (unplanned 15 0) x
       (not-well 15 0 k) e₄ in
       let (u, e₆) =
-      passed-by (ltb (firstUnformed file (planLayoutOf m)) (planBlocks m))
-      (unplanned 16 (firstUnformed file (planLayoutOf m))) (plannedRules m j) x
-      (not-well 16 (firstUnformed file (planLayoutOf m)) k) e₅ in
+      passed-by (ltb (firstUnformed file m) (planBlocks m)) (unplanned 16 (firstUnformed file m))
+      (plannedRules m j) x (not-well 16 (firstUnformed file m) k) e₅ in
       let (w, q) = rules-passed k m j e₆ in
       let (d, z) = and-eq-true-iff (formed file 0 planKind 1 (8 + planSize)) (eqb (le16 file 22) 0) .0 f in
       let g = all-formed file m (ltb-false _ _ u) in
@@ -192,16 +173,8 @@ module _ (h : Header) (n : Network) (file : List ℕ) (k : PlanHeader) where
 
 module _ {network : List ℕ} {h : Header} (v : ValidFile network h) (file : List ℕ) (k : PlanHeader) where
   module _ (w : ValidPlan h (decode network) file k) where
-    few : (1 ≤ planBlocks k) × (planBlocks k ≤ mostPlanBlocks)
-    few = (omega arith, plan-few (valid-within v w))
-
-    length-passed : badPlanLength (length file) ≡ false
-    unfolding badPlanLength
-    length-passed = rw (
-      ne-eqb (length file) 0 (omega (arith, w .long, few)),
-      eq-eqb (length file % blockSize) 0 (omega (arith, w .long)),
-      le-ltb mostPlanBytes (length file) (omega (arith, w .long, few)),
-    )
+    length-passed : badLength mostPlanBytes (length file) ≡ false
+    length-passed = fine-length _ _ _ (w .long) (omega arith) (omega (arith, plan-few (valid-within v w)))
 
     first-passed : firstFormed file ≡ true
     unfolding firstFormed

@@ -2,8 +2,8 @@
 // Each contract equates the answer with the entry of the plan that the file decodes to; callers see no bytes.
 use crate::header::PlanLayout;
 use file_blocks::kind;
+use file_blocks::place::field16;
 use file_blocks::place::offset;
-use file_fields::fields::le16;
 use file_fields::fields::le32;
 use file_fields::fields::le64;
 ghost use mathlib.Core.Path.{_≡_};
@@ -26,10 +26,7 @@ pub fn point_count(plan: &[u8], l: PlanLayout, k: usize) -> usize
     requires { ⌜ k < l .profiles ⌝ }
     ensures { λ r. ⌜ (r ≡ pointCount (decodePlan (now (plan .entry))) k) × (r < 65536) ⌝ }
 {
-    le16(
-        plan,
-        offset(l.countblock, kind::COUNT_PER, kind::COUNT_SIZE, k),
-    ) as usize
+    field16(plan, l.countblock, kind::COUNT_PER, kind::COUNT_SIZE, 0, k)
 }
 
 // The tick of point q.
@@ -38,13 +35,14 @@ pub fn tick(plan: &[u8], l: PlanLayout, q: usize) -> usize
     requires { ⌜ q < l .points ⌝ }
     ensures { λ r. ⌜ (r ≡ pointTick (decodePlan (now (plan .entry))) q) × (r < 65536) ⌝ }
 {
-    let at = offset(
+    field16(
+        plan,
         l.pointblock,
         kind::PROFILE_POINT_PER,
         kind::PROFILE_POINT_SIZE,
+        0,
         q,
-    );
-    le16(plan, at) as usize
+    )
 }
 
 // The travel of point q.

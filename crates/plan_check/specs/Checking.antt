@@ -23,7 +23,7 @@ use Rattle.plan.specs.declared.answer.Planning.the-variants as planning
 use Rattle.plan_check.specs.declared.answer.Checking.{Checking}
 use Rattle.plan_check.specs.declared.answer.Checking.the-variants.{Refused}
 use Rattle.plan.specs.declared.header.PlanHeader.{PlanHeader}
-use Rattle.plan.specs.declared.header.PlanLayout.{PlanLayout}
+use Rattle.plan_tests.specs.declared.tests.Layouts.{Layouts}
 use Rattle.plan.specs.Border.{borders}
 use Rattle.plan.specs.Plan.{Plan}
 use Rattle.plan.specs.PlanLayout.{planLayoutOf}
@@ -52,10 +52,10 @@ module _ {network : List ℕ} {h : Header} (v : ValidFile network h) where
     pub check-within : PlanWithin k
     check-within = valid-within v w
 
-    pub check-able : (l : Layout) (pl : PlanLayout) → l ≡ layoutOf h → pl ≡ planLayoutOf k
-        → Checkable network l plan pl
-    check-able l pl e f =
-        let d = check-laid l e in
+    pub check-able : (l : Layouts) → l .network ≡ layoutOf h → l .plan ≡ planLayoutOf k
+        → Checkable network plan l
+    check-able l e f =
+        let d = check-laid (l .network) e in
         let z = laid-sizes d in
         let p = rw (sym f) at (valid-for v w) in
         let q = rw (sym f) at (valid-plan-laid v w) in

@@ -18,14 +18,15 @@ use Rattle.theory_paths.specs.Partition.{Partition}
 use Rattle.theory_paths.specs.Profiles.{Travel, unreachable, ticks}
 use Rattle.theory_paths.specs.Flags.{flagged}
 use Rattle.network.specs.declared.header.Layout.{Layout}
-use Rattle.network.specs.Network.{arcs, cell, tail}
+use Rattle.network.specs.Network.{arcs, tail}
 use Rattle.network.specs.Decode.{decode}
 use Rattle.network.specs.Town.{graphOf, partitionOf, town-lawful}
 use Rattle.search_arcs.specs.Chain.{Chained}
 use Rattle.search_arcs.specs.Town.{Town}
 use Rattle.plan_values.specs.declared.value.Value.{Value}
+use Rattle.plan_tests.specs.declared.tests.Layouts.{Layouts}
+use Rattle.plan_tests.specs.declared.tests.Target.{Target}
 use Rattle.plan_tests.specs.declared.tests.Asked.the-variants.{Less, Same, Flagged}
-use Rattle.plan.specs.declared.header.PlanLayout.{PlanLayout}
 use Rattle.plan.specs.Border.{borderAt}
 use Rattle.plan.specs.Plan.{Plan, flag, bit, profile, profileValue}
 use Rattle.plan.specs.PlanDecode.{decodePlan, flagWord}
@@ -135,18 +136,6 @@ module _ (G : Partition) (p : Plan) (i u x : ℕ) where
         (second-false (isNumber (profile (G .graph) p i u x))
         (and-clear _ _ .1 λ q. no-yes (sym (none-given _ refl) ∙ q)))
 
--- the plan's counts are the network's
-module _ {network : List ℕ} {l : Layout} {plan : List ℕ} {pl : PlanLayout}
-    (w : Checkable network l plan pl) where
-  pub plan-arc : {a : ℕ} → a < l .arcs → a < pl .arcs
-  plan-arc h = omega (arith, w .arcs)
-
-  pub plan-node : {u : ℕ} → u < l .nodes → u < pl .nodes
-  plan-node h = omega (arith, w .nodes)
-
-  pub plan-tick : {x : ℕ} → x < l .period → x < pl .period
-  plan-tick h = omega (arith, w .period)
-
 -- FOR ONE ARC: what it gives was read, and compared with a value
 -- the value is kept already, or arc a gives it and has the flag of cell c
 unfoldable pub keeps : Bool → Plan → ℕ → ℕ → Travel → Travel → Bool
@@ -236,42 +225,47 @@ module _ {network : List ℕ} {l : Layout} {p : Plan} {first next : List ℕ} {c
     pub keep-end : l .arcs ≤ k → kept ≡ true → Kept (partitionOf (decode network)) p c i u x
     keep-end h e = record { no-less = sym (pass-none (w .walk) h); attained = w .so-far e }
 
--- FOR A TRIPLE of border number i, whose border is b, with the value v
-module _ {network : List ℕ} {l : Layout} {plan : List ℕ} {pl : PlanLayout}
-    {points firsts next starts : List ℕ} {b i : ℕ}
-    (w : AtBorder network l plan pl points firsts next starts b i) {u x : ℕ} where
-  pub home-clean-by : {v : Value} {t : Bool} → x < l .period
-      → Reads v (profileValue (pl .period) (decodePlan plan) (i * pl .nodes + u) x)
-      → u ≡ b → t ≡ same (valueOf v) (ticks 0) → t ≡ true
-      → Clean (partitionOf (decode network)) (decodePlan plan) i u x
+-- for `search keeping` at the needs of the walk
+pub ruleset keeping = (keep-first, keep-fewer, keep-next)
+
+-- FOR A TRIPLE of the border b, with the value v
+module _ {network plan : List ℕ} {l : Layouts} {points firsts next starts : List ℕ} {b : Target}
+    (w : AtBorder network plan l points firsts next starts b) {u x : ℕ} where
+  pub home-clean-by : {v : Value} {t : Bool} → x < l .network .period
+      → Reads v (profileValue (l .plan .period) (decodePlan plan) (b .number * l .plan .nodes + u) x)
+      → u ≡ b .node → t ≡ same (valueOf v) (ticks 0) → t ≡ true
+      → Clean (partitionOf (decode network)) (decodePlan plan) (b .number) u x
   home-clean-by {v} h r e q f =
       let z : valueOf v ≡ ticks 0 = same-true _ _ (sym q ∙ f) in
       let o = w .prepared .check .town in
-      home-clean (partitionOf (decode network)) (decodePlan plan) i u x
+      home-clean (partitionOf (decode network)) (decodePlan plan) (b .number) u x
       (town-lawful (o .sound) (omega (arith, o .sizes .period))) (omega (arith, o .sizes .period))
-      (sym (profile-is (w .prepared) u x r) ∙ z) (e ∙ w .is)
+      (sym (profile-is (w .prepared) u x r) ∙ z) (e ∙ w .prepared .aimed .node)
 
-  pub away-clean-by : {c : ℕ} → u ≢ b → c ≡ cell (decode network) b
-      → Kept (partitionOf (decode network)) (decodePlan plan) c i u x
-      → Clean (partitionOf (decode network)) (decodePlan plan) i u x
-  away-clean-by m e k = kept-clean (partitionOf (decode network)) (decodePlan plan) i u x (w .is) e m k
+  pub away-clean-by : u ≢ b .node
+      → Kept (partitionOf (decode network)) (decodePlan plan) (b .cell) (b .number) u x
+      → Clean (partitionOf (decode network)) (decodePlan plan) (b .number) u x
+  away-clean-by m k =
+      kept-clean (partitionOf (decode network)) (decodePlan plan) (b .number) u x (w .prepared .aimed .node)
+      (w .prepared .aimed .cell) m k
 
 -- FOR THE LOOPS: nothing is below 0, what holds below i and at i holds below i + 1, and all of a range is
 -- passed at its end
 pub clean-none : (P : ℕ → Type 0) (k : ℕ) → k < 0 → P k
 clean-none P k h = absurd (omega arith)
 
-pub clean-more : (P : ℕ → Type 0) (i : ℕ) → ((k : ℕ) → k < i → P k) → P i → (k : ℕ) → k < i + 1 → P k
-clean-more P i h f = below-more P i h f
+pub clean-more : (P : ℕ → Type 0) (i : ℕ) → ((k : ℕ) → k < i → P k) → {j : ℕ} → j ≡ i → P j → (k : ℕ)
+    → k < i + 1
+    → P k
+clean-more P i h e f = below-more P i h (rw e at f)
 
 pub clean-end : (P : ℕ → Type 0) (n i : ℕ) → ((k : ℕ) → k < i → P k) → n ≤ i → (k : ℕ) → k < n → P k
 clean-end P n i h f k m = h k (omega arith)
 
-pub nothing-fails : {network : List ℕ} {l : Layout} {plan : List ℕ} {pl : PlanLayout}
-    → Checkable network l plan pl
+pub nothing-fails : {network plan : List ℕ} {l : Layouts} → Checkable network plan l
     →
-    ((i : ℕ) → i < pl .borders
-    → CleanBorder (partitionOf (decode network)) (decodePlan plan) (l .nodes) (l .period) i)
+    ((i : ℕ) → i < l .plan .borders
+    → CleanBorder (partitionOf (decode network)) (decodePlan plan) (l .network .nodes) (l .network .period) i)
     → NothingFails (partitionOf (decode network)) (decodePlan plan)
 nothing-fails w h number i u x li lu lx =
     h i (omega (arith, w .borders)) u (omega (arith, w .town .sizes .nodes)) x

@@ -34,7 +34,7 @@ module _ (G : Partition) (p : Plan) where
   not-accepted : (r : Refusal) → Refused r ≡ Accepted → ⊥
   not-accepted r e = let z : _≡_ {A = ℕ} 0 1 = cc in omega arith
 
-  rung-nowhere : (number : ℕ) (next : Checking) → tripleRung number G p next ≡ Accepted
+  pub rung-nowhere : (number : ℕ) (next : Checking) → tripleRung number G p next ≡ Accepted
       → Nowhere G p number × (next ≡ Accepted)
   unfolding tripleRung firstTripleRung
   rung-nowhere number next e =

@@ -8,7 +8,6 @@ pub mod Exact
 pub mod CheckPlan
 pub mod Promise
 pub mod Numbers
-pub mod Ranges
 pub mod Clean
 pub mod Finding
 pub mod Checking

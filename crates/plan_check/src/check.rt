@@ -7,21 +7,20 @@ use file_refusals::Refusal;
 use file_refusals::number;
 use network::answer::Opening;
 use network::header::Header;
-use network::header::Layout;
 use network::limits::MOST_ARCS;
 use network::limits::MOST_NODES;
 use network_open::validate::validate;
 use plan::answer::Planning;
 use plan::borders::list_borders;
 use plan::header::PlanHeader;
-use plan::header::PlanLayout;
 use plan_tests::tests;
+use plan_tests::tests::Layouts;
+use plan_tests::tests::Triple;
 use plan_validate::validate::validate_plan;
 use plan_values::value;
 use search_arcs::chain;
 use search_arcs::chain::End;
 use search_arcs::times;
-use search_arcs::wide;
 ghost use mathlib.Core.Path.{_≡_};
 ghost use Prim.Native.Nat.{_<_};
 ghost use Rattle.theory_loops.specs.First;
@@ -36,105 +35,68 @@ ghost use Rattle.plan_check.specs.CheckPlan.{checkedBy, checking};
 ghost use Rattle.plan.specs.PlanValidate.{planned};
 ghost use Rattle.plan.specs.PlanValid.{ValidPlan};
 ghost use Rattle.plan_tests.specs.Checkable.{Checkable};
-ghost use Rattle.plan_check.specs.Finding.{Listed, Equipped, foundAt, firstFailing, triplesFrom};
+ghost use Rattle.plan_check.specs.Finding.{Listed, Equipped, triplesFrom};
 
 // After the last of the tests.
 const TESTS_END: u32 = number::CHECK_NO_FLAG + 1;
 
-// A border number, a node and a tick.
-pub struct Triple {
-    pub border: u32,
-    pub node: u32,
-    pub tick: u32,
-}
-
-pub enum Found {
-    At(Triple),
-    Nothing,
-}
-
-// A triple of indices.
-fn found_at(i: usize, u: usize, x: usize) -> Found
-    requires { ⌜ (i < mostNodes) × (u < mostNodes) × (x < mostPeriod) ⌝ }
-    ensures { λ r. ⌜ r ≡ foundAt i u x ⌝ }
-{
-    Found::At(Triple {
-        border: i as u32,
-        node: u as u32,
-        tick: x as u32,
-    })
-}
-
 // A refusal of the test with this number at a triple.
-fn refused_at(number: u32, at: Triple) -> Checking
-    ensures { λ r. ⌜ r ≡ refusedAt number (at .border) (at .node) (at .tick) ⌝ }
+fn refused_at(number: u32, t: Triple) -> Checking
+    requires { ⌜ (t .target .number < mostNodes) × (t .node < mostNodes) × (t .tick < mostPeriod) ⌝ }
+    ensures { λ r. ⌜ r ≡ refusedAt number (t .target .number) (t .node) (t .tick) ⌝ }
 {
     Checking::Refused(Refusal {
         number,
-        first: at.border,
-        second: at.node,
-        third: at.tick,
+        first: t.target.number as u32,
+        second: t.node as u32,
+        third: t.tick as u32,
     })
 }
 
 // The first arc at which 20 fails; the number of arcs where there is none.
-fn first_unflagged(network: &[u8], l: Layout, plan: &[u8], pl: PlanLayout) -> usize
-    requires { ⌜ Checkable (now network) l (now plan) pl ⌝ }
-    ensures { λ r. ⌜ r ≡ First.first (l .arcs)
+fn first_unflagged(network: &[u8], plan: &[u8], l: Layouts) -> usize
+    requires { ⌜ Checkable (now network) (now plan) l ⌝ }
+    ensures { λ r. ⌜ r ≡ First.first (l .network .arcs)
         (fails20 (partitionOf (decode (now (network .entry)))) (decodePlan (now (plan .entry)))) ⌝ }
 {
-    let arcs = l.arcs;
+    let arcs = l.network.arcs;
     for a in 0..arcs {
-        if tests::is_unflagged_inside(network, l, plan, pl, a) {
+        if tests::is_unflagged_inside(network, plan, l, a) {
             return a;
         }
     }
     arcs
 }
 
-// The first border number, then node, then tick at which the test with this number fails.
+// A refusal at the first border number, then node, then tick at which the test with this number fails.
 pub fn first_failing(
     number: u32,
     network: &[u8],
-    l: Layout,
     plan: &[u8],
-    pl: PlanLayout,
+    l: Layouts,
     points: &[u16; MOST_ARCS],
     first: &[u16; MOST_NODES],
     next: &[u16; MOST_ARCS],
     borders: &[u16; MOST_NODES],
-) -> Found
-    requires { ⌜ Equipped (now network) l (now plan) pl (now points) (now first) (now next) (now borders) ⌝ }
-    ensures { λ r. ⌜ r ≡ firstFailing number (partitionOf (decode (now (network .entry))))
+) -> Checking
+    requires { ⌜ Equipped (now network) (now plan) l (now points) (now first) (now next) (now borders) ⌝ }
+    ensures { λ r. ⌜ r ≡ triplesFrom 1 number (partitionOf (decode (now (network .entry))))
         (decodePlan (now (plan .entry))) ⌝ }
 {
-    let count = pl.borders;
-    let nodes = l.nodes;
-    let period = l.period;
-    let mut found = Found::Nothing;
+    let count = l.plan.borders;
+    let nodes = l.network.nodes;
+    let period = l.network.period;
+    let mut found = Checking::Accepted;
     let mut starts = [0u32; MOST_NODES];
     let mut from = 0;
     'borders: for i in 0..count {
-        from = value::profile_starts(plan, pl, i, from, &mut starts);
-        let border = wide(borders[i]);
-        'nodes: for u in 0..nodes {
-            'ticks: for x in 0..period {
-                if tests::is_failing(
-                    number,
-                    network,
-                    l,
-                    plan,
-                    pl,
-                    points,
-                    first,
-                    next,
-                    &starts,
-                    border,
-                    i,
-                    u,
-                    x,
-                ) {
-                    found = found_at(i, u, x);
+        from = value::profile_starts(plan, l.plan, i, from, &mut starts);
+        let target = clean::target_at(network, l.network, borders, i);
+        'nodes: for node in 0..nodes {
+            'ticks: for tick in 0..period {
+                let t = Triple { target, node, tick };
+                if tests::is_failing(number, network, plan, l, points, first, next, &starts, t) {
+                    found = refused_at(number, t);
                     break 'borders;
                 }
             }
@@ -147,25 +109,24 @@ pub fn first_failing(
 // find.
 fn check_triples(
     network: &[u8],
-    l: Layout,
     plan: &[u8],
-    pl: PlanLayout,
+    l: Layouts,
     points: &[u16; MOST_ARCS],
     first: &[u16; MOST_NODES],
     next: &[u16; MOST_ARCS],
     borders: &[u16; MOST_NODES],
 ) -> Checking
-    requires { ⌜ Equipped (now network) l (now plan) pl (now points) (now first) (now next) (now borders) ⌝ }
+    requires { ⌜ Equipped (now network) (now plan) l (now points) (now first) (now next) (now borders) ⌝ }
     ensures { λ r. ⌜ r ≡ triplesFrom 4 21 (partitionOf (decode (now (network .entry))))
         (decodePlan (now (plan .entry))) ⌝ }
 {
-    if clean::is_clean(network, l, plan, pl, points, first, next, borders) {
+    if clean::is_clean(network, plan, l, points, first, next, borders) {
         return Checking::Accepted;
     }
     for number in number::CHECK_BORDER..TESTS_END {
-        let found = first_failing(number, network, l, plan, pl, points, first, next, borders);
-        if let Found::At(at) = found {
-            return refused_at(number, at);
+        let found = first_failing(number, network, plan, l, points, first, next, borders);
+        if let Checking::Refused(refusal) = found {
+            return Checking::Refused(refusal);
         }
     }
     Checking::Accepted
@@ -173,28 +134,22 @@ fn check_triples(
 
 // The tests 20 to 24: the lowest number that fails anywhere, then its first place. `borders` lists the border
 // nodes.
-pub fn check_tests(
-    network: &[u8],
-    l: Layout,
-    plan: &[u8],
-    pl: PlanLayout,
-    borders: &[u16; MOST_NODES],
-) -> Checking
-    requires { ⌜ Checkable (now network) l (now plan) pl ⌝ }
+pub fn check_tests(network: &[u8], plan: &[u8], l: Layouts, borders: &[u16; MOST_NODES]) -> Checking
+    requires { ⌜ Checkable (now network) (now plan) l ⌝ }
     requires { ⌜ Listed (partitionOf (decode (now network))) (now borders) ⌝ }
     ensures { λ r. ⌜ r ≡ checked (partitionOf (decode (now (network .entry))))
         (decodePlan (now (plan .entry))) ⌝ }
 {
-    let arc = first_unflagged(network, l, plan, pl);
-    if arc < l.arcs {
+    let arc = first_unflagged(network, plan, l);
+    if arc < l.network.arcs {
         return Checking::Refused(file_refusals::refuse(number::CHECK_INSIDE, arc as u32));
     }
     let mut points = [0u16; MOST_ARCS];
-    times::first_points(network, l, &mut points);
+    times::first_points(network, l.network, &mut points);
     let mut first = [chain::NONE; MOST_NODES];
     let mut next = [chain::NONE; MOST_ARCS];
-    chain::chain(network, l, End::Tail, &mut first, &mut next);
-    check_triples(network, l, plan, pl, &points, &first, &next, borders)
+    chain::chain(network, l.network, End::Tail, &mut first, &mut next);
+    check_triples(network, plan, l, &points, &first, &next, borders)
 }
 
 // The tests for a network that opens and a plan that is well-formed for it.
@@ -204,10 +159,13 @@ fn check_formed(network: &[u8], h: Header, plan: &[u8], k: PlanHeader) -> Checki
     ensures { λ r. ⌜ r ≡ checked (partitionOf (decode (now (network .entry))))
         (decodePlan (now (plan .entry))) ⌝ }
 {
-    let l = h.layout();
+    let l = Layouts {
+        network: h.layout(),
+        plan: k.layout(),
+    };
     let mut borders = [0u16; MOST_NODES];
-    list_borders(network, l, &mut borders);
-    check_tests(network, l, plan, k.layout(), &borders)
+    list_borders(network, l.network, &mut borders);
+    check_tests(network, plan, l, &borders)
 }
 
 // Refusals 11 to 24 for a network that opens.

@@ -4,19 +4,18 @@
 use mathlib.Core.Path.{_≡_}
 use mathlib.Core.List.{List}
 use Prim.Native.Nat.{ℕ}
-use Rattle.network.specs.declared.header.Layout.{Layout}
+use Rattle.plan_tests.specs.declared.tests.Layouts.{Layouts}
 use Rattle.network.specs.Decode.{decode}
 use Rattle.network.specs.Town.{partitionOf}
 use Rattle.search_arcs.specs.Town.{Town}
-use Rattle.plan.specs.declared.header.PlanLayout.{PlanLayout}
 use Rattle.plan.specs.Border.{borderCount}
 use Rattle.plan_values.specs.Formed.{Formed}
 
 -- The plan is one for the network.
-pub record Checkable (network : List ℕ) (l : Layout) (plan : List ℕ) (pl : PlanLayout) : Type 0 where
-  pub town : Town network l
-  pub formed : Formed plan pl
-  pub period : pl .period ≡ l .period
-  pub nodes : pl .nodes ≡ l .nodes
-  pub arcs : pl .arcs ≡ l .arcs
-  pub borders : pl .borders ≡ borderCount (partitionOf (decode network))
+pub record Checkable (network plan : List ℕ) (l : Layouts) : Type 0 where
+  pub town : Town network (l .network)
+  pub formed : Formed plan (l .plan)
+  pub period : l .plan .period ≡ l .network .period
+  pub nodes : l .plan .nodes ≡ l .network .nodes
+  pub arcs : l .plan .arcs ≡ l .network .arcs
+  pub borders : l .plan .borders ≡ borderCount (partitionOf (decode network))

@@ -15,15 +15,19 @@ use Rattle.network.specs.declared.header.Layout.{Layout}
 use Rattle.network.specs.Limits.{mostCells}
 use Rattle.network.specs.Network.{cell, tail}
 use Rattle.network.specs.Decode.{decode}
-use Rattle.network.specs.Town.{partitionOf}
+use Rattle.network.specs.Town.{graphOf}
 use Rattle.search_arcs.specs.Chain.{Chained}
 use Rattle.search_arcs.specs.Town.{Town}
+use Rattle.plan_values.specs.declared.value.Value.{Value}
+use Rattle.plan_tests.specs.declared.tests.Layouts.{Layouts}
+use Rattle.plan_tests.specs.declared.tests.Target.{Target}
+use Rattle.plan_tests.specs.declared.tests.Triple.{Triple}
 use Rattle.plan_tests.specs.declared.tests.Asked.the-variants.{Less, Same, Flagged}
-use Rattle.plan.specs.declared.header.PlanLayout.{PlanLayout}
 use Rattle.plan.specs.Border.{tailCell, headCell, borderAt}
 use Rattle.plan.specs.Plan.{Plan, bit, profile}
-use Rattle.plan.specs.PlanDecode.{flagWord}
+use Rattle.plan.specs.PlanDecode.{decodePlan, flagWord}
 use Rattle.plan_tests.specs.Tests.{fails20, fails23, fails24, fails}
+use Rattle.plan_values.specs.Value.{valueOf}
 use Rattle.plan_values.specs.Compare.{same, isNumber}
 use Rattle.plan_tests.specs.Giving.{Prepared}
 use Rattle.plan_tests.specs.Passing.{anyPasses, less-any, same-any, flagged-any}
@@ -93,14 +97,20 @@ cell-fits t {v} h e =
     omega
     (arith, t .sound .cells-below v (omega (arith, t .sizes .nodes)), t .sizes .cells, t .small .cells-most)
 
--- What a test at border number i rests on: what arcs give can be read, the arcs out of each node are chained,
--- and b is the border.
-pub record AtBorder (network : List ℕ) (l : Layout) (plan : List ℕ) (pl : PlanLayout)
-    (points firsts next starts : List ℕ) (b i : ℕ) : Type 0 where
-  pub prepared : Prepared network l plan pl points i starts
-  pub chained : Chained (tail (decode network)) (l .nodes) (l .arcs) 0 firsts next
-  pub is : b ≡ borderAt (partitionOf (decode network)) i
-  pub node : b < l .nodes
+-- What the tests at a border rest on: what arcs give can be read, and the arcs out of each node are chained.
+pub record AtBorder (network plan : List ℕ) (l : Layouts) (points firsts next starts : List ℕ)
+    (b : Target) : Type 0 where
+  pub prepared : Prepared network plan l points starts b
+  pub chained : Chained (tail (decode network)) (l .network .nodes) (l .network .arcs) 0 firsts next
+
+-- And at a triple, where v is the node's value.
+abbrev pub AtTriple : List ℕ → List ℕ → Layouts → List ℕ → List ℕ → List ℕ → List ℕ → Triple → Value → Type 0
+AtTriple network plan l points firsts next starts t v =
+    AtBorder network plan l points firsts next starts (t .target)
+    × (t .node < l .network .nodes)
+    × (t .tick < l .network .period)
+    × (valueOf v
+    ≡ profile (graphOf (decode network)) (decodePlan plan) (t .target .number) (t .node) (t .tick))
 
 -- the test with each number
 module _ (G : Partition) (p : Plan) (i u x : ℕ) {number : ℕ} {r : Bool} where

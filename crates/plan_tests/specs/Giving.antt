@@ -12,16 +12,17 @@ use lib.Dec.{eqb}
 use Rattle.theory_paths.specs.Graph.{ends}
 use Rattle.theory_paths.specs.Partition.{Partition}
 use Rattle.theory_paths.specs.Profiles.{Travel, plus}
-use Rattle.network.specs.declared.header.Layout.{Layout}
 use Rattle.network.specs.Limits.{mostCells}
-use Rattle.network.specs.Network.{head, start}
+use Rattle.network.specs.Network.{head, cell, start}
 use Rattle.network.specs.Decode.{decode}
 use Rattle.network.specs.Town.{graphOf, partitionOf, travelAt}
 use Rattle.search_arcs.specs.Town.{head-node}
-use Rattle.plan.specs.declared.header.PlanLayout.{PlanLayout}
 use Rattle.plan_values.specs.declared.value.Value.{Value}
+use Rattle.plan_tests.specs.declared.tests.Layouts.{Layouts}
+use Rattle.plan_tests.specs.declared.tests.Target.{Target}
 use Rattle.plan_tests.specs.declared.tests.Asked.{Asked}
 use Rattle.plan_tests.specs.declared.tests.Asked.the-variants.{Less, Same, Flagged}
+use Rattle.plan.specs.Border.{borderAt}
 use Rattle.plan.specs.Plan.{Plan, bit, flag, profile, profileValue}
 use Rattle.plan.specs.PlanDecode.{decodePlan, flagWord}
 use Rattle.plan_values.specs.Compare.{same, less}
@@ -99,41 +100,46 @@ module _ (G : Partition) (p : Plan) (asked : Asked) (i : ℕ) (value : Travel) (
   unfolding offers
   offers-met f g q = rw (← e, f) (rw g at q)
 
--- What every function that reads what arcs give towards border number i rests on: both files, and the tables
--- of the arcs' first points and of the starts of the border's profiles.
-pub record Prepared (network : List ℕ) (l : Layout) (plan : List ℕ) (pl : PlanLayout) (points : List ℕ)
-    (i : ℕ) (starts : List ℕ) : Type 0 where
-  pub check : Checkable network l plan pl
-  pub first : (a : ℕ) → a < l .arcs → getD points a 0 ≡ start (decode network) a
-  pub started : Started plan pl i starts
-  pub border : i < pl .borders
+-- A border of the network by its number: its node and its cell, which has a flag.
+pub record Aimed (network : List ℕ) (b : Target) : Type 0 where
+  pub node : b .node ≡ borderAt (partitionOf (decode network)) (b .number)
+  pub cell : b .cell ≡ cell (decode network) (b .node)
+  pub flag : b .cell < mostCells
 
-module _ {network : List ℕ} {l : Layout} {plan : List ℕ} {pl : PlanLayout} {points : List ℕ} {i : ℕ}
-    {starts : List ℕ}
-    (w : Prepared network l plan pl points i starts) where
+-- What every function that reads what arcs give towards a border rests on: both files, and the tables of the
+-- arcs' first points and of the starts of the border's profiles.
+pub record Prepared (network plan : List ℕ) (l : Layouts) (points starts : List ℕ) (b : Target) : Type 0 where
+  pub check : Checkable network plan l
+  pub first : (a : ℕ) → a < l .network .arcs → getD points a 0 ≡ start (decode network) a
+  pub started : Started plan (l .plan) (b .number) starts
+  pub number : b .number < l .plan .borders
+  pub aimed : Aimed network b
+
+module _ {network plan : List ℕ} {l : Layouts} {points starts : List ℕ} {b : Target}
+    (w : Prepared network plan l points starts b) where
   -- u's profile, by the layout's counts, and as it was read
   pub profile-same : (u x : ℕ)
-      → profileValue (pl .period) (decodePlan plan) (i * pl .nodes + u) x
-      ≡ profile (graphOf (decode network)) (decodePlan plan) i u x
+      → profileValue (l .plan .period) (decodePlan plan) (b .number * l .plan .nodes + u) x
+      ≡ profile (graphOf (decode network)) (decodePlan plan) (b .number) u x
   profile-same u x =
       rw (w .check .period, w .check .town .sizes .period, w .check .nodes, w .check .town .sizes .nodes)
 
   pub profile-is : {v : Value} (u x : ℕ)
-      → Reads v (profileValue (pl .period) (decodePlan plan) (i * pl .nodes + u) x)
-      → valueOf v ≡ profile (graphOf (decode network)) (decodePlan plan) i u x
+      → Reads v (profileValue (l .plan .period) (decodePlan plan) (b .number * l .plan .nodes + u) x)
+      → valueOf v ≡ profile (graphOf (decode network)) (decodePlan plan) (b .number) u x
   profile-is u x r = r .is ∙ profile-same u x
 
-  pub end-reduced : (e : ℕ) {z : ℕ} → z ≡ e % l .period → z < pl .period
+  pub end-reduced : (e : ℕ) {z : ℕ} → z ≡ e % l .network .period → z < l .plan .period
   end-reduced e q = omega (arith, q, mod-lt e (w .check .town .small .period-some), w .check .period)
 
-  module _ {a : ℕ} (h : a < l .arcs) where
+  module _ {a : ℕ} (h : a < l .network .arcs) where
     pub first-point : getD points a 0 ≡ start (decode network) a
     first-point = w .first a h
 
-    pub head-in : {y : ℕ} → y ≡ head (decode network) a → y < pl .nodes
+    pub head-in : {y : ℕ} → y ≡ head (decode network) a → y < l .plan .nodes
     head-in {y} e = omega (arith, head-node (w .check .town) a y h e, w .check .nodes)
 
-    module _ {x e : ℕ} (k : x < l .period) (f : e ≡ ends (graphOf (decode network)) a x) where
+    module _ {x e : ℕ} (k : x < l .network .period) (f : e ≡ ends (graphOf (decode network)) a x) where
       end-is : e ≡ x + travelAt (decode network) a x
       unfolding ends
       end-is =
@@ -143,9 +149,11 @@ module _ {network : List ℕ} {l : Layout} {plan : List ℕ} {pl : PlanLayout} {
       pub end-after : x ≤ e
       end-after = omega (arith, end-is)
 
-      pub giving-is : {y z : ℕ} {v : Value} {t : Travel} → y ≡ head (decode network) a → z ≡ e % l .period
-          → Reads v (profileValue (pl .period) (decodePlan plan) (i * pl .nodes + y) z)
-          → t ≡ plus (e - x) (valueOf v) → t ≡ giving (partitionOf (decode network)) (decodePlan plan) i a x
+      pub giving-is : {y z : ℕ} {v : Value} {t : Travel} → y ≡ head (decode network) a
+          → z ≡ e % l .network .period
+          → Reads v (profileValue (l .plan .period) (decodePlan plan) (b .number * l .plan .nodes + y) z)
+          → t ≡ plus (e - x) (valueOf v)
+          → t ≡ giving (partitionOf (decode network)) (decodePlan plan) (b .number) a x
       giving-is {y} {z} g r s q =
           let d : e - x ≡ travelAt (decode network) a x = omega (arith, end-is) in
           q ∙ rw (d, profile-is y z s, r, g, end-is, w .check .town .sizes .period)

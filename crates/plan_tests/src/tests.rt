@@ -13,8 +13,7 @@ use search_arcs::wide;
 ghost use mathlib.Core.Path.{_≡_};
 ghost use Prim.Native.Nat.{_+_, _*_, _<_};
 ghost use Rattle.network.specs.Decode.{decode};
-ghost use Rattle.network.specs.Town.{graphOf, partitionOf};
-ghost use Rattle.plan.specs.Border.{borderAt};
+ghost use Rattle.network.specs.Town.{partitionOf};
 ghost use Rattle.plan.specs.Plan;
 ghost use Rattle.plan.specs.PlanDecode.{decodePlan, PlanLaid};
 ghost use Rattle.plan_tests.specs.Tests;
@@ -22,11 +21,29 @@ ghost use Rattle.plan_values.specs.Formed.{Formed};
 ghost use Rattle.plan_tests.specs.Checkable.{Checkable};
 ghost use Rattle.plan_values.specs.Value.{valueOf};
 ghost use Rattle.plan_values.specs.Starts.{Started};
-ghost use Rattle.search_arcs.specs.Chain.{Chained};
-ghost use Rattle.network.specs.Network.{tail};
 ghost use Rattle.plan_tests.specs.Giving.{permits, meets, offers, Fit, Prepared};
 ghost use Rattle.plan_tests.specs.Passing.{anyPasses};
-ghost use Rattle.plan_tests.specs.Failing.{offHome, AtBorder};
+ghost use Rattle.plan_tests.specs.Failing.{offHome, AtBorder, AtTriple};
+
+// Where the tables of a network file and of its plan stand.
+pub struct Layouts {
+    pub network: Layout,
+    pub plan: PlanLayout,
+}
+
+// A border, towards which profiles lead: its number, its node and its cell.
+pub struct Target {
+    pub number: usize,
+    pub node: usize,
+    pub cell: usize,
+}
+
+// Where a test is made: at a border, a node and a tick.
+pub struct Triple {
+    pub target: Target,
+    pub node: usize,
+    pub tick: usize,
+}
 
 // What is asked of an arc: that it gives less than a value, gives it, or gives it and has the flag of a cell.
 pub enum Asked {
@@ -35,42 +52,40 @@ pub enum Asked {
     Flagged(usize),
 }
 
-// What an arc gives at tick x towards border number i: its travel, and its head's value at the tick at which
-// it ends.
+// What an arc gives at a triple's tick towards its border: its travel, and its head's value at the tick at
+// which it ends.
 pub fn giving(
     network: &[u8],
-    l: Layout,
     plan: &[u8],
-    pl: PlanLayout,
+    l: Layouts,
     points: &[u16; MOST_ARCS],
     starts: &[u32; MOST_NODES],
-    i: usize,
+    t: Triple,
     arc: usize,
-    x: usize,
 ) -> Value
-    requires { ⌜ Prepared (now network) l (now plan) pl (now points) i (now starts) ⌝ }
-    requires { ⌜ (arc < l .arcs) × (x < l .period) ⌝ }
+    requires { ⌜ Prepared (now network) (now plan) l (now points) (now starts) (t .target) ⌝ }
+    requires { ⌜ (arc < l .network .arcs) × (t .tick < l .network .period) ⌝ }
     ensures { λ r. ⌜ valueOf r ≡ Tests.giving (partitionOf (decode (now (network .entry))))
-        (decodePlan (now (plan .entry))) i arc x ⌝ }
+        (decodePlan (now (plan .entry))) (t .target .number) arc (t .tick) ⌝ }
 {
-    let tick = x as u32;
-    let end = times::ends_at(network, l, points, arc, tick);
-    let head = network::read::head(network, l, arc);
-    let reduced = times::in_period(end, l.period);
-    let value = value::profile_at(plan, pl, starts, i, head, reduced);
+    let tick = t.tick as u32;
+    let end = times::ends_at(network, l.network, points, arc, tick);
+    let head = network::read::head(network, l.network, arc);
+    let reduced = times::in_period(end, l.network.period);
+    let value = value::profile_at(plan, l.plan, starts, t.target.number, head, reduced);
     value::plus(end - tick, value)
 }
 
 // Has an arc the flag that is asked for, if one is?
-fn is_permitted(plan: &[u8], pl: PlanLayout, asked: Asked, arc: usize) -> bool
-    requires { ⌜ PlanLaid (now plan) pl ⌝ }
-    requires { ⌜ (arc < pl .arcs) × Fit asked ⌝ }
+fn is_permitted(plan: &[u8], l: PlanLayout, asked: Asked, arc: usize) -> bool
+    requires { ⌜ PlanLaid (now plan) l ⌝ }
+    requires { ⌜ (arc < l .arcs) × Fit asked ⌝ }
     ensures { λ r. ⌜ r ≡ permits (decodePlan (now (plan .entry))) asked arc ⌝ }
 {
     match asked {
         Asked::Less => true,
         Asked::Same => true,
-        Asked::Flagged(c) => is_set(plan::read::flag_word(plan, pl, arc), c),
+        Asked::Flagged(c) => is_set(plan::read::flag_word(plan, l, arc), c),
     }
 }
 
@@ -85,60 +100,54 @@ fn is_met(asked: Asked, got: Value, value: Value) -> bool
     }
 }
 
-// Does an arc pass, at tick x, against a value?
+// Does an arc pass, at a triple's tick, against a value?
 fn is_passing(
     network: &[u8],
-    l: Layout,
     plan: &[u8],
-    pl: PlanLayout,
+    l: Layouts,
     points: &[u16; MOST_ARCS],
     starts: &[u32; MOST_NODES],
     asked: Asked,
-    i: usize,
+    t: Triple,
     value: Value,
-    x: usize,
     arc: usize,
 ) -> bool
-    requires { ⌜ Prepared (now network) l (now plan) pl (now points) i (now starts) ⌝ }
-    requires { ⌜ (arc < l .arcs) × (x < l .period) × Fit asked ⌝ }
+    requires { ⌜ Prepared (now network) (now plan) l (now points) (now starts) (t .target) ⌝ }
+    requires { ⌜ (arc < l .network .arcs) × (t .tick < l .network .period) × Fit asked ⌝ }
     ensures { λ r. ⌜ r ≡ offers (partitionOf (decode (now (network .entry))))
-        (decodePlan (now (plan .entry))) asked i (valueOf value) x arc ⌝ }
+        (decodePlan (now (plan .entry))) asked (t .target .number) (valueOf value) (t .tick) arc ⌝ }
 {
-    if is_permitted(plan, pl, asked, arc) {
-        let got = giving(network, l, plan, pl, points, starts, i, arc, x);
+    if is_permitted(plan, l.plan, asked, arc) {
+        let got = giving(network, plan, l, points, starts, t, arc);
         return is_met(asked, got, value);
     }
     false
 }
 
-// Does some arc out of u pass, at tick x, against u's value? The arcs out of u are walked by their chain.
+// Does some arc out of a triple's node pass against the node's value? The arcs are walked by their chain.
 fn any_passing(
     network: &[u8],
-    l: Layout,
     plan: &[u8],
-    pl: PlanLayout,
+    l: Layouts,
     points: &[u16; MOST_ARCS],
     first: &[u16; MOST_NODES],
     next: &[u16; MOST_ARCS],
     starts: &[u32; MOST_NODES],
     asked: Asked,
-    i: usize,
-    u: usize,
+    t: Triple,
     value: Value,
-    x: usize,
 ) -> bool
-    requires { ⌜ Prepared (now network) l (now plan) pl (now points) i (now starts) ⌝ }
-    requires { ⌜ Chained (tail (decode (now network))) (l .nodes) (l .arcs) 0 (now first) (now next) ⌝ }
-    requires { ⌜ (u < l .nodes) × (x < l .period) × Fit asked ⌝ }
-    requires { ⌜ valueOf value
-        ≡ Plan.profile (graphOf (decode (now network))) (decodePlan (now plan)) i u x ⌝ }
+    requires { ⌜ AtTriple (now network) (now plan) l (now points) (now first) (now next) (now starts)
+        t value ⌝ }
+    requires { ⌜ Fit asked ⌝ }
     ensures { λ r. ⌜ r ≡ anyPasses (partitionOf (decode (now (network .entry))))
-        (decodePlan (now (plan .entry))) asked i u x ⌝ }
+        (decodePlan (now (plan .entry))) asked (t .target .number) (t .node) (t .tick) ⌝ }
 {
-    let arcs = l.arcs;
+    let arcs = l.network.arcs;
+    let u = t.node;
     let mut a = wide(first[u]);
     while a < arcs {
-        if is_passing(network, l, plan, pl, points, starts, asked, i, value, x, a) {
+        if is_passing(network, plan, l, points, starts, asked, t, value, a) {
             return true;
         }
         a = wide(next[a]);
@@ -147,233 +156,162 @@ fn any_passing(
 }
 
 // 20: do both ends of an arc lie in a cell whose flag it lacks?
-pub fn is_unflagged_inside(
-    network: &[u8],
-    l: Layout,
-    plan: &[u8],
-    pl: PlanLayout,
-    arc: usize,
-) -> bool
-    requires { ⌜ Checkable (now network) l (now plan) pl ⌝ }
-    requires { ⌜ arc < l .arcs ⌝ }
+pub fn is_unflagged_inside(network: &[u8], plan: &[u8], l: Layouts, arc: usize) -> bool
+    requires { ⌜ Checkable (now network) (now plan) l ⌝ }
+    requires { ⌜ arc < l .network .arcs ⌝ }
     ensures { λ r. ⌜ r ≡ Tests.fails20 (partitionOf (decode (now (network .entry))))
         (decodePlan (now (plan .entry))) arc ⌝ }
 {
-    let tail = network::read::tail(network, l, arc);
-    let head = network::read::head(network, l, arc);
-    let cell = network::read::cell(network, l, head);
-    if network::read::cell(network, l, tail) != cell {
+    let tail = network::read::tail(network, l.network, arc);
+    let head = network::read::head(network, l.network, arc);
+    let cell = network::read::cell(network, l.network, head);
+    if network::read::cell(network, l.network, tail) != cell {
         return false;
     }
-    !is_set(plan::read::flag_word(plan, pl, arc), cell)
+    !is_set(plan::read::flag_word(plan, l.plan, arc), cell)
 }
 
-// 21: is u the border, and its value at tick x not 0?
-fn is_off_home(
-    plan: &[u8],
-    pl: PlanLayout,
-    starts: &[u32; MOST_NODES],
-    border: usize,
-    i: usize,
-    u: usize,
-    x: usize,
-) -> bool
-    requires { ⌜ Formed (now plan) pl ⌝ }
-    requires { ⌜ Started (now plan) pl i (now starts) ⌝ }
-    requires { ⌜ (i < pl .borders) × (u < pl .nodes) × (x < pl .period) ⌝ }
-    ensures { λ r. ⌜ r ≡ offHome u border
-        (Plan.profileValue (pl .period) (decodePlan (now (plan .entry))) (i * pl .nodes + u) x) ⌝ }
+// 21: is a triple's node the border, and its value not 0?
+fn is_off_home(plan: &[u8], l: PlanLayout, starts: &[u32; MOST_NODES], t: Triple) -> bool
+    requires { ⌜ Formed (now plan) l ⌝ }
+    requires { ⌜ Started (now plan) l (t .target .number) (now starts) ⌝ }
+    requires { ⌜ (t .target .number < l .borders) × (t .node < l .nodes) × (t .tick < l .period) ⌝ }
+    ensures { λ r. ⌜ r ≡ offHome (t .node) (t .target .node) (Plan.profileValue (l .period)
+        (decodePlan (now (plan .entry))) (t .target .number * l .nodes + t .node) (t .tick)) ⌝ }
 {
-    if u != border {
+    if t.node != t.target.node {
         return false;
     }
-    let value = value::profile_at(plan, pl, starts, i, u, x);
+    let value = value::profile_at(plan, l, starts, t.target.number, t.node, t.tick);
     !value::is_same(value, Value::Ticks(0))
 }
 
-// 23: is u's value a number, u not the border, and no arc gives the value?
+// 23: is a triple's value a number, its node not the border, and no arc gives the value?
 fn is_unattained(
     network: &[u8],
-    l: Layout,
     plan: &[u8],
-    pl: PlanLayout,
+    l: Layouts,
     points: &[u16; MOST_ARCS],
     first: &[u16; MOST_NODES],
     next: &[u16; MOST_ARCS],
     starts: &[u32; MOST_NODES],
-    border: usize,
-    i: usize,
-    u: usize,
+    t: Triple,
     value: Value,
-    x: usize,
 ) -> bool
-    requires { ⌜ Prepared (now network) l (now plan) pl (now points) i (now starts) ⌝ }
-    requires { ⌜ Chained (tail (decode (now network))) (l .nodes) (l .arcs) 0 (now first) (now next) ⌝ }
-    requires { ⌜ (u < l .nodes) × (x < l .period) ⌝ }
-    requires { ⌜ border ≡ borderAt (partitionOf (decode (now network))) i ⌝ }
-    requires { ⌜ valueOf value
-        ≡ Plan.profile (graphOf (decode (now network))) (decodePlan (now plan)) i u x ⌝ }
+    requires { ⌜ AtTriple (now network) (now plan) l (now points) (now first) (now next) (now starts)
+        t value ⌝ }
     ensures { λ r. ⌜ r ≡ Tests.fails23 (partitionOf (decode (now (network .entry))))
-        (decodePlan (now (plan .entry))) i u x ⌝ }
+        (decodePlan (now (plan .entry))) (t .target .number) (t .node) (t .tick) ⌝ }
 {
-    if u == border {
+    if t.node == t.target.node {
         return false;
     }
     if value::is_number(value) {
+        let same = Asked::Same;
         return !any_passing(
             network,
-            l,
             plan,
-            pl,
+            l,
             points,
             first,
             next,
             starts,
-            Asked::Same,
-            i,
-            u,
+            same,
+            t,
             value,
-            x,
         );
     }
     false
 }
 
-// 24: is u's value a number that arcs give, none of them with the flag of the border's cell?
+// 24: is a triple's value a number that arcs give, none of them with the flag of the border's cell?
 fn is_unflagged_toward(
     network: &[u8],
-    l: Layout,
     plan: &[u8],
-    pl: PlanLayout,
+    l: Layouts,
     points: &[u16; MOST_ARCS],
     first: &[u16; MOST_NODES],
     next: &[u16; MOST_ARCS],
     starts: &[u32; MOST_NODES],
-    border: usize,
-    i: usize,
-    u: usize,
+    t: Triple,
     value: Value,
-    x: usize,
 ) -> bool
-    requires { ⌜ Prepared (now network) l (now plan) pl (now points) i (now starts) ⌝ }
-    requires { ⌜ Chained (tail (decode (now network))) (l .nodes) (l .arcs) 0 (now first) (now next) ⌝ }
-    requires { ⌜ (u < l .nodes) × (x < l .period) × (border < l .nodes) ⌝ }
-    requires { ⌜ border ≡ borderAt (partitionOf (decode (now network))) i ⌝ }
-    requires { ⌜ valueOf value
-        ≡ Plan.profile (graphOf (decode (now network))) (decodePlan (now plan)) i u x ⌝ }
+    requires { ⌜ AtTriple (now network) (now plan) l (now points) (now first) (now next) (now starts)
+        t value ⌝ }
     ensures { λ r. ⌜ r ≡ Tests.fails24 (partitionOf (decode (now (network .entry))))
-        (decodePlan (now (plan .entry))) i u x ⌝ }
+        (decodePlan (now (plan .entry))) (t .target .number) (t .node) (t .tick) ⌝ }
 {
     if value::is_number(value) {
+        let same = Asked::Same;
         if any_passing(
             network,
-            l,
             plan,
-            pl,
+            l,
             points,
             first,
             next,
             starts,
-            Asked::Same,
-            i,
-            u,
+            same,
+            t,
             value,
-            x,
         ) {
-            let cell = network::read::cell(network, l, border);
+            let flagged = Asked::Flagged(t.target.cell);
             return !any_passing(
                 network,
-                l,
                 plan,
-                pl,
+                l,
                 points,
                 first,
                 next,
                 starts,
-                Asked::Flagged(cell),
-                i,
-                u,
+                flagged,
+                t,
                 value,
-                x,
             );
         }
     }
     false
 }
 
-// Does the test with this number, 21 to 24, fail at border number i, node u and tick x?
+// Does the test with this number, 21 to 24, fail at a triple?
 pub fn is_failing(
     number: u32,
     network: &[u8],
-    l: Layout,
     plan: &[u8],
-    pl: PlanLayout,
+    l: Layouts,
     points: &[u16; MOST_ARCS],
     first: &[u16; MOST_NODES],
     next: &[u16; MOST_ARCS],
     starts: &[u32; MOST_NODES],
-    border: usize,
-    i: usize,
-    u: usize,
-    x: usize,
+    t: Triple,
 ) -> bool
-    requires { ⌜ AtBorder (now network) l (now plan) pl (now points) (now first) (now next) (now starts)
-        border i ⌝ }
-    requires { ⌜ (u < l .nodes) × (x < l .period) ⌝ }
+    requires { ⌜ AtBorder (now network) (now plan) l (now points) (now first) (now next) (now starts)
+        (t .target) ⌝ }
+    requires { ⌜ (t .node < l .network .nodes) × (t .tick < l .network .period) ⌝ }
     ensures { λ r. ⌜ r ≡ Tests.fails number (partitionOf (decode (now (network .entry))))
-        (decodePlan (now (plan .entry))) i u x ⌝ }
+        (decodePlan (now (plan .entry))) (t .target .number) (t .node) (t .tick) ⌝ }
 {
     if number == number::CHECK_BORDER {
-        return is_off_home(plan, pl, starts, border, i, u, x);
+        return is_off_home(plan, l.plan, starts, t);
     }
-    let value = value::profile_at(plan, pl, starts, i, u, x);
+    let value = value::profile_at(plan, l.plan, starts, t.target.number, t.node, t.tick);
     if number == number::CHECK_LESS {
+        let less = Asked::Less;
         return any_passing(
             network,
-            l,
             plan,
-            pl,
+            l,
             points,
             first,
             next,
             starts,
-            Asked::Less,
-            i,
-            u,
+            less,
+            t,
             value,
-            x,
         );
     }
     if number == number::CHECK_NO_ROAD {
-        return is_unattained(
-            network,
-            l,
-            plan,
-            pl,
-            points,
-            first,
-            next,
-            starts,
-            border,
-            i,
-            u,
-            value,
-            x,
-        );
+        return is_unattained(network, plan, l, points, first, next, starts, t, value);
     }
-    is_unflagged_toward(
-        network,
-        l,
-        plan,
-        pl,
-        points,
-        first,
-        next,
-        starts,
-        border,
-        i,
-        u,
-        value,
-        x,
-    )
+    is_unflagged_toward(network, plan, l, points, first, next, starts, t, value)
 }

@@ -1,15 +1,15 @@
 -- Whether the ticks of a profile keep rule 19, yes or no: what holds of the points seen (`Rising`), what
 -- points that stand side by side add to it, and that a profile whose points are all seen has no bad tick. The
 -- laws are in the shape of the code's needs.
-use mathlib.Core.Path.{_≡_, refl, sym, _∙_, ap}
+use mathlib.Core.Path.{_≡_, sym, _∙_, ap}
 use mathlib.Core.Bool.{true, false}
 use mathlib.Core.List.{List}
 use Prim.Native.Nat.{ℕ, suc, _+_, _-_, _*_, _/_, _%_, _^_, _≤_, _<_, min}
-use native.Mathlib.Nat.{add-assoc, le-of-lt}
+use native.Mathlib.Nat.{add-zero, add-assoc, le-of-lt}
 use native.Mathlib.Decide.{decLt}
 use native.Mathlib.Omega.{arith}
 use lib.ListN.{length}
-use lib.Dec.{ltb, lit<}
+use lib.Dec.{ltb}
 use borrow.Author.Tests.{le-ltb, ltb-true}
 use Rattle.theory_loops.specs.First.{first, all-clear, none-yet}
 use Rattle.theory_loops.specs.Parts.{Beside, Ran, Running, part-one}
@@ -19,12 +19,12 @@ use Rattle.theory_travel.specs.Ticks.{badTick, ticks-day}
 use Rattle.theory_travel.specs.Table.{entryAt, entry-first}
 use Rattle.file_fields.specs.Fields.{le16}
 use Rattle.file_blocks.specs.Kind.{profilePointPer, profilePointSize}
-use Rattle.file_blocks.specs.Place.{offset, offset-on}
+use Rattle.file_blocks.specs.Place.{offset, beside-at, beside-room}
 use Rattle.file_blocks.specs.declared.cursor.Cursor.{Cursor}
 use Rattle.plan.specs.declared.header.PlanLayout.{PlanLayout}
 use Rattle.plan_validate.specs.declared.rising.Rise.{Rise}
 use Rattle.plan.specs.Plan.{Plan}
-use Rattle.plan.specs.PlanDecode.{decodePlan, pointTick, PlanLaid, point-in, tick-is}
+use Rattle.plan.specs.PlanDecode.{decodePlan, pointTick, PlanLaid, points-stored, point-in, tick-is}
 use Rattle.file_blocks.specs.Cursor.{cursorAt}
 use Rattle.plan_validate.specs.PlanScan.{Scanned}
 
@@ -96,7 +96,7 @@ module _ {file : List ℕ} {l : PlanLayout} (s : PlanLaid file l) (from m : ℕ)
   seen-near done h =
       let g : from + done < l .points = omega arith in
       let e = point-in s g in
-      (e .pos, e .fit, omega (arith, e .near))
+      (e .pos, e .fit, e .near)
 
   -- k points more, as many as stand side by side
   module _ (done k base : ℕ) (h : done < m)
@@ -105,25 +105,17 @@ module _ {file : List ℕ} {l : PlanLayout} (s : PlanLaid file l) (from m : ℕ)
     there : (i : ℕ) → i < k
         → base + profilePointSize * i
         ≡ offset (l .pointblock) profilePointPer profilePointSize (from + done + i)
-    there i g =
-        let q : base + profilePointSize * i
-        ≡ offset (l .pointblock) profilePointPer profilePointSize (from + done) + profilePointSize * i =
-        rw f in
-        q
-        ∙ sym
-        (offset-on (l .pointblock) profilePointPer profilePointSize (lit< tt) (from + done) i (omega arith))
+    there = beside-at (points-stored s) (from + done) (omega arith) (omega arith) f
 
     pub seen-room : base + profilePointSize * k ≤ length file
-    seen-room =
-        let g : from + done + (k - 1) < l .points = omega arith in
-        omega (arith, there (k - 1) (omega arith), point-in s g .room)
+    seen-room = beside-room (points-stored s) (from + done) (omega arith) (omega arith) f (omega arith)
 
     beside : Beside profilePointSize (tickAt file) (entryAt (decodePlan file .ticks) from) base done k
     unfolding entryAt
     beside = record {
       entry = λ i g.
           let o : from + done + i < l .points = omega arith in
-          rw (← add-assoc, there i g) (sym (tick-is s o refl));
+          rw (← add-assoc, there i g) (sym (tick-is s o (rw add-zero)));
     }
 
     pub seen-more : (old new : Rise) → Seen (decodePlan file) from m done old

@@ -2,6 +2,7 @@
 // fault found as the first in its order. Nothing is copied, and every call ends at the first refusal.
 use crate::rules::judge_plan;
 use file_blocks::form::first_unformed;
+use file_blocks::form::is_bad_length;
 use file_blocks::form::is_formed;
 use file_blocks::kind;
 use file_blocks::reader::first_bad_sum;
@@ -31,24 +32,11 @@ ghost use Rattle.plan.specs.Border.{borderCount};
 ghost use Rattle.plan.specs.PlanHeader.{planHeaderAt, PlanWithin};
 ghost use Rattle.plan.specs.PlanDecode.{decodePlan, PlanLaid};
 ghost use Rattle.plan.specs.PlanRules.{judgedFlags, judgedBy};
-ghost use Rattle.plan.specs.PlanValidate.{badPlanLength, firstFormed, matching, firstUnformed, plannedRules};
+ghost use Rattle.plan.specs.PlanValidate.{firstFormed, matching, firstUnformed, plannedRules};
 ghost use Rattle.plan.specs.PlanValidate.{plannedForm, plannedLength, plannedHeader, plannedFirst, planned};
 
 // The byte after the header's entry, whose block has a head of 8 bytes.
 const HEADER_END: usize = 8 + kind::PLAN_SIZE;
-
-// Refusal 11.
-fn is_bad_length(long: usize) -> bool
-    ensures { λ r. ⌜ r ≡ badPlanLength long ⌝ }
-{
-    if long == 0 {
-        return true;
-    }
-    if long % BLOCK != 0 {
-        return true;
-    }
-    limits::MOST_BYTES < long
-}
 
 // The numbers of the first block.
 fn header_at(plan: &[u8]) -> PlanHeader
@@ -103,11 +91,11 @@ fn is_matching(h: Header, borders: usize, k: PlanHeader) -> bool
 // The first block after the header that is out of its form, or the count of blocks.
 fn first_bad_form(plan: &[u8], l: PlanLayout) -> usize
     requires { ⌜ PlanLaid (now plan) l ⌝ }
-    ensures { λ r. ⌜ r ≡ firstUnformed (now (plan .entry)) l ⌝ }
+    ensures { λ r. ⌜ r ≡ firstUnformed (now (plan .entry)) (planHeaderAt (now (plan .entry))) ⌝ }
 {
     let i = first_unformed(plan, 1, kind::FLAG, kind::FLAG_PER, kind::FLAG_SIZE, l.arcs);
-    if 1 + i < l.countblock {
-        return 1 + i;
+    if i < l.countblock {
+        return i;
     }
     let j = first_unformed(
         plan,
@@ -117,18 +105,17 @@ fn first_bad_form(plan: &[u8], l: PlanLayout) -> usize
         kind::COUNT_SIZE,
         l.profiles,
     );
-    if l.countblock + j < l.pointblock {
-        return l.countblock + j;
+    if j < l.pointblock {
+        return j;
     }
-    l.pointblock
-        + first_unformed(
-            plan,
-            l.pointblock,
-            kind::PROFILE_POINT,
-            kind::PROFILE_POINT_PER,
-            kind::PROFILE_POINT_SIZE,
-            l.points,
-        )
+    first_unformed(
+        plan,
+        l.pointblock,
+        kind::PROFILE_POINT,
+        kind::PROFILE_POINT_PER,
+        kind::PROFILE_POINT_SIZE,
+        l.points,
+    )
 }
 
 // Refusals 17 to 19.
@@ -213,7 +200,7 @@ pub fn validate_plan(network: &[u8], h: Header, l: Layout, plan: &[u8]) -> Plann
     requires { ⌜ l ≡ layoutOf h ⌝ }
     ensures { λ r. ⌜ r ≡ planned h (decode (now (network .entry))) (now (plan .entry)) ⌝ }
 {
-    if is_bad_length(plan.len()) {
+    if is_bad_length(plan.len(), limits::MOST_BYTES) {
         return refused(number::PLAN_LENGTH, 0);
     }
     let b = first_bad_sum(plan);

@@ -23,7 +23,7 @@ use Rattle.search_labels.specs.Settle.{Search, Nearest, start, settle, n
 use Rattle.search_labels.specs.Frontier.{Held, Frontier, unknown}
 use Rattle.search_labels.specs.Nearest.{Picked}
 use Rattle.search_arcs.specs.Town.{Town, lastTick}
-use Rattle.search_labels.specs.Ready.{Leaving, Early, leaving}
+use Rattle.search_labels.specs.Ready.{Ready, Leaving, Early, leaving}
 
 -- The labels are exact up to the target's.
 pub record Reached (g : Graph) (p : Permit) (s t : ℕ) (L : List ℕ) : Type 0 where
@@ -140,21 +140,15 @@ module _ {g : Graph} {p : Permit} {s x : ℕ} where
           let s = settle (d .ok) (d .bounded) (d .node) (small d) (c .kept) o known (k .nearest) in
           record { left = d; kept = s (w .relaxed) (w .moved); front = w .front }
 
--- the labels are as many as the nodes
-pub search-size : {file : List ℕ} {l : Layout} {p : Permit} {s x : ℕ} {L F : List ℕ} {n : ℕ} → Town file l
-    → Searching (graphOf (decode file)) p s x L F n → length L ≡ l .nodes
-search-size t c = c .kept .size ∙ sym (t .sizes .nodes)
+-- the labels are as many as the nodes, and as they were
+module _ {file mask starts L F : List ℕ} {l : Layout} {p : Permit} {s x n : ℕ} (w : Ready file l mask starts)
+    (c : Searching (graphOf (decode file)) p s x L F n) where
+  pub search-size : length L ≡ l .nodes
+  search-size = c .kept .size ∙ sym (w .town .sizes .nodes)
+
+  pub search-same : {old : List ℕ} → Started (l .nodes) s x old → length L ≡ length old
+  search-same a = search-size ∙ sym (a .size)
 
 -- for `search turns` at the needs of the loop
-pub ruleset turns = (search-start, search-source, search-dry, search-stop, search-size, turn-early, turn)
-
--- FOR `reach`: the same said of the source's own label
-module _ {m s x : ℕ} {L : List ℕ} (a : Started m s x L) where
-  pub started-own : {n : ℕ} → m ≡ n → Started n s (label L s) L
-  started-own e = rw (← e, a .source) a
-
-  pub started-below : {y : ℕ} → x < y → label L s < y
-  started-below h = rw (a .source) h
-
-  pub started-kept : {y : ℕ} → y ≡ label L s → y ≡ x
-  started-kept e = e ∙ a .source
+pub ruleset turns =
+    (search-start, search-source, search-dry, search-stop, search-size, search-same, turn-early, turn)

@@ -2,6 +2,7 @@
 // is settled, and the permitted arcs out of it are relaxed, again and again, until it is the target or the
 // frontier is empty.
 use crate::frontier;
+use crate::query::Query;
 use network::header::Layout;
 use network::limits::MOST_ARCS;
 use network::limits::MOST_NODES;
@@ -102,14 +103,15 @@ fn settle(
 }
 
 // The source's label is the departure, and no other node has one.
-fn start(labels: &mut [u32], source: usize, departure: u32)
-    requires { ⌜ source < length (now labels) ⌝ }
-    ensures { λ _. ⌜ Started (length (now (labels .entry))) source departure (now (labels .exit)) ⌝ }
+fn start(labels: &mut [u32], q: Query)
+    requires { ⌜ q .source < length (now labels) ⌝ }
+    ensures { λ _. ⌜ Started (length (now (labels .entry))) (q .source) (q .departure)
+        (now (labels .exit)) ⌝ }
 {
     for v in 0..labels.len() {
         labels[v] = NEVER;
     }
-    labels[source] = departure;
+    labels[q.source as usize] = q.departure;
 }
 
 // Settles the nearest node, again and again, until it is the target or the frontier is empty.
@@ -120,24 +122,23 @@ fn settle_all(
     starts: &[u16; MOST_ARCS],
     first: &[u16; MOST_NODES],
     next: &[u16; MOST_ARCS],
-    source: usize,
-    target: usize,
+    q: Query,
     labels: &mut [u32],
 )
     requires { ⌜ Ready (now file) l (now mask) (now starts) ⌝ }
     requires { ⌜ Chained (tail (decode (now file))) (l .nodes) (l .arcs) 0 (now first) (now next) ⌝ }
-    requires { ⌜ (source < l .nodes) × (label (now labels) source < l .period) ⌝ }
-    requires { ⌜ Started (l .nodes) source (label (now labels) source) (now labels) ⌝ }
+    requires { ⌜ (q .source < l .nodes) × (q .departure < l .period) ⌝ }
+    requires { ⌜ Started (l .nodes) (q .source) (q .departure) (now labels) ⌝ }
     ensures { λ _. ⌜ Reached (graphOf (decode (now (file .entry))))
-        (permitOf (now (mask .entry))) source target (now (labels .exit)) ×
-        (label (now (labels .exit)) source ≡ label (now (labels .entry)) source) ⌝ }
+        (permitOf (now (mask .entry))) (q .source) (q .target) (now (labels .exit)) ×
+        (label (now (labels .exit)) (q .source) ≡ q .departure) ⌝ }
 {
     let mut frontier = [0u16; MOST_NODES];
-    frontier[0] = source as u16;
+    frontier[0] = q.source as u16;
     let mut size = 1;
     while 0 < size {
         let i = frontier::nearest(labels, &frontier, size);
-        if wide(frontier[i]) == target {
+        if wide(frontier[i]) == q.target as usize {
             return;
         }
         size = settle(
@@ -161,20 +162,18 @@ pub fn reach(
     l: Layout,
     mask: &[u8],
     starts: &[u16; MOST_ARCS],
-    source: usize,
-    target: usize,
-    departure: u32,
+    q: Query,
     labels: &mut [u32],
 )
     requires { ⌜ Ready (now file) l (now mask) (now starts) ⌝ }
-    requires { ⌜ (source < l .nodes) × (departure < l .period) × (length (now labels) ≡ l .nodes) ⌝ }
+    requires { ⌜ (q .source < l .nodes) × (q .departure < l .period) × (length (now labels) ≡ l .nodes) ⌝ }
     ensures { λ _. ⌜ Reached (graphOf (decode (now (file .entry))))
-        (permitOf (now (mask .entry))) source target (now (labels .exit)) ×
-        (label (now (labels .exit)) source ≡ departure) ⌝ }
+        (permitOf (now (mask .entry))) (q .source) (q .target) (now (labels .exit)) ×
+        (label (now (labels .exit)) (q .source) ≡ q .departure) ⌝ }
 {
     let mut first = [chain::NONE; MOST_NODES];
     let mut next = [chain::NONE; MOST_ARCS];
     chain::chain(file, l, End::Tail, &mut first, &mut next);
-    start(labels, source, departure);
-    settle_all(file, l, mask, starts, &first, &next, source, target, labels);
+    start(labels, q);
+    settle_all(file, l, mask, starts, &first, &next, q, labels);
 }

@@ -18,12 +18,13 @@ use Rattle.theory_paths.specs.Labels.{label, label-at, labels, labels-exact, la
 use Rattle.search_path.specs.Trim.{shown, target-same, shown-same}
 use Rattle.theory_paths.specs.Chosen.{chosen, chosen-same}
 use Rattle.search_arcs.specs.Town.{Town}
-use Rattle.search_labels.specs.Ready.{Leaving, leaving, permitOf}
+use Rattle.search_labels.specs.Ready.{Ready, Leaving, leaving, permitOf}
 use Rattle.network.specs.declared.header.Layout.{Layout}
 use Rattle.network.specs.Decode.{decode}
 use Rattle.network.specs.Town.{graphOf}
+use Rattle.search_labels.specs.declared.query.Query.{Query}
 use Rattle.search_labels.specs.Reach.{Reached, small}
-use Rattle.search_path.specs.Path.{Listed}
+use Rattle.search_path.specs.Path.{Found, Listed}
 use Rattle.search_path.specs.Answer.{Answered, Told, entryOf}
 use Rattle.file_refusals.specs.declared.Refusal.{Refusal}
 use Rattle.file_refusals.specs.Refusal.{refusal}
@@ -74,16 +75,21 @@ answered-front g p s x t n old part roads₀ roads r e l a =
       told = a .told;
     }
 
--- FOR `tell`: the target has a place among the labels, and its label is known where it is not never
+-- FOR `tell`: the target has a place among the labels, and a path where its label is not never
 pub in-labels : {file L : List ℕ} {l : Layout} {p : Permit} {s t : ℕ} → Town file l
     → Reached (graphOf (decode file)) p s t L
     → t < l .nodes → t < length L
 in-labels w r h = omega (arith, r .size, w .sizes .nodes)
 
-pub read-known : {file L : List ℕ} {l : Layout} {p : Permit} {s t : ℕ} → Town file l
-    → Reached (graphOf (decode file)) p s t L
-    → t < l .nodes → getD L t 0 ≢ never → label L t < never
-read-known {L = L} {t = t} w r h ne = let e = label-at L t (in-labels w r h) in omega (arith, r .capped t)
+pub found : {file L mask starts : List ℕ} {l : Layout} {q : Query} → Ready file l mask starts
+    → Reached (graphOf (decode file)) (permitOf mask) (q .source) (q .target) L
+    → q .target < l .nodes → getD L (q .target) 0 ≢ never → Found file l mask starts q L
+found {L = L} {q = q} w r h ne = record {
+  ready = w;
+  reached = r;
+  node = h;
+  known = let e = label-at L (q .target) (in-labels (w .town) r h) in omega (arith, r .capped (q .target));
+}
 
 -- where nothing is written, it does not matter what
 nothing-filled : (f h : ℕ → ℕ) {old new : List ℕ} → Filled 0 0 f old new → Filled 0 0 h old new
@@ -179,4 +185,4 @@ answered mask w a b c k r h f =
     }
 
 -- for `search tells` at the needs of `tell`
-pub ruleset tells = (told-none, told-short, told-way, read-known, in-labels)
+pub ruleset tells = (told-none, told-short, told-way, found, in-labels)

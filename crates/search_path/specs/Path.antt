@@ -6,14 +6,14 @@ use mathlib.Core.Logic.{_≢_}
 use mathlib.Core.Bool.{cond}
 use mathlib.Core.List.{List}
 use Prim.Native.Nat.{ℕ, _+_, _-_, _*_, _≤_, _<_}
-use native.Mathlib.Nat.{le-refl, sub-zero}
+use native.Mathlib.Nat.{le-refl}
 use native.Mathlib.Omega.{arith}
 use mir.Val.{Fits}
 use mir.Syntax.{w16, w64}
 use lib.ListN.{length, set}
 use lib.Dec.{ltb}
 use borrow.Author.Tests.{lt-ltb, le-ltb}
-use Rattle.theory_loops.specs.Fill.{Filled, fill-none, fill-down, fill-start}
+use Rattle.theory_loops.specs.Fill.{Filled, fill-none, fill-back}
 use Rattle.theory_paths.specs.Earliest.{never}
 use Rattle.theory_paths.specs.Labels.{label}
 use Rattle.theory_paths.specs.Chosen.{chosen, chosen-path, arcInto, Known}
@@ -23,14 +23,22 @@ use Rattle.network.specs.Network.{tail}
 use Rattle.network.specs.Decode.{decode}
 use Rattle.network.specs.Town.{graphOf}
 use Rattle.search_path.specs.Answer.{entryOf}
+use Rattle.search_labels.specs.declared.query.Query.{Query}
 use Rattle.search_labels.specs.Ready.{Ready, permitOf}
 use Rattle.search_arcs.specs.Town.{lawful}
 use Rattle.search_labels.specs.Reach.{Reached}
 use Rattle.search_path.specs.Back.{Walk, Onward, walk-start, walk-on, walk-end}
 
 -- The path that is counted and written.
-abbrev pub chosenIn : List ℕ → List ℕ → ℕ → ℕ → List ℕ → List ℕ
-chosenIn file mask s t L = chosen (graphOf (decode file)) (permitOf mask) s L t
+abbrev pub chosenIn : List ℕ → List ℕ → Query → List ℕ → List ℕ
+chosenIn file mask q L = chosen (graphOf (decode file)) (permitOf mask) (q .source) L (q .target)
+
+-- What it is read from: a town, the labels that a search of it left, and a target that has one.
+pub record Found (file : List ℕ) (l : Layout) (mask starts : List ℕ) (q : Query) (L : List ℕ) : Type 0 where
+  pub ready : Ready file l mask starts
+  pub reached : Reached (graphOf (decode file)) (permitOf mask) (q .source) (q .target) L
+  pub node : q .target < l .nodes
+  pub known : label L (q .target) < never
 
 -- How many of `count` entries are written where there is room for `room`: all, or none.
 abbrev pub fitting : ℕ → ℕ → ℕ
@@ -51,140 +59,120 @@ pub listed-way : (w roads₀ roads : List ℕ) (count : ℕ) → count ≡ lengt
 listed-way w roads₀ roads count e l f = record { total = e; writes = rw (le-ltb (length roads₀) count l) f }
 
 -- Going back along the path: it stands at v, n arcs before the path's end.
-pub record Backing (file : List ℕ) (l : Layout) (mask starts : List ℕ) (s t : ℕ) (L : List ℕ) (v n : ℕ)
+abbrev pub Backing : List ℕ → List ℕ → Query → List ℕ → ℕ → ℕ → Type 0
+Backing file mask q L v n =
+    Walk (graphOf (decode file)) (permitOf mask) (q .source) L (label L (q .target)) (q .target) v n
+
+-- Writing it: it stands at v, and the list holds the path from its place n on.
+pub record Writing (file mask : List ℕ) (q : Query) (L : List ℕ) (count v n : ℕ) (old new : List ℕ)
     : Type 0 where
-  pub ready : Ready file l mask starts
-  pub reached : Reached (graphOf (decode file)) (permitOf mask) s t L
-  pub known : Known (graphOf (decode file)) L (label L t) t
-  pub walk : Walk (graphOf (decode file)) (permitOf mask) s L (label L t) t v n
-
--- Writing it: the list holds the path's last n arcs.
-pub record Writing (file : List ℕ) (l : Layout) (mask starts : List ℕ) (s t : ℕ) (L : List ℕ) (count v n : ℕ)
-    (old new : List ℕ) : Type 0 where
-  pub back : Backing file l mask starts s t L v n
-  pub total : count ≡ length (chosenIn file mask s t L)
-  pub room : count ≤ length old
+  pub back : Backing file mask q L v (count - n)
   pub within : n ≤ count
-  pub written : Filled (count - n) count (entryOf (chosenIn file mask s t L)) old new
+  pub written : Filled n count (entryOf (chosenIn file mask q L)) old new
 
-module _ {file : List ℕ} {l : Layout} {mask starts : List ℕ} {s t : ℕ} {L : List ℕ} where
-  pub back-start : Ready file l mask starts → Reached (graphOf (decode file)) (permitOf mask) s t L
-      → t < l .nodes → label L t < never
-      → Backing file l mask starts s t L t 0
-  back-start w r h m =
-      let k : Known (graphOf (decode file)) L (label L t) t =
-      record { node = omega (arith, w .town .sizes .nodes); upto = le-refl _; known = m } in
-      record { ready = w; reached = r; known = k; walk = walk-start (lawful (w .town)) L (r .exact) k }
+module _ {file : List ℕ} {l : Layout} {mask starts : List ℕ} {q : Query} {L : List ℕ}
+    (f : Found file l mask starts q L) where
+  target-known : Known (graphOf (decode file)) L (label L (q .target)) (q .target)
+  target-known = record {
+    node = omega (arith, f .node, f .ready .town .sizes .nodes);
+    upto = le-refl _;
+    known = f .known;
+  }
 
-  module _ {v n : ℕ} (b : Backing file l mask starts s t L v n) where
-    pub back-end : v ≡ s → n ≡ length (chosenIn file mask s t L)
-    back-end e = sym (walk-end (lawful (b .ready .town)) L (b .reached .exact) (b .walk) e)
+  pub back-start : Backing file mask q L (q .target) 0
+  back-start = walk-start (lawful (f .ready .town)) L (f .reached .exact) target-known
+
+  pub back-size : length L ≡ l .nodes
+  back-size = f .reached .size ∙ sym (f .ready .town .sizes .nodes)
+
+  module _ {v n : ℕ} (b : Backing file mask q L v n) where
+    pub back-end : v ≡ q .source → n ≡ length (chosenIn file mask q L)
+    back-end e = sym (walk-end (lawful (f .ready .town)) L (f .reached .exact) b e)
 
     pub back-node : v < l .nodes
-    back-node = omega (arith, b .walk .known .node, b .ready .town .sizes .nodes)
-
-    pub back-size : length L ≡ l .nodes
-    back-size = b .reached .size ∙ sym (b .ready .town .sizes .nodes)
+    back-node = omega (arith, b .known .node, f .ready .town .sizes .nodes)
 
     -- one arc further back
-    module _ (ne : v ≢ s) (a : ℕ) (e : a ≡ arcInto (graphOf (decode file)) (permitOf mask) L v) where
-      onward : Onward (graphOf (decode file)) (permitOf mask) s L (label L t) t n a
-      onward = walk-on (lawful (b .ready .town)) L (b .reached .exact) (b .known) (b .walk) ne a e
+    module _ (ne : v ≢ q .source) (a : ℕ) (e : a ≡ arcInto (graphOf (decode file)) (permitOf mask) L v) where
+      onward : Onward (graphOf (decode file))
+          (permitOf mask) (q .source) L (label L (q .target)) (q .target) n a
+      onward = walk-on (lawful (f .ready .town)) L (f .reached .exact) target-known b ne a e
 
       pub back-listed : a < l .arcs
-      back-listed = omega (arith, onward .listed, b .ready .town .sizes .arcs)
+      back-listed = omega (arith, onward .listed, f .ready .town .sizes .arcs)
+
+      pub arc-fits : Fits w16 a
+      arc-fits = omega (arith, back-listed, f .ready .town .small .arcs-most)
 
       few : n + 1 < l .nodes
-      few = omega (arith, onward .few, b .ready .town .sizes .nodes)
+      few = omega (arith, onward .few, f .ready .town .sizes .nodes)
 
       pub count-fits : Fits w64 (n + 1)
-      count-fits = omega (arith, few, b .ready .town .small .nodes-most)
+      count-fits = omega (arith, few, f .ready .town .small .nodes-most)
 
       pub back-less : l .nodes - (n + 1) < l .nodes - n
       back-less = omega (arith, few)
 
-      pub back-more : (u : ℕ) → u ≡ tail (decode file) a → Backing file l mask starts s t L u (n + 1)
-      back-more u q =
-          record { ready = b .ready; reached = b .reached; known = b .known; walk = rw q (onward .next) }
+      pub back-more : (u : ℕ) → u ≡ tail (decode file) a → Backing file mask q L u (n + 1)
+      back-more u e = rw e (onward .next)
 
-  pub write-start : (count : ℕ) (old : List ℕ) → Backing file l mask starts s t L t 0
-      → count ≡ length (chosenIn file mask s t L) → count ≤ length old
-      → Writing file l mask starts s t L count t 0 old old
-  write-start count old b q h =
-      record {
-        back = b;
-        total = q;
-        room = h;
-        within = omega arith;
-        written = rw (sub-zero count) (fill-none _ old count);
-      }
+  module _ {m : ℕ} {old : List ℕ} (e : m ≡ length (chosenIn file mask q L)) (h : m ≤ length old) where
+    pub write-start : Writing file mask q L m (q .target) m old old
+    write-start = record {
+      back = let z : m - m ≡ 0 = omega arith in rw z back-start;
+      within = le-refl m;
+      written = fill-none _ old m;
+    }
 
-  module _ {count v n : ℕ} {old new : List ℕ} (k : Writing file l mask starts s t L count v n old new) where
-    pub write-end : count ≤ n → Filled 0 count (entryOf (chosenIn file mask s t L)) old new
-    write-end h = fill-start _ old 0 (count - n) count new (k .written) (omega arith) (omega arith)
+    module _ {v n : ℕ} {new : List ℕ} (k : Writing file mask q L m v n old new) where
+      pub write-end : v ≡ q .source → Filled 0 m (entryOf (chosenIn file mask q L)) old new
+      write-end o = let z : n ≡ 0 = omega (arith, back-end (k .back) o, k .within) in rw z at (k .written)
 
-    pub write-node : v < l .nodes
-    write-node = back-node (k .back)
+      module _ (b : v ≢ q .source) (a : ℕ) (o : a ≡ arcInto (graphOf (decode file)) (permitOf mask) L v) where
+        pub write-some : 1 ≤ n
+        write-some = omega (arith, onward (k .back) b a o .more, k .within)
 
-    pub write-size : length L ≡ l .nodes
-    write-size = back-size (k .back)
+        pub write-less : n - 1 < n
+        write-less = omega (arith, write-some)
 
-    -- the list has room, and the path is short
-    write-room : (count ≤ length new) × (count < mostNodes)
-    write-room =
-        let b = k .back in
-        let c = chosen-path (lawful (b .ready .town)) L (b .reached .exact) (b .known) in (
-          omega (arith, k .room, k .written .long),
-          omega (
-            arith,
-            c .short,
-            k .total,
-            b .known .node,
-            b .ready .town .sizes .nodes,
-            b .ready .town .small .nodes-most,
-          ),
-        )
+        pub write-place : n - 1 < length new
+        write-place = omega (arith, write-some, k .within, k .written .long)
 
-    module _ (h : n < count) where
-      pub write-place : count - 1 - n < length new
-      write-place = omega (arith, write-room)
-
-      pub write-scaled : Fits w64 ((count - 1 - n) * 2)
-      write-scaled = omega (arith, write-room)
-
-      -- it is not at the path's start yet
-      ahead : v ≢ s
-      ahead e = omega (arith, back-end (k .back) e, k .total)
-
-      module _ (a : ℕ) (e : a ≡ arcInto (graphOf (decode file)) (permitOf mask) L v) where
-        pub write-listed : a < l .arcs
-        write-listed = back-listed (k .back) ahead a e
-
-        pub write-fits : Fits w16 a
-        write-fits = omega (arith, write-listed, k .back .ready .town .small .arcs-most)
+        pub write-scaled : Fits w64 ((n - 1) * 2)
+        write-scaled =
+            let t = f .ready .town in
+            let c = chosen-path (lawful t) L (f .reached .exact) target-known in
+            omega (arith, c .short, target-known .node, t .sizes .nodes, t .small .nodes-most, k .within)
 
         pub write-more : (u : ℕ) → u ≡ tail (decode file) a
-            → Writing file l mask starts s t L count u (n + 1) old (set new (count - 1 - n) a)
-        write-more u q =
-            let o = onward (k .back) ahead a e in
-            let w = chosenIn file mask s t L in
-            let i : count - n ≡ count - 1 - n + 1 = omega arith in
-            let j : length w - (n + 1) ≡ count - 1 - n = omega (arith, k .total) in
-            let p : count - (n + 1) ≡ count - 1 - n = omega arith in
+            → Writing file mask q L m u (n - 1) old (set new (n - 1) a)
+        write-more u p =
+            let s = write-some in
+            let w = chosenIn file mask q L in
+            let i : length w - (m - n + 1) ≡ n - 1 = omega (arith, k .within) in
+            let j : m - (n - 1) ≡ m - n + 1 = omega (arith, k .within) in
             record {
-              back = back-more (k .back) ahead a e u q;
-              total = k .total;
-              room = k .room;
-              within = omega arith;
-              written = rw p
-                  (fill-down (entryOf w) old (count - 1 - n) count a new (rw i at (k .written)) (omega arith)
-                  (omega (arith, k .room))
-                  (sym (o .entry) ∙ ap (entryOf w) j));
+              back = rw j (back-more (k .back) b a o u p);
+              within = omega (arith, k .within);
+              written =
+                  fill-back (entryOf w) old n m a new (k .written) s (k .within) h
+                  (sym (onward (k .back) b a o .entry) ∙ ap (entryOf w) i);
             }
 
 -- for `search backs` and `search writes` at the needs of the two loops
 pub ruleset backs =
     (back-start, back-end, back-node, back-size, back-listed, count-fits, back-less, back-more)
 
-pub ruleset writes =
-    (back-start, write-start, write-end, write-node, write-size, write-listed, write-fits, write-more)
+pub ruleset writes = (
+  write-start,
+  write-end,
+  write-some,
+  write-less,
+  write-place,
+  write-scaled,
+  write-more,
+  back-node,
+  back-size,
+  back-listed,
+  arc-fits,
+)

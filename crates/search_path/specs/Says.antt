@@ -2,15 +2,15 @@
 use mathlib.Core.List.{[], _∷_}
 use Prim.Native.Nat.{ℕ}
 use lib.ListN.{getD}
-use Rattle.file_refusals.specs.Says.{Says, gives, refuses}
+use Rattle.file_refusals.specs.Says.{Says, answers, refuses}
 use Rattle.search_path.specs.declared.answer.Answer.{Answer}
 use Rattle.search_path.specs.declared.answer.Answer.the-variants.{Arrived, Refused}
 
 abbrev pub tripSays : Answer → Says
-tripSays (Arrived a) = gives (a .tick ∷ a .count ∷ [])
+tripSays (Arrived a) = answers (a .tick ∷ a .count ∷ [])
 tripSays (Refused r) = refuses 2 r
 
--- the tick and the count of roads that it gives: on a refusal both are 0
+-- the tick and the count of roads that it answers: on a refusal both are 0
 abbrev pub tripTick : Answer → ℕ
 tripTick a = getD (tripSays a .values) 0 0
 

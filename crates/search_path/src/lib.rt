@@ -14,6 +14,7 @@ use network::header::Layout;
 use network::limits::MOST_ARCS;
 use network::limits::NEVER;
 use search_arcs::times;
+use search_labels::query::Query;
 use search_labels::reach::reach;
 
 pub mod answer;
@@ -64,21 +65,21 @@ fn tell(
     mask: &[u8],
     starts: &[u16; MOST_ARCS],
     labels: &[u32],
-    source: usize,
-    target: usize,
+    q: Query,
     roads: &mut [u16],
 ) -> Answer
     requires { ⌜ Ready (now file) l (now mask) (now starts) ⌝ }
-    requires { ⌜ Reached (graphOf (decode (now file))) (permitOf (now mask)) source target (now labels) ⌝ }
-    requires { ⌜ target < l .nodes ⌝ }
-    ensures { λ r. ⌜ Told (graphOf (decode (now (file .entry)))) (permitOf (now (mask .entry))) source target
-        (now (labels .entry)) (now (roads .entry)) (now (roads .exit)) r ⌝ }
+    requires { ⌜ Reached (graphOf (decode (now file))) (permitOf (now mask)) (q .source) (q .target)
+        (now labels) ⌝ }
+    requires { ⌜ q .target < l .nodes ⌝ }
+    ensures { λ r. ⌜ Told (graphOf (decode (now (file .entry)))) (permitOf (now (mask .entry))) (q .source)
+        (q .target) (now (labels .entry)) (now (roads .entry)) (now (roads .exit)) r ⌝ }
 {
-    let tick = labels[target];
+    let tick = labels[q.target as usize];
     if tick == NEVER {
         return Answer::Refused(refuse(NO_WAY, 0));
     }
-    let count = path::path(file, l, mask, starts, labels, source, target, roads);
+    let count = path::path(file, l, mask, starts, labels, q, roads);
     if roads.len() < count {
         return Answer::Refused(refuse(ROADS_SHORT, 0));
     }
@@ -90,24 +91,22 @@ fn search_nodes(
     file: &[u8],
     l: Layout,
     mask: &[u8],
-    source: usize,
-    target: usize,
-    departure: u32,
+    q: Query,
     labels: &mut [u32],
     roads: &mut [u16],
 ) -> Answer
     requires { ⌜ Town (now file) l ⌝ }
     requires { ⌜ (l .arcs ≤ length (now mask)) × (length (now labels) ≡ l .nodes) ⌝ }
-    requires { ⌜ (source < l .nodes) × (target < l .nodes) × (departure < l .period) ⌝ }
+    requires { ⌜ (q .source < l .nodes) × (q .target < l .nodes) × (q .departure < l .period) ⌝ }
     ensures { λ r. ⌜ Answered (graphOf (decode (now (file .entry))))
-        (permitOf (now (mask .entry))) source departure target (now (labels .entry)) (now (labels .exit))
-        (now (roads .entry)) (now (roads .exit)) r ⌝ }
+        (permitOf (now (mask .entry))) (q .source) (q .departure) (q .target) (now (labels .entry))
+        (now (labels .exit)) (now (roads .entry)) (now (roads .exit)) r ⌝ }
 {
     let mut starts = [0u16; MOST_ARCS];
     times::first_points(file, l, &mut starts);
-    reach(file, l, mask, &starts, source, target, departure, labels);
-    let answer = tell(file, l, mask, &starts, labels, source, target, roads);
-    trim(labels, target);
+    reach(file, l, mask, &starts, q, labels);
+    let answer = tell(file, l, mask, &starts, labels, q, roads);
+    trim(labels, q.target as usize);
     answer
 }
 
@@ -117,29 +116,18 @@ pub fn search(
     file: &[u8],
     l: Layout,
     mask: &[u8],
-    source: usize,
-    target: usize,
-    departure: u32,
+    q: Query,
     arrivals: &mut [u32],
     roads: &mut [u16],
 ) -> Answer
     requires { ⌜ Laid (now file) l ⌝ }
     requires { ⌜ SoundNetwork (decode (now file)) ⌝ }
     requires { ⌜ (l .arcs ≤ length (now mask)) × (l .nodes ≤ length (now arrivals)) ⌝ }
-    requires { ⌜ (source < l .nodes) × (target < l .nodes) × (departure < l .period) ⌝ }
+    requires { ⌜ (q .source < l .nodes) × (q .target < l .nodes) × (q .departure < l .period) ⌝ }
     ensures { λ r. ⌜ Answered (graphOf (decode (now (file .entry))))
-        (permitOf (now (mask .entry))) source departure target (now (arrivals .entry)) (now (arrivals .exit))
-        (now (roads .entry)) (now (roads .exit)) r ⌝ }
+        (permitOf (now (mask .entry))) (q .source) (q .departure) (q .target) (now (arrivals .entry))
+        (now (arrivals .exit)) (now (roads .entry)) (now (roads .exit)) r ⌝ }
 {
     let nodes = l.nodes;
-    search_nodes(
-        file,
-        l,
-        mask,
-        source,
-        target,
-        departure,
-        &mut arrivals[..nodes],
-        roads,
-    )
+    search_nodes(file, l, mask, q, &mut arrivals[..nodes], roads)
 }

@@ -10,12 +10,11 @@ use search_arcs::chain;
 use search_arcs::chain::End;
 use search_arcs::times;
 use search_arcs::wide;
+use search_labels::query::Query;
 ghost use mathlib.Core.Path.{_≡_};
 ghost use Prim.Native.Nat.{_≤_, _<_};
 ghost use lib.ListN.{length};
 ghost use Rattle.theory_loops.specs.Fill.{Filled};
-ghost use Rattle.theory_paths.specs.Earliest.{never};
-ghost use Rattle.theory_paths.specs.Labels.{label};
 ghost use Rattle.theory_paths.specs.Chosen.{explains, arcInto};
 ghost use Rattle.network.specs.Network.{head};
 ghost use Rattle.network.specs.Decode.{decode};
@@ -23,8 +22,7 @@ ghost use Rattle.network.specs.Town.{graphOf};
 ghost use Rattle.search_labels.specs.Ready.{Ready, Early, permitOf};
 ghost use Rattle.search_path.specs.Answer.{entryOf};
 ghost use Rattle.search_arcs.specs.Chain.{Chained};
-ghost use Rattle.search_labels.specs.Reach.{Reached};
-ghost use Rattle.search_path.specs.Path.{chosenIn, Listed};
+ghost use Rattle.search_path.specs.Path.{chosenIn, Found, Listed};
 
 // Does an arc into v, taken at its tail's label, end at v's?
 fn is_into(
@@ -95,19 +93,15 @@ fn count(
     first: &[u16; MOST_NODES],
     next: &[u16; MOST_ARCS],
     labels: &[u32],
-    source: usize,
-    target: usize,
+    q: Query,
 ) -> usize
-    requires { ⌜ Ready (now file) l (now mask) (now starts) ⌝ }
+    requires { ⌜ Found (now file) l (now mask) (now starts) q (now labels) ⌝ }
     requires { ⌜ Chained (head (decode (now file))) (l .nodes) (l .arcs) 0 (now first) (now next) ⌝ }
-    requires { ⌜ Reached (graphOf (decode (now file))) (permitOf (now mask)) source target (now labels) ⌝ }
-    requires { ⌜ (target < l .nodes) × (label (now labels) target < never) ⌝ }
-    ensures { λ r. ⌜ r ≡ length (chosenIn (now (file .entry)) (now (mask .entry)) source target
-        (now (labels .entry))) ⌝ }
+    ensures { λ r. ⌜ r ≡ length (chosenIn (now (file .entry)) (now (mask .entry)) q (now (labels .entry))) ⌝ }
 {
-    let mut v = target;
+    let mut v = q.target as usize;
     let mut count = 0;
-    while v != source {
+    while v != q.source as usize {
         let a = arc_into(file, l, mask, starts, first, next, labels, v);
         v = read::tail(file, l, a);
         count += 1;
@@ -124,24 +118,23 @@ fn write(
     first: &[u16; MOST_NODES],
     next: &[u16; MOST_ARCS],
     labels: &[u32],
-    source: usize,
-    target: usize,
+    q: Query,
     count: usize,
     roads: &mut [u16],
 )
-    requires { ⌜ Ready (now file) l (now mask) (now starts) ⌝ }
+    requires { ⌜ Found (now file) l (now mask) (now starts) q (now labels) ⌝ }
     requires { ⌜ Chained (head (decode (now file))) (l .nodes) (l .arcs) 0 (now first) (now next) ⌝ }
-    requires { ⌜ Reached (graphOf (decode (now file))) (permitOf (now mask)) source target (now labels) ⌝ }
-    requires { ⌜ (target < l .nodes) × (label (now labels) target < never) ⌝ }
-    requires { ⌜ (count ≡ length (chosenIn (now file) (now mask) source target (now labels))) ×
+    requires { ⌜ (count ≡ length (chosenIn (now file) (now mask) q (now labels))) ×
         (count ≤ length (now roads)) ⌝ }
-    ensures { λ _. ⌜ Filled 0 count (entryOf (chosenIn (now (file .entry)) (now (mask .entry)) source target
+    ensures { λ _. ⌜ Filled 0 count (entryOf (chosenIn (now (file .entry)) (now (mask .entry)) q
         (now (labels .entry)))) (now (roads .entry)) (now (roads .exit)) ⌝ }
 {
-    let mut v = target;
-    for n in 0..count {
+    let mut v = q.target as usize;
+    let mut n = count;
+    while v != q.source as usize {
         let a = arc_into(file, l, mask, starts, first, next, labels, v);
-        roads[count - 1 - n] = a as u16;
+        n -= 1;
+        roads[n] = a as u16;
         v = read::tail(file, l, a);
     }
 }
@@ -153,20 +146,17 @@ pub fn path(
     mask: &[u8],
     starts: &[u16; MOST_ARCS],
     labels: &[u32],
-    source: usize,
-    target: usize,
+    q: Query,
     roads: &mut [u16],
 ) -> usize
-    requires { ⌜ Ready (now file) l (now mask) (now starts) ⌝ }
-    requires { ⌜ Reached (graphOf (decode (now file))) (permitOf (now mask)) source target (now labels) ⌝ }
-    requires { ⌜ (target < l .nodes) × (label (now labels) target < never) ⌝ }
-    ensures { λ r. ⌜ Listed (chosenIn (now (file .entry)) (now (mask .entry)) source target
-        (now (labels .entry))) (now (roads .entry)) (now (roads .exit)) r ⌝ }
+    requires { ⌜ Found (now file) l (now mask) (now starts) q (now labels) ⌝ }
+    ensures { λ r. ⌜ Listed (chosenIn (now (file .entry)) (now (mask .entry)) q (now (labels .entry)))
+        (now (roads .entry)) (now (roads .exit)) r ⌝ }
 {
     let mut first = [chain::NONE; MOST_NODES];
     let mut next = [chain::NONE; MOST_ARCS];
     chain::chain(file, l, End::Head, &mut first, &mut next);
-    let count = count(file, l, mask, starts, &first, &next, labels, source, target);
+    let count = count(file, l, mask, starts, &first, &next, labels, q);
     if roads.len() < count {
         return count;
     }
@@ -178,8 +168,7 @@ pub fn path(
         &first,
         &next,
         labels,
-        source,
-        target,
+        q,
         count,
         roads,
     );

@@ -57,15 +57,15 @@ abbrev pub flaggedArcs : List ℕ → List ℕ → ℕ → Permit
 flaggedArcs network plan to = towards (partitionOf (decode network)) (decodePlan plan) to
 
 -- THE FLAGGED TRIP, after what comes before its search: the lists at entry and at exit, and the answer
-abbrev pub FlaggedCall : Opening → List ℕ → List ℕ → ℕ → ℕ → ℕ → List ℕ → List ℕ → List ℕ → List ℕ → Answer
+abbrev pub FlaggedAfter : Opening → List ℕ → List ℕ → ℕ → ℕ → ℕ → List ℕ → List ℕ → List ℕ → List ℕ → Answer
     → Type 0
-FlaggedCall b network plan from to departure arrivals₀ arrivals₁ roads₀ roads₁ a =
+FlaggedAfter b network plan from to departure arrivals₀ arrivals₁ roads₀ roads₁ a =
     TripCall b (graphOf (decode network))
     (flaggedArcs network plan to) from to departure arrivals₀ arrivals₁ roads₀ roads₁ a
 
 abbrev pub FlaggedTrip : List ℕ → List ℕ → ℕ → ℕ → ℕ → List ℕ → List ℕ → List ℕ → List ℕ → Answer → Type 0
 FlaggedTrip network plan from to departure arrivals₀ arrivals₁ roads₀ roads₁ a =
-    FlaggedCall (flaggedBegin network plan from to departure (length arrivals₀))
+    FlaggedAfter (flaggedBegin network plan from to departure (length arrivals₀))
     network plan from to departure arrivals₀ arrivals₁ roads₀ roads₁ a
 
 -- what it has shown where nothing before its search is refused
@@ -145,7 +145,7 @@ module _ {network plan : List ℕ} {h : Header} {k : PlanHeader} (v : ValidFile 
     pub flagged-driven : (s x : ℕ) (arrivals₀ arrivals₁ roads₀ roads₁ : List ℕ) (a : Answer)
         → TripCall (Opened h) (graphOf (decode network))
         (permitOf mask) s t x arrivals₀ arrivals₁ roads₀ roads₁ a
-        → FlaggedCall (Opened h) network plan s t x arrivals₀ arrivals₁ roads₀ roads₁ a
+        → FlaggedAfter (Opened h) network plan s t x arrivals₀ arrivals₁ roads₀ roads₁ a
     flagged-driven s x arrivals₀ arrivals₁ roads₀ roads₁ a =
         call-permit (graphOf (decode network)) (permitOf mask) (flaggedArcs network plan t) some permits s t x
 

@@ -211,18 +211,14 @@ module _ {b : Opening} {g : Graph} {s t x room : ℕ} (w : Begins b g s t x room
 
   -- and there is, where the list has room for every path
   pub call-good : Passed b → mostRoads ≤ free → AsGoodAsAny g p s x t (pathOf g p s t x) a
-  call-good o l = record {
-    no-way = (λ n. trip-no-way .0 n .1, λ n. trip-no-way .1 (o, n));
-    arrives = λ q. go q (o .1) ends;
-    best = λ r q. trip-arrived r q .best;
-  }
+  call-good o l = trip-good o (λ q. go q (o .1) ends)
     where
       go : Reachable g p s t → {h : Header} → b ≡ Opened h → Ends b g p s t x room free a
-          → (r : Arrival) × (a ≡ answer.Arrived r)
+          → length (pathOf g p s t x) ≤ free
       go q f (refused r i j m z) = opened-refused f i
       go q f (searches h i k (no-way u z)) = absurd (u q)
-      go q f (searches h i k (too-short j y m z)) = absurd (omega (arith, y .few, k .leaving .few))
-      go q f (searches h i k (arrives r z c m y)) = (r, z)
+      go q f (searches h i k (too-short j y m z)) = omega (arith, y .few, k .leaving .few)
+      go q f (searches h i k (arrives r z c m y)) = omega arith
 
 -- THE TWO LISTS
 module _ {b : Opening} {g : Graph} {p : Permit} {s t x : ℕ} {arrivals₀ arrivals₁ roads₀ roads₁ : List ℕ}

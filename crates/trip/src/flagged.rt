@@ -11,6 +11,7 @@ use plan::header::PlanHeader;
 use plan::header::PlanLayout;
 use plan::read::flag_word;
 use plan_validate::validate::validate_plan;
+use search_labels::query::Query;
 use search_path::answer::Answer;
 use trip_call::begin::ask;
 use trip_call::drive::drive;
@@ -28,7 +29,7 @@ ghost use Rattle.plan.specs.PlanDecode.{decodePlan, PlanLaid};
 ghost use Rattle.plan.specs.PlanValid.{ValidPlan};
 ghost use Rattle.trip_call.specs.Trip.{asked};
 ghost use Rattle.trip_call.specs.Stage.{Asked};
-ghost use Rattle.trip.specs.Flagged.{maskOf, flaggedWith, FlaggedCall, FlaggedTrip};
+ghost use Rattle.trip.specs.Flagged.{maskOf, flaggedWith, FlaggedAfter, FlaggedTrip};
 
 // The bit as a number.
 fn flag(word: u64, c: usize) -> u8
@@ -56,22 +57,21 @@ fn drive_flagged(
     h: Header,
     plan: &[u8],
     k: PlanHeader,
-    from: u32,
-    to: u32,
-    departure: u32,
+    q: Query,
     arrivals: &mut [u32],
     roads: &mut [u16],
 ) -> Answer
     requires { ⌜ ValidFile (now network) h ⌝ }
     requires { ⌜ ValidPlan h (decode (now network)) (now plan) k ⌝ }
-    requires { ⌜ Asked h from to departure (length (now arrivals)) ⌝ }
-    ensures { λ r. ⌜ FlaggedCall (Opened h) (now (network .entry)) (now (plan .entry)) from to departure
+    requires { ⌜ Asked h (q .source) (q .target) (q .departure) (length (now arrivals)) ⌝ }
+    ensures { λ r. ⌜ FlaggedAfter (Opened h) (now (network .entry)) (now (plan .entry))
+        (q .source) (q .target) (q .departure)
         (now (arrivals .entry)) (now (arrivals .exit)) (now (roads .entry)) (now (roads .exit)) r ⌝ }
 {
-    let c = cell(network, h.layout(), to as usize);
+    let c = cell(network, h.layout(), q.target as usize);
     let mut mask = [0u8; MOST_ARCS];
     fill_mask(plan, k.layout(), c, &mut mask);
-    drive(network, h, &mask, from, to, departure, arrivals, roads)
+    drive(network, h, &mask, q, arrivals, roads)
 }
 
 // Refusals 25 to 29, or the trip.
@@ -80,31 +80,20 @@ fn flagged_asked(
     h: Header,
     plan: &[u8],
     k: PlanHeader,
-    from: u32,
-    to: u32,
-    departure: u32,
+    q: Query,
     arrivals: &mut [u32],
     roads: &mut [u16],
 ) -> Answer
     requires { ⌜ ValidFile (now network) h ⌝ }
     requires { ⌜ ValidPlan h (decode (now network)) (now plan) k ⌝ }
-    ensures { λ r. ⌜ FlaggedCall (asked h from to departure (length (now (arrivals .entry))))
-        (now (network .entry)) (now (plan .entry)) from to departure
+    ensures { λ r. ⌜ FlaggedAfter
+        (asked h (q .source) (q .target) (q .departure) (length (now (arrivals .entry))))
+        (now (network .entry)) (now (plan .entry)) (q .source) (q .target) (q .departure)
         (now (arrivals .entry)) (now (arrivals .exit)) (now (roads .entry)) (now (roads .exit)) r ⌝ }
 {
-    match ask(h, from, to, departure, arrivals.len()) {
+    match ask(h, q, arrivals.len()) {
         Opening::Refused(r) => Answer::Refused(r),
-        Opening::Opened(_) => drive_flagged(
-            network,
-            h,
-            plan,
-            k,
-            from,
-            to,
-            departure,
-            arrivals,
-            roads,
-        ),
+        Opening::Opened(_) => drive_flagged(network, h, plan, k, q, arrivals, roads),
     }
 }
 
@@ -113,31 +102,19 @@ fn flagged_planned(
     network: &[u8],
     h: Header,
     plan: &[u8],
-    from: u32,
-    to: u32,
-    departure: u32,
+    q: Query,
     arrivals: &mut [u32],
     roads: &mut [u16],
 ) -> Answer
     requires { ⌜ ValidFile (now network) h ⌝ }
-    ensures { λ r. ⌜ FlaggedCall (flaggedWith h (now (network .entry)) (now (plan .entry)) from to departure
-        (length (now (arrivals .entry))))
-        (now (network .entry)) (now (plan .entry)) from to departure
+    ensures { λ r. ⌜ FlaggedAfter (flaggedWith h (now (network .entry)) (now (plan .entry))
+        (q .source) (q .target) (q .departure) (length (now (arrivals .entry))))
+        (now (network .entry)) (now (plan .entry)) (q .source) (q .target) (q .departure)
         (now (arrivals .entry)) (now (arrivals .exit)) (now (roads .entry)) (now (roads .exit)) r ⌝ }
 {
     match validate_plan(network, h, h.layout(), plan) {
         Planning::Refused(r) => Answer::Refused(r),
-        Planning::WellFormed(k) => flagged_asked(
-            network,
-            h,
-            plan,
-            k,
-            from,
-            to,
-            departure,
-            arrivals,
-            roads,
-        ),
+        Planning::WellFormed(k) => flagged_asked(network, h, plan, k, q, arrivals, roads),
     }
 }
 
@@ -156,17 +133,13 @@ pub fn flagged_trip(
         (now (arrivals .entry)) (now (arrivals .exit))
         (now (roads .entry)) (now (roads .exit)) r ⌝ }
 {
+    let q = Query {
+        source: from,
+        target: to,
+        departure,
+    };
     match validate(network) {
         Opening::Refused(r) => Answer::Refused(r),
-        Opening::Opened(h) => flagged_planned(
-            network,
-            h,
-            plan,
-            from,
-            to,
-            departure,
-            arrivals,
-            roads,
-        ),
+        Opening::Opened(h) => flagged_planned(network, h, plan, q, arrivals, roads),
     }
 }

@@ -2,6 +2,7 @@
 use network::answer::Opening;
 use network::limits::MOST_ARCS;
 use network_open::validate::validate;
+use search_labels::query::Query;
 use search_path::answer::Answer;
 use trip_call::begin::ask;
 use trip_call::drive::drive;
@@ -9,12 +10,12 @@ ghost use mathlib.Core.Path.{_≡_};
 ghost use Rattle.trip.specs.Plain.{plainBegin, PlainTrip};
 
 // The refusals before the search: 1 to 10, then 25 to 27.
-fn begin_plain(network: &[u8], from: u32, to: u32, departure: u32, room: usize) -> Opening
-    ensures { λ r. ⌜ r ≡ plainBegin (now (network .entry)) from to departure room ⌝ }
+fn begin_plain(network: &[u8], q: Query, room: usize) -> Opening
+    ensures { λ r. ⌜ r ≡ plainBegin (now (network .entry)) (q .source) (q .target) (q .departure) room ⌝ }
 {
     match validate(network) {
         Opening::Refused(r) => Opening::Refused(r),
-        Opening::Opened(h) => ask(h, from, to, departure, room),
+        Opening::Opened(h) => ask(h, q, room),
     }
 }
 
@@ -32,11 +33,16 @@ pub fn plain_trip(
         (now (arrivals .exit))
         (now (roads .entry)) (now (roads .exit)) r ⌝ }
 {
-    match begin_plain(network, from, to, departure, arrivals.len()) {
+    let q = Query {
+        source: from,
+        target: to,
+        departure,
+    };
+    match begin_plain(network, q, arrivals.len()) {
         Opening::Refused(r) => Answer::Refused(r),
         Opening::Opened(h) => {
             let mask = [1u8; MOST_ARCS];
-            drive(network, h, &mask, from, to, departure, arrivals, roads)
+            drive(network, h, &mask, q, arrivals, roads)
         }
     }
 }

@@ -1,5 +1,6 @@
 // A trip once nothing before it is refused: the search.
 use network::header::Header;
+use search_labels::query::Query;
 use search_path::answer::Answer;
 use search_path::search;
 ghost use Prim.Native.Nat.{_≤_};
@@ -17,27 +18,16 @@ pub fn drive(
     network: &[u8],
     h: Header,
     mask: &[u8],
-    from: u32,
-    to: u32,
-    departure: u32,
+    q: Query,
     arrivals: &mut [u32],
     roads: &mut [u16],
 ) -> Answer
     requires { ⌜ ValidFile (now network) h ⌝ }
-    requires { ⌜ Asked h from to departure (length (now arrivals)) ⌝ }
+    requires { ⌜ Asked h (q .source) (q .target) (q .departure) (length (now arrivals)) ⌝ }
     requires { ⌜ h .arcs ≤ length (now mask) ⌝ }
     ensures { λ r. ⌜ TripCall (Opened h) (graphOf (decode (now (network .entry))))
-        (permitOf (now (mask .entry))) from to departure
+        (permitOf (now (mask .entry))) (q .source) (q .target) (q .departure)
         (now (arrivals .entry)) (now (arrivals .exit)) (now (roads .entry)) (now (roads .exit)) r ⌝ }
 {
-    search(
-        network,
-        h.layout(),
-        mask,
-        from as usize,
-        to as usize,
-        departure,
-        arrivals,
-        roads,
-    )
+    search(network, h.layout(), mask, q, arrivals, roads)
 }

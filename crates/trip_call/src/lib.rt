@@ -2,7 +2,8 @@
 // (refusals 25 to 27), and what a call answers and leaves in its two lent lists (`TripCall`).
 //   begin    the refusals 25 to 27
 //   drive    the search of a call that is not refused
-// It may call `search_path` to search, `network` for the header and `file_refusals` for the numbers.
+// It may call `search_path` to search, with the query of `search_labels`, `network` for the header and
+// `file_refusals` for the numbers.
 
 pub mod begin;
 pub mod drive;

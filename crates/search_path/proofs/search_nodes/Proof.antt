@@ -22,9 +22,12 @@ tell-requires c κs =
     let s = p .before .before .before .before .before .before .pre in
     (ready-of (s .0) (s .1 .0 .0) (p .first-points .ensures), (r .reach .ensures .0, search needs))
 
+cast-trim : tie.Need-cast-trim
+cast-trim c = search needs
+
 trim-requires : tie.Need-trim-requires
 trim-requires c κs =
-    let r = c .before .before .before .before .before .before .before .before .before in
+    let r = c .before .before .before .before .before .before .before .before .before .before in
     let s = r .before .before .before .before .before .before .before .before .before .pre in
     in-labels (s .0) (r .reach .ensures .0) (s .1 .1 .1)
 
@@ -37,7 +40,7 @@ same-length-2 c = search needs
 returns : tie.Need-returns
 returns c =
     let t = c .before .before in
-    let o = t .before .before .before .before in
+    let o = t .before .before .before .before .before in
     let r = o .before .before .before .before .before .before in
     let s = r .before .before .before .before .before .before .before .before .before in
     let n = s .pre .1 .1 in
@@ -51,6 +54,7 @@ search-nodes-spec =
     first-points-requires
     reach-requires
     tell-requires
+    cast-trim
     trim-requires
     same-length
     same-length-2

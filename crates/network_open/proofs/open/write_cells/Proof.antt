@@ -1,5 +1,5 @@
 -- `network_open::open::write_cells` meets its contract.
-use Rattle.network.specs.Validate.{nodes-stored}
+use Rattle.network.specs.Decode.{nodes-stored}
 use Rattle.network_open.specs.Open.{table-writes}
 use borrow.Author.Needs.{needs}
 use Rattle.network_open.proofs.open.write_cells.Statement.{statement}

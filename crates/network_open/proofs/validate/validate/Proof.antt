@@ -1,5 +1,5 @@
 -- `network_open::validate::validate` meets its contract.
-use Rattle.network.specs.Validate.{length-fine}
+use Rattle.file_blocks.specs.Form.{length-fine}
 use native.Mathlib.Omega.{arith}
 use Rattle.network.specs.Validate.{validated}
 use Rattle.theory_loops.specs.Pick.{picks}
@@ -23,7 +23,7 @@ first-bad-sum-requires c κs = search needs
 cast-refused : tie.Need-cast-refused
 cast-refused c = omega (
   arith,
-  length-fine _ _ (c .before .before .before .is-bad-length .ensures)
+  length-fine _ _ _ (c .before .before .before .is-bad-length .ensures)
       (c .before .before .if1 .left),
 )
 
@@ -38,7 +38,7 @@ validate-first-requires : tie.Need-validate-first-requires
 validate-first-requires c κs =
     omega (
       arith,
-      length-fine _ _ (c .before .before .before .is-bad-length .ensures)
+      length-fine _ _ _ (c .before .before .before .is-bad-length .ensures)
           (c .before .before .if1 .left),
     )
 

@@ -6,7 +6,7 @@ use Rattle.plan.proofs.read.travel.Tie as tie
 
 offset-requires : tie.Need-offset-requires
 offset-requires c κs = let e = point-in (c .before .pre .0) (c .before .pre .1) in
-    (e .pos, e .fit, omega (arith, e .near))
+    (e .pos, e .fit, e .near)
 
 add-le32 : tie.Need-add-le32
 add-le32 c = omega (arith, point-in (c .before .before .pre .0) (c .before .before .pre .1))

@@ -10,11 +10,11 @@ use Rattle.plan_check.proofs.check.check_triples.Statement.{statement}
 use Rattle.plan_check.proofs.check.check_triples.Tie as tie
 
 abbrev Inv-loop : tie.InvT-loop
-Inv-loop network l plan pl points first next borders number₀ number =
+Inv-loop network plan l points first next borders number₀ number =
     Passed (partitionOf (decode network)) (decodePlan plan) number
 
 abbrev μ-loop : tie.MeasureT-loop
-μ-loop network l plan pl points first next borders number₀ number = 25 - number
+μ-loop network plan l points first next borders number₀ number = 25 - number
 
 is-clean-requires : tie.Need-is-clean-requires Inv-loop μ-loop
 is-clean-requires c κs = c .before .before .pre
@@ -30,9 +30,6 @@ first-failing-requires c κs = c .before .before .before .before .before .before
 
 enum-known-found : tie.Need-enum-known-found Inv-loop μ-loop
 enum-known-found c = search needs
-
-refused-at-requires : tie.Need-refused-at-requires Inv-loop μ-loop
-refused-at-requires c κs = tt
 
 returns-2 : tie.Need-returns-2 Inv-loop μ-loop
 returns-2 c = search passing
@@ -66,7 +63,6 @@ check-triples-spec =
     loop-holds
     first-failing-requires
     enum-known-found
-    refused-at-requires
     returns-2
     enum-told
     add-number

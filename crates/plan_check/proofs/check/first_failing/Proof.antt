@@ -1,62 +1,60 @@
 -- `plan_check::check::first_failing` meets its contract: each loop's invariant says that nothing failed at
 -- the indices that it has passed; the outer one also says where the next border's profiles start, and the
--- middle one that the tables are those of border number i.
+-- middle one that the tables are those of the border.
 use mathlib.Core.Path.{_≡_, refl, sym, _∙_}
 use Prim.Native.Nat.{_≤_, _-_, _*_}
-use lib.Dec.{lit≤}
+use native.Mathlib.Omega.{arith}
 use lib.ListN.{length}
-use Rattle.theory_loops.specs.First.{first, any, none-yet, pass, no-any}
-use Rattle.theory_loops.specs.Triple.{triple-at, triple-past}
+use borrow.Author.Needs.{needs, zero≤}
+use Rattle.theory_loops.specs.First.{first, none-yet, pass, no-any}
 use Rattle.network.specs.Decode.{decode}
 use Rattle.network.specs.Town.{partitionOf}
-use Rattle.plan_check.specs.declared.check.Found.the-variants.{Nothing}
+use Rattle.plan_check.specs.declared.answer.Checking.the-variants.{Accepted}
 use Rattle.plan.specs.Plan.{pointStart}
 use Rattle.plan.specs.PlanDecode.{decodePlan}
 use Rattle.plan_tests.specs.Tests.{fails}
-use Rattle.plan_check.specs.Ranges.{up-within, up-less, in-table, up-fits, place-fits}
 use Rattle.plan_tests.specs.Failing.{AtBorder}
-use Rattle.plan_check.specs.Finding.{failing-is, at-border, still-long, from-start}
-use borrow.Author.Needs.{zero≤}
+use Rattle.plan_check.specs.Finding.{failsTick, failsNode, border-number, at-border, still-long}
+use Rattle.plan_check.specs.Finding.{from-start, failing-next, failing-at, failing-past}
 use Rattle.plan_check.proofs.check.first_failing.Statement.{statement}
 use Rattle.plan_check.proofs.check.first_failing.Tie as tie
 
 abbrev Inv-ticks : tie.InvT-ticks
-Inv-ticks number network l plan pl points first′ next borders count nodes period found₀ starts from i border
-    u x₀ found x =
-    (x ≤ period) × (found ≡ Nothing)
-    × (first x (fails number (partitionOf (decode network)) (decodePlan plan) i u) ≡ x)
+Inv-ticks number network plan l points first′ next borders count nodes period found₀ starts from i b u x₀
+    found x =
+    (x ≤ period) × (found ≡ Accepted)
+    × (first x (fails number (partitionOf (decode network)) (decodePlan plan) (b .number) u) ≡ x)
 
 abbrev μ-ticks : tie.MeasureT-ticks
-μ-ticks number network l plan pl points first′ next borders count nodes period found₀ starts from i border u
-    x₀ found x =
+μ-ticks number network plan l points first′ next borders count nodes period found₀ starts from i b u x₀
+    found x =
     period - x
 
 abbrev Inv-nodes : tie.InvT-nodes
-Inv-nodes number network l plan pl points first′ next borders count nodes period found₀ starts from i border
-    u₀ found u =
+Inv-nodes number network plan l points first′ next borders count nodes period found₀ starts from i b u₀ found
+    u =
     (u ≤ nodes)
-    × (found ≡ Nothing)
-    × (first u (λ u. any (l .period) (fails number (partitionOf (decode network)) (decodePlan plan) i u)) ≡ u)
-    × AtBorder network l plan pl points first′ next starts border i
+    × (found ≡ Accepted)
+    × (first u (failsTick number (partitionOf (decode network)) (decodePlan plan) period (b .number)) ≡ u)
+    × AtBorder network plan l points first′ next starts b
 
 abbrev μ-nodes : tie.MeasureT-nodes
-μ-nodes number network l plan pl points first′ next borders count nodes period found₀ starts from i border u₀
-    found u =
+μ-nodes number network plan l points first′ next borders count nodes period found₀ starts from i b u₀ found
+    u =
     nodes - u
 
 abbrev Inv-borders : tie.InvT-borders
-Inv-borders number network l plan pl points first′ next borders count nodes period found₀ starts₀ from₀ i₀
-    found starts from i =
+Inv-borders number network plan l points first′ next borders count nodes period found₀ starts₀ from₀ i₀ found
+    starts from i =
     (i ≤ count)
-    × (found ≡ Nothing)
-    × (first i (λ i. any (l .nodes)
-    (λ u. any (l .period) (fails number (partitionOf (decode network)) (decodePlan plan) i u))) ≡ i)
-    × (from ≡ pointStart (decodePlan plan) (i * pl .nodes))
-    × (pl .nodes ≤ length starts)
+    × (found ≡ Accepted)
+    × (first i (failsNode number (partitionOf (decode network)) (decodePlan plan) nodes period) ≡ i)
+    × (from ≡ pointStart (decodePlan plan) (i * l .plan .nodes))
+    × (l .plan .nodes ≤ length starts)
 
 abbrev μ-borders : tie.MeasureT-borders
-μ-borders number network l plan pl points first′ next borders count nodes period found₀ starts₀ from₀ i₀
-    found starts from i =
+μ-borders number network plan l points first′ next borders count nodes period found₀ starts₀ from₀ i₀ found
+    starts from i =
     count - i
 
 -- the turns of the loops that a moment stands in, and where the function began
@@ -68,13 +66,13 @@ abbrev in-nodes : tie.After-is-failing Inv-ticks μ-ticks Inv-nodes μ-nodes Inv
     → tie.In-nodes Inv-ticks μ-ticks Inv-nodes μ-nodes Inv-borders μ-borders
 in-nodes c = in-ticks c .before .before
 
-abbrev in-borders : tie.At-nodes Inv-ticks μ-ticks Inv-nodes μ-nodes Inv-borders μ-borders
+abbrev in-borders : tie.After-target-at Inv-ticks μ-ticks Inv-nodes μ-nodes Inv-borders μ-borders
     → tie.In-borders Inv-ticks μ-ticks Inv-nodes μ-nodes Inv-borders μ-borders
-in-borders c = c .before .before .before .before .before
+in-borders c = c .before .before .before
 
-abbrev start : tie.In-borders Inv-ticks μ-ticks Inv-nodes μ-nodes Inv-borders μ-borders
+abbrev start : tie.After-target-at Inv-ticks μ-ticks Inv-nodes μ-nodes Inv-borders μ-borders
     → tie.Start Inv-ticks μ-ticks Inv-nodes μ-nodes Inv-borders μ-borders
-start c = c .before .before .before .before
+start c = in-borders c .before .before .before .before
 
 borders-holds : tie.Need-borders-holds Inv-ticks μ-ticks Inv-nodes μ-nodes Inv-borders μ-borders
 borders-holds c =
@@ -82,34 +80,19 @@ borders-holds c =
 
 profile-starts-requires : tie.Need-profile-starts-requires Inv-ticks μ-ticks Inv-nodes μ-nodes Inv-borders
     μ-borders
-profile-starts-requires c κs =
-    let i = c .before in (
-      start i .pre .check .formed,
-      ((i .borders-test .taken, i .before .borders .inv .4), i .before .borders .inv .3),
-    )
+profile-starts-requires c κs = search needs
 
-mul-wide : tie.Need-mul-wide Inv-ticks μ-ticks Inv-nodes μ-nodes Inv-borders μ-borders
-mul-wide c =
-    let i = c .before .before in
-    place-fits (i .borders-test .taken) (start i .pre .check .formed .small .borders-most) (lit≤ tt)
-
-element-copy-out-wide : tie.Need-element-copy-out-wide Inv-ticks μ-ticks Inv-nodes μ-nodes Inv-borders
-    μ-borders
-element-copy-out-wide c =
-    let i = c .before .before in
-    in-table (i .borders-test .taken) (start i .pre .check .formed .small .borders-most)
-
-wide-requires : tie.Need-wide-requires Inv-ticks μ-ticks Inv-nodes μ-nodes Inv-borders μ-borders
-wide-requires c κs = tt
+target-at-requires : tie.Need-target-at-requires Inv-ticks μ-ticks Inv-nodes μ-nodes Inv-borders μ-borders
+target-at-requires c κs = (search needs, (search needs, (search border-number, search needs)))
 
 nodes-holds : tie.Need-nodes-holds Inv-ticks μ-ticks Inv-nodes μ-nodes Inv-borders μ-borders
 nodes-holds c =
-    let i = c .before .before .before .before in (
+    let i = in-borders c in (
       zero≤,
       i .before .borders .inv .1,
       none-yet _,
-      at-border (start i .pre) (i .borders-test .taken) (c .before .before .profile-starts .ensures .1)
-          (c .wide .ensures .0),
+      at-border (start c .pre) (i .borders-test .taken) (c .before .profile-starts .ensures .1)
+          (c .target-at .ensures .0) (c .target-at .ensures .1),
     )
 
 ticks-holds : tie.Need-ticks-holds Inv-ticks μ-ticks Inv-nodes μ-nodes Inv-borders μ-borders
@@ -120,46 +103,46 @@ is-failing-requires c κs =
     let u = c .before .before .before in
     (u .before .nodes .inv .3, (u .nodes-test .taken, c .before .ticks-test .taken))
 
-found-at-requires : tie.Need-found-at-requires Inv-ticks μ-ticks Inv-nodes μ-nodes Inv-borders μ-borders
-found-at-requires c κs =
-    let pre = start (in-borders (in-nodes (c .before) .before)) .pre in (
-      in-table (in-borders (in-nodes (c .before) .before) .borders-test .taken)
-          (pre .check .formed .small .borders-most),
-      in-table (in-nodes (c .before) .nodes-test .taken) (pre .check .town .small .nodes-most),
-      in-table (in-ticks (c .before) .ticks-test .taken) (pre .check .town .small .period-most),
+refused-at-requires : tie.Need-refused-at-requires Inv-ticks μ-ticks Inv-nodes μ-nodes Inv-borders μ-borders
+refused-at-requires c κs =
+    let u = in-nodes (c .before) in
+    let w = u .before .nodes .inv .3 .prepared in (
+      omega (arith, w .number, w .check .formed .small .borders-most),
+      omega (arith, u .nodes-test .taken, w .check .town .small .nodes-most),
+      omega (arith, in-ticks (c .before) .ticks-test .taken, w .check .town .small .period-most),
     )
 
-add-x : tie.Need-add-x Inv-ticks μ-ticks Inv-nodes μ-nodes Inv-borders μ-borders
-add-x c =
+add-tick : tie.Need-add-tick Inv-ticks μ-ticks Inv-nodes μ-nodes Inv-borders μ-borders
+add-tick c =
     let x = c .before .before .before in
-    up-fits (x .ticks-test .taken)
-    (start (in-borders (x .before .before .before)) .pre .check .town .small .period-most) (lit≤ tt)
+    let w = x .before .before .before .nodes .inv .3 .prepared in
+    omega (arith, x .ticks-test .taken, w .check .town .small .period-most)
 
 ticks-less : tie.Need-ticks-less Inv-ticks μ-ticks Inv-nodes μ-nodes Inv-borders μ-borders
-ticks-less c = up-less (c .before .before .before .ticks-test .taken)
+ticks-less c = omega (arith, c .before .before .before .ticks-test .taken)
 
 ticks-again : tie.Need-ticks-again Inv-ticks μ-ticks Inv-nodes μ-nodes Inv-borders μ-borders
 ticks-again c = (
-  up-within (in-ticks (c .before) .ticks-test .taken),
+  omega (arith, in-ticks (c .before) .ticks-test .taken),
   in-ticks (c .before) .before .ticks .inv .1,
   pass _ _ (in-ticks (c .before) .before .ticks .inv .2)
       (sym (c .before .is-failing .ensures) ∙ c .if1 .left),
 )
 
-add-u : tie.Need-add-u Inv-ticks μ-ticks Inv-nodes μ-nodes Inv-borders μ-borders
-add-u c =
+add-node : tie.Need-add-node Inv-ticks μ-ticks Inv-nodes μ-nodes Inv-borders μ-borders
+add-node c =
     let u = c .before .before in
-    up-fits (u .nodes-test .taken) (start (in-borders (u .before)) .pre .check .town .small .nodes-most)
-    (lit≤ tt)
+    let w = u .before .nodes .inv .3 .prepared in
+    omega (arith, u .nodes-test .taken, w .check .town .small .nodes-most)
 
 nodes-less : tie.Need-nodes-less Inv-ticks μ-ticks Inv-nodes μ-nodes Inv-borders μ-borders
-nodes-less c = up-less (c .before .before .nodes-test .taken)
+nodes-less c = omega (arith, c .before .before .nodes-test .taken)
 
 nodes-again : tie.Need-nodes-again Inv-ticks μ-ticks Inv-nodes μ-nodes Inv-borders μ-borders
 nodes-again c =
     let u = c .before .before in
     let x = c .before .ticks .inv in (
-      up-within (u .nodes-test .taken),
+      omega (arith, u .nodes-test .taken),
       x .1,
       pass _ _ (u .before .nodes .inv .2) (no-any _ _ _ (x .2) (x .0) (c .ticks-test .left)),
       u .before .nodes .inv .3,
@@ -167,45 +150,42 @@ nodes-again c =
 
 add-i : tie.Need-add-i Inv-ticks μ-ticks Inv-nodes μ-nodes Inv-borders μ-borders
 add-i c =
-    let i = in-borders (c .before) in
-    up-fits (i .borders-test .taken) (start i .pre .check .formed .small .borders-most) (lit≤ tt)
+    let d = c .before .before in
+    omega (arith, in-borders d .borders-test .taken, start d .pre .check .formed .small .borders-most)
 
 borders-less : tie.Need-borders-less Inv-ticks μ-ticks Inv-nodes μ-nodes Inv-borders μ-borders
-borders-less c = up-less (in-borders (c .before) .borders-test .taken)
+borders-less c = omega (arith, in-borders (c .before .before) .borders-test .taken)
 
 borders-again : tie.Need-borders-again Inv-ticks μ-ticks Inv-nodes μ-nodes Inv-borders μ-borders
 borders-again c =
-    let i = in-borders (c .before) in
+    let d = c .before .before in
+    let i = in-borders d .before .borders .inv in
     let u = c .before .nodes .inv in
-    let filled = c .before .before .before .before .profile-starts .ensures in (
-      up-within (i .borders-test .taken),
+    let filled = d .before .profile-starts .ensures in (
+      omega (arith, in-borders d .borders-test .taken),
       u .1,
-      pass _ _ (i .before .borders .inv .2) (no-any _ _ _ (u .2) (u .0) (c .nodes-test .left)),
+      failing-next _ _ _ _ _ (i .2) (d .target-at .ensures .0) (u .2) (u .0) (c .nodes-test .left),
       filled .0,
-      still-long (filled .1) (i .before .borders .inv .4),
+      still-long (filled .1) (i .4),
     )
 
 returns : tie.Need-returns Inv-ticks μ-ticks Inv-nodes μ-nodes Inv-borders μ-borders
 returns c =
+    let w = c .before .before .before .before .pre .check in
     let i = c .before .borders .inv in
-    failing-is (c .before .before .before .before .pre) _
-    (triple-past _ _ _ _ _ (i .2) (i .0) (c .borders-test .left) _ _ _ (i .1))
+    failing-past _ _ _ _ _ (i .2) (w .borders) (w .town .sizes .nodes) (w .town .sizes .period) (i .0)
+    (c .borders-test .left) (i .1)
 
 returns-2 : tie.Need-returns-2 Inv-ticks μ-ticks Inv-nodes μ-nodes Inv-borders μ-borders
 returns-2 c =
-    failing-is (start (in-borders (in-nodes (c .before .before) .before)) .pre) _
-    (triple-at _ _ _ _ _ _ _
-    (in-borders (in-nodes (c .before .before) .before) .before .borders .inv .2)
-    (in-borders (in-nodes (c .before .before) .before) .borders-test .taken)
-    (in-nodes (c .before .before) .before .nodes .inv .2)
-    (in-nodes (c .before .before) .nodes-test .taken)
-    (in-ticks (c .before .before) .before .ticks .inv .2)
-    (in-ticks (c .before .before) .ticks-test .taken)
-    (sym (c .before .before .is-failing .ensures) ∙ c .before .if1 .taken)
-    _
-    _
-    _
-    (c .found-at .ensures))
+    let f = c .before .before in
+    let d = in-nodes f .before .before in
+    let w = start d .pre .check in
+    failing-at _ _ _ _ _ (in-borders d .before .borders .inv .2) (w .borders) (w .town .sizes .nodes)
+    (w .town .sizes .period) (d .target-at .ensures .0) (in-borders d .borders-test .taken)
+    (in-nodes f .before .nodes .inv .2) (in-nodes f .nodes-test .taken) (in-ticks f .before .ticks .inv .2)
+    (in-ticks f .ticks-test .taken) (sym (f .is-failing .ensures) ∙ c .before .if1 .taken)
+    (c .refused-at .ensures)
 
 pub first-failing-spec : {M : Type 1} → statement M
 first-failing-spec =
@@ -219,17 +199,15 @@ first-failing-spec =
     μ-borders
     borders-holds
     profile-starts-requires
-    mul-wide
-    element-copy-out-wide
-    wide-requires
+    target-at-requires
     nodes-holds
     ticks-holds
     is-failing-requires
-    found-at-requires
-    add-x
+    refused-at-requires
+    add-tick
     ticks-less
     ticks-again
-    add-u
+    add-node
     nodes-less
     nodes-again
     add-i

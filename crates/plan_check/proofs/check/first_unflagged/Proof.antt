@@ -11,11 +11,11 @@ use Rattle.plan_check.proofs.check.first_unflagged.Statement.{statement
 use Rattle.plan_check.proofs.check.first_unflagged.Tie as tie
 
 abbrev Inv-loop : tie.InvT-loop
-Inv-loop network l plan pl arcs a₀ a =
+Inv-loop network plan l arcs a₀ a =
     (a ≤ arcs) × (first a (fails20 (partitionOf (decode network)) (decodePlan plan)) ≡ a)
 
 abbrev μ-loop : tie.MeasureT-loop
-μ-loop network l plan pl arcs a₀ a = arcs - a
+μ-loop network plan l arcs a₀ a = arcs - a
 
 loop-holds : tie.Need-loop-holds Inv-loop μ-loop
 loop-holds c = (search needs, search firsts)

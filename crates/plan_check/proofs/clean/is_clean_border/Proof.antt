@@ -1,51 +1,40 @@
 -- `plan_check::clean::is_clean_border` meets its contract: every node that was passed is clean at every tick.
+use mathlib.Core.Path.{refl}
 use Prim.Native.Nat.{_-_}
-use lib.Dec.{lit≤}
 use borrow.Author.Tests.{not-false}
 use Rattle.network.specs.Decode.{decode}
 use Rattle.network.specs.Town.{partitionOf}
 use Rattle.plan.specs.PlanDecode.{decodePlan}
-use Rattle.plan_check.specs.Ranges.{up-less, up-fits}
+use borrow.Author.Needs.{needs}
 use Rattle.plan_check.specs.Clean.{CleanBorder, no-yes, clean-none, clean-more, clean-end}
 use Rattle.plan_check.proofs.clean.is_clean_border.Statement.{statement}
 use Rattle.plan_check.proofs.clean.is_clean_border.Tie as tie
 
 abbrev Inv-loop : tie.InvT-loop
-Inv-loop network l plan pl points first next starts border i nodes c u₀ u =
-    CleanBorder (partitionOf (decode network)) (decodePlan plan) u (l .period) i
+Inv-loop network plan l points first next starts target nodes node₀ node =
+    CleanBorder (partitionOf (decode network)) (decodePlan plan) node (l .network .period) (target .number)
 
 abbrev μ-loop : tie.MeasureT-loop
-μ-loop network l plan pl points first next starts border i nodes c u₀ u = nodes - u
-
-cell-requires : tie.Need-cell-requires Inv-loop μ-loop
-cell-requires c κs =
-    let pre = c .before .before .pre in
-    (pre .prepared .check .town .laid, pre .node)
+μ-loop network plan l points first next starts target nodes node₀ node = nodes - node
 
 loop-holds : tie.Need-loop-holds Inv-loop μ-loop
 loop-holds c = clean-none _
 
 is-clean-node-requires : tie.Need-is-clean-node-requires Inv-loop μ-loop
-is-clean-node-requires c κs = (
-  c .before .before .before .before .before .pre,
-  (c .loop-test .taken, c .before .before .cell .ensures .0),
-)
+is-clean-node-requires c κs = search needs
 
 returns : tie.Need-returns Inv-loop μ-loop
 returns c = no-yes
 
-add-u : tie.Need-add-u Inv-loop μ-loop
-add-u c =
-    let d = c .before .before in
-    up-fits (d .loop-test .taken)
-    (d .before .before .before .before .before .pre .prepared .check .town .small .nodes-most) (lit≤ tt)
+add-node : tie.Need-add-node Inv-loop μ-loop
+add-node c = search needs
 
 loop-less : tie.Need-loop-less Inv-loop μ-loop
-loop-less c = up-less (c .before .before .loop-test .taken)
+loop-less c = search needs
 
 loop-again : tie.Need-loop-again Inv-loop μ-loop
 loop-again c =
-    clean-more _ _ (c .before .before .before .loop .inv)
+    clean-more _ _ (c .before .before .before .loop .inv) refl
     (c .before .is-clean-node .ensures (not-false _ (c .if1 .left)))
 
 returns-2 : tie.Need-returns-2 Inv-loop μ-loop
@@ -57,11 +46,10 @@ is-clean-border-spec =
     (tie.spec
     Inv-loop
     μ-loop
-    cell-requires
     loop-holds
     is-clean-node-requires
     returns
-    add-u
+    add-node
     loop-less
     loop-again
     returns-2)

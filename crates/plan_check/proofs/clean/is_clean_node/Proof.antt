@@ -1,45 +1,40 @@
 -- `plan_check::clean::is_clean_node` meets its contract: every tick that was passed is clean.
+use mathlib.Core.Path.{refl}
 use Prim.Native.Nat.{_-_}
-use lib.Dec.{lit≤}
 use borrow.Author.Tests.{not-false}
 use Rattle.network.specs.Decode.{decode}
 use Rattle.network.specs.Town.{partitionOf}
 use Rattle.plan.specs.PlanDecode.{decodePlan}
-use Rattle.plan_check.specs.Ranges.{up-less, up-fits}
+use borrow.Author.Needs.{needs}
 use Rattle.plan_check.specs.Clean.{CleanNode, no-yes, clean-none, clean-more, clean-end}
 use Rattle.plan_check.proofs.clean.is_clean_node.Statement.{statement}
 use Rattle.plan_check.proofs.clean.is_clean_node.Tie as tie
 
 abbrev Inv-loop : tie.InvT-loop
-Inv-loop network l plan pl points first next starts border c i u period x₀ x =
-    CleanNode (partitionOf (decode network)) (decodePlan plan) x i u
+Inv-loop network plan l points first next starts target node period tick₀ tick =
+    CleanNode (partitionOf (decode network)) (decodePlan plan) tick (target .number) node
 
 abbrev μ-loop : tie.MeasureT-loop
-μ-loop network l plan pl points first next starts border c i u period x₀ x = period - x
+μ-loop network plan l points first next starts target node period tick₀ tick = period - tick
 
 loop-holds : tie.Need-loop-holds Inv-loop μ-loop
 loop-holds c = clean-none _
 
 is-clean-at-requires : tie.Need-is-clean-at-requires Inv-loop μ-loop
-is-clean-at-requires c κs =
-    let pre = c .before .before .before .before .pre in
-    (pre .0, (pre .1 .0, c .loop-test .taken, pre .1 .1))
+is-clean-at-requires c κs = search needs
 
 returns : tie.Need-returns Inv-loop μ-loop
 returns c = no-yes
 
-add-x : tie.Need-add-x Inv-loop μ-loop
-add-x c =
-    let d = c .before .before in
-    up-fits (d .loop-test .taken)
-    (d .before .before .before .before .pre .0 .prepared .check .town .small .period-most) (lit≤ tt)
+add-tick : tie.Need-add-tick Inv-loop μ-loop
+add-tick c = search needs
 
 loop-less : tie.Need-loop-less Inv-loop μ-loop
-loop-less c = up-less (c .before .before .loop-test .taken)
+loop-less c = search needs
 
 loop-again : tie.Need-loop-again Inv-loop μ-loop
 loop-again c =
-    clean-more _ _ (c .before .before .before .loop .inv)
+    clean-more _ _ (c .before .before .before .loop .inv) refl
     (c .before .is-clean-at .ensures (not-false _ (c .if1 .left)))
 
 returns-2 : tie.Need-returns-2 Inv-loop μ-loop
@@ -54,7 +49,7 @@ is-clean-node-spec =
     loop-holds
     is-clean-at-requires
     returns
-    add-x
+    add-tick
     loop-less
     loop-again
     returns-2)

@@ -8,11 +8,12 @@ use Rattle.plan_tests.proofs.tests.any_passing.Statement.{statement}
 use Rattle.plan_tests.proofs.tests.any_passing.Tie as tie
 
 abbrev Inv-loop : tie.InvT-loop
-Inv-loop network l plan pl points first next starts asked i u value x arcs a₀ a =
-    Passing network l (decodePlan plan) first next asked i u value x a
+Inv-loop network plan l points first next starts asked t value arcs u a₀ a =
+    Passing network (l .network) (decodePlan plan) first next asked (t .target .number) (t .node)
+    value (t .tick) a
 
 abbrev μ-loop : tie.MeasureT-loop
-μ-loop network l plan pl points first next starts asked i u value x arcs a₀ a = arcs - a
+μ-loop network plan l points first next starts asked t value arcs u a₀ a = arcs - a
 
 mul-wide : tie.Need-mul-wide Inv-loop μ-loop
 mul-wide c = search needs

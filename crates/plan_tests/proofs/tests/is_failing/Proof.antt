@@ -15,20 +15,19 @@ profile-at-requires : tie.Need-profile-at-requires
 profile-at-requires c κs = (search needs, (search needs, (search needs, search needs, search needs)))
 
 any-passing-requires : tie.Need-any-passing-requires
-any-passing-requires c κs = (search needs, (search needs, ((search needs, search needs, tt), search givings)))
+any-passing-requires c κs = ((search needs, search needs, search needs, search givings), tt)
 
 returns-2 : tie.Need-returns-2
 returns-2 c = search numbers
 
 is-unattained-requires : tie.Need-is-unattained-requires
-is-unattained-requires c κs = (search needs, (search needs, (search needs, (search needs, search givings))))
+is-unattained-requires c κs = (search needs, search needs, search needs, search givings)
 
 returns-3 : tie.Need-returns-3
 returns-3 c = search numbers
 
 is-unflagged-toward-requires : tie.Need-is-unflagged-toward-requires
-is-unflagged-toward-requires c κs =
-    (search needs, (search needs, (search needs, (search needs, search givings))))
+is-unflagged-toward-requires c κs = (search needs, search needs, search needs, search givings)
 
 returns-4 : tie.Need-returns-4
 returns-4 c = search numbers

@@ -11,7 +11,7 @@ is-number-requires : tie.Need-is-number-requires
 is-number-requires c κs = search needs
 
 any-passing-requires : tie.Need-any-passing-requires
-any-passing-requires c κs = (search needs, (search needs, ((search needs, search needs, tt), search needs)))
+any-passing-requires c κs = (search needs, tt)
 
 returns-2 : tie.Need-returns-2
 returns-2 c = search failings

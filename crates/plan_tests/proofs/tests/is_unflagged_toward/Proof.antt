@@ -9,14 +9,10 @@ is-number-requires : tie.Need-is-number-requires
 is-number-requires c κs = search needs
 
 any-passing-requires : tie.Need-any-passing-requires
-any-passing-requires c κs = (search needs, (search needs, ((search needs, search needs, tt), search needs)))
-
-cell-requires : tie.Need-cell-requires
-cell-requires c κs = search needs
+any-passing-requires c κs = (search needs, tt)
 
 any-passing-requires-2 : tie.Need-any-passing-requires-2
-any-passing-requires-2 c κs =
-    (search needs, (search needs, ((search needs, search needs, search failings), search needs)))
+any-passing-requires-2 c κs = search needs
 
 returns : tie.Need-returns
 returns c = search failings
@@ -33,7 +29,6 @@ is-unflagged-toward-spec =
     (tie.spec
     is-number-requires
     any-passing-requires
-    cell-requires
     any-passing-requires-2
     returns
     returns-2

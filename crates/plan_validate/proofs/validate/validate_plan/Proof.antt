@@ -3,7 +3,8 @@
 use native.Mathlib.Omega.{arith}
 use borrow.Author.Needs.{needs}
 use Rattle.theory_loops.specs.Pick.{picks}
-use Rattle.plan.specs.PlanValidate.{length-fine, planned}
+use Rattle.file_blocks.specs.Form.{length-fine}
+use Rattle.plan.specs.PlanValidate.{planned}
 use Rattle.plan_validate.proofs.validate.validate_plan.Statement.{statement}
 use Rattle.plan_validate.proofs.validate.validate_plan.Tie as tie
 
@@ -24,7 +25,7 @@ cast-refused : tie.Need-cast-refused
 cast-refused c =
     omega (
       arith,
-      length-fine _ _ (c .before .before .before .is-bad-length .ensures) (c .before .before .if1 .left),
+      length-fine _ _ _ (c .before .before .before .is-bad-length .ensures) (c .before .before .if1 .left),
     )
 
 refused-requires-2 : tie.Need-refused-requires-2
@@ -41,7 +42,7 @@ validate-first-requires c κs = (
     search needs,
     omega (
       arith,
-      length-fine _ _ (c .before .before .before .is-bad-length .ensures) (c .before .before .if1 .left),
+      length-fine _ _ _ (c .before .before .before .is-bad-length .ensures) (c .before .before .if1 .left),
     ),
   ),
 )

@@ -1,6 +1,5 @@
 -- `search_labels::reach::reach` meets its contract: by the chain of the arcs out of each node, and from the
 -- source's label alone, all is settled.
-use Rattle.search_labels.specs.Reach.{started-own, started-below, started-kept}
 use Rattle.search_arcs.specs.Town.{fresh-tables}
 use borrow.Author.Needs.{needs}
 use Rattle.search_labels.proofs.reach.reach.Statement.{statement}
@@ -18,17 +17,13 @@ settle-all-requires c κs =
     let h = r .before .before in
     let s = h .before .before .before .before .before .before .pre in
     let n = s .1 in
-    let a = r .start .ensures in
-    (s .0, (h .chain .ensures, ((n .0, started-below a (n .1)), started-own a (n .2))))
+    (s .0, (h .chain .ensures, ((n .0, n .1), rw (n .2) at (r .start .ensures))))
 
 same-length : tie.Need-same-length
 same-length c = search needs
 
 returns : tie.Need-returns
-returns c =
-    let t = c .before .before in
-    let r = t .before .before .before .before .before .before in
-    (t .settle-all .ensures .0, search (started-kept, r .start .ensures, t .settle-all .ensures .1))
+returns c = c .before .before .settle-all .ensures
 
 pub reach-spec : {M : Type 1} → statement M
 reach-spec =

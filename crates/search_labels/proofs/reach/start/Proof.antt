@@ -10,11 +10,11 @@ use Rattle.search_labels.proofs.reach.start.Statement.{statement}
 use Rattle.search_labels.proofs.reach.start.Tie as tie
 
 abbrev Inv-loop : tie.InvT-loop
-Inv-loop labels₀ source departure v₀ v-end labels v =
+Inv-loop labels₀ q v₀ v-end labels v =
     (v ≤ v-end) × (v-end ≡ length labels₀) × Filled 0 v (λ _. never) labels₀ labels
 
 abbrev μ-loop : tie.MeasureT-loop
-μ-loop labels₀ source departure v₀ v-end labels v = v-end - v
+μ-loop labels₀ q v₀ v-end labels v = v-end - v
 
 loop-holds : tie.Need-loop-holds Inv-loop μ-loop
 loop-holds c = (search needs, search needs, search fills)
@@ -33,6 +33,9 @@ loop-less c = search needs
 
 loop-again : tie.Need-loop-again Inv-loop μ-loop
 loop-again c = (search needs, search needs, search fills)
+
+cast-labels : tie.Need-cast-labels Inv-loop μ-loop
+cast-labels c = search needs
 
 mul-labels-2 : tie.Need-mul-labels-2 Inv-loop μ-loop
 mul-labels-2 c = search needs
@@ -58,6 +61,7 @@ start-spec =
     add-v
     loop-less
     loop-again
+    cast-labels
     mul-labels-2
     slice-write-labels-2
     same-length

@@ -10,20 +10,13 @@ chain-requires : tie.Need-chain-requires
 chain-requires c κs = (search needs, search fresh-tables)
 
 count-requires : tie.Need-count-requires
-count-requires c κs =
-    let h = c .before .before in
-    let s = h .before .before .before .before .before .before .before .pre in
-    (s .0, (h .chain .ensures, s .1))
+count-requires c κs = (search needs, search needs)
 
 returns : tie.Need-returns
 returns c = search listed-short
 
 write-requires : tie.Need-write-requires
-write-requires c κs =
-    let k = c .before .before .before .before in
-    let h = k .before .before .before in
-    let s = h .before .before .before .before .before .before .before .pre in
-    (s .0, (h .chain .ensures, (s .1 .0, (s .1 .1, (k .count .ensures, search needs)))))
+write-requires c κs = (search needs, (search needs, (search needs, search needs)))
 
 same-length : tie.Need-same-length
 same-length c = search needs

@@ -9,11 +9,14 @@ use Rattle.trip.proofs.flagged.drive_flagged.Tie as tie
 layout-requires : tie.Need-layout-requires
 layout-requires c κs = search needs
 
+cast-cell : tie.Need-cast-cell
+cast-cell c = search needs
+
 cell-requires : tie.Need-cell-requires
-cell-requires c κs = (
-  search drive-laid,
-  omega (arith, drive-sizes _ _ (c .layout .ensures), c .before .before .before .before .before .pre .1 .1),
-)
+cell-requires c κs =
+    let l = c .before in
+    let a = l .before .before .before .before .before .pre .1 .1 in
+    (search drive-laid, omega (arith, drive-sizes _ _ (l .layout .ensures), a .to-node))
 
 layout-requires-2 : tie.Need-layout-requires-2
 layout-requires-2 c κs = search flags
@@ -38,7 +41,7 @@ returns c =
     let d = c .before .before .before .before in
     let m = d .before .before .before .before in
     let l = m .before .before in
-    let s = l .before .before .before .before .before .before .before in
+    let s = l .before .before .before .before .before .before .before .before in
     flagged-driven (s .pre .0) (s .pre .1 .0) _ _ _ _ _ (l .before .cell .ensures .0) (l .layout2 .ensures)
     (m .fill-mask .ensures)
     _ _ _ _ _ _ _ (d .drive .ensures)
@@ -48,6 +51,7 @@ drive-flagged-spec =
     tie.close
     (tie.spec
     layout-requires
+    cast-cell
     cell-requires
     layout-requires-2
     fill-mask-requires

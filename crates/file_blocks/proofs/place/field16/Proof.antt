@@ -1,7 +1,7 @@
--- `network::read::field` meets its contract.
+-- `file_blocks::place::field16` meets its contract.
 use borrow.Author.Needs.{needs}
-use Rattle.network.proofs.read.field.Statement.{statement}
-use Rattle.network.proofs.read.field.Tie as tie
+use Rattle.file_blocks.proofs.place.field16.Statement.{statement}
+use Rattle.file_blocks.proofs.place.field16.Tie as tie
 
 offset-requires : tie.Need-offset-requires
 offset-requires c κs = search needs
@@ -18,5 +18,5 @@ cast-result c = search needs
 returns : tie.Need-returns
 returns c = (rw (c .before .offset .ensures) at (c .le16 .ensures), search needs)
 
-pub field-spec : {M : Type 1} → statement M
-field-spec = tie.close (tie.spec offset-requires add-le16 le16-requires cast-result returns)
+pub field16-spec : {M : Type 1} → statement M
+field16-spec = tie.close (tie.spec offset-requires add-le16 le16-requires cast-result returns)

@@ -1,8 +1,8 @@
--- `network_open::validate::is_bad_length` meets its contract.
+-- `file_blocks::form::is_bad_length` meets its contract.
 use Rattle.theory_loops.specs.Pick.{picks}
-use Rattle.network.specs.Validate.{badLength}
-use Rattle.network_open.proofs.validate.is_bad_length.Statement.{statement}
-use Rattle.network_open.proofs.validate.is_bad_length.Tie as tie
+use Rattle.file_blocks.specs.Form.{badLength}
+use Rattle.file_blocks.proofs.form.is_bad_length.Statement.{statement}
+use Rattle.file_blocks.proofs.form.is_bad_length.Tie as tie
 
 returns : tie.Need-returns
 unfolding badLength
