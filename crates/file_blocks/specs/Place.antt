@@ -45,16 +45,19 @@ module _ (from per size : ℕ) (pos : 0 < per) (fit : size * per ≤ entriesSize
   pub block-below : (n i : ℕ) → i < n → i / per < blocks per n
   block-below n i l = le-div-iff-mul-le pos .1 (omega (arith, div-mul-le-self i per))
 
--- so it stands in the file
+  -- so it stands before the run's end
+  pub entry-in : (n i : ℕ) → i < n → offset from per size i + size ≤ blockSize * (from + blocks per n)
+  entry-in n i l = omega (arith, offset-in i, block-below n i l)
+
+-- and in a file that has the run
 pub entry-stands : {from per size n : ℕ} {file : List ℕ} → RunInFile from per size n file
     → length file ≤ 2 ^ 63 → {i : ℕ} → i < n → EntryInFile from per size i file
 entry-stands {from} {per} {size} {n} s few {i} l =
-    let b = block-below from per size (s .pos) (s .fit) n i l in
     record {
       pos = s .pos;
       fit = s .fit;
-      room = omega (arith, s .room, offset-in from per size (s .pos) (s .fit) i, b);
-      near = omega (arith, s .room, b);
+      room = omega (arith, s .room, entry-in from per size (s .pos) (s .fit) n i l);
+      near = omega (arith, s .room, block-below from per size (s .pos) (s .fit) n i l);
     }
 
 -- every index is that of an entry in a block, and back

@@ -7,15 +7,18 @@ use native.Mathlib.Nat.{mul-add-div, mul-add-mod-self-left, div-eq-of-lt, mod-eq
 use native.Mathlib.Nat.{mul-le-mul-right, mod-lt, div-add-mod, min-le-left, le-div-iff-mul-le, mul-comm}
 use native.Mathlib.Decide.{decLt}
 use native.Mathlib.Omega.{arith}
-use lib.ListN.{getD}
+use lib.ListN.{length, getD}
+use lib.Seq.{ext-getD}
 use lib.Dec.{ltb}
 use borrow.Author.Tests.{lt-ltb, le-ltb}
+use Rattle.theory_loops.specs.Fill.{tab, length-tab, getD-tab}
 use Rattle.file_fields.specs.Fields.{Bytes, number, byteOf, number-byteOf, number-same}
 use Rattle.file_fields.specs.Fields.{le16-byte, le32-byte, le16-is, le32-is}
 use Rattle.file_blocks.specs.Place.{offset, blocks, entriesIn, index-in, index-below, offset-at}
 use Rattle.file_blocks.specs.Place.{block-below}
 use Rattle.file_blocks.specs.Form.{formed, runFormed, Formed, formed-parts, parts-formed}
 use Rattle.file_fields.specs.Block.{blockSize, summedSize, headSize, entriesSize}
+use Rattle.file_blocks.specs.Bytes.{fileOf, body-byte}
 use Rattle.file_blocks.specs.Run.{headByte, entryByte, runBody, BlockLaid, RunLaid}
 
 -- a head's bytes, field by field
@@ -225,27 +228,66 @@ module _ (file : List ℕ) (from kind per size n : ℕ) (f : ℕ → ℕ → ℕ
   formed-run j l h = laid-formed file (from + j) kind (entriesIn per n j) size (λ e r. f (per * j + e) r) h l
       (omega (arith, fits j, mul-le-mul-right (entriesIn per n j) some))
 
-  module _ (h : (j : ℕ) → j < blocks per n → RunLaid file from kind per size n f j) (i : ℕ) (l : i < n) where
-    pub run-byte : (r : ℕ) → r < size → getD file (offset from per size i + r) 0 ≡ f i r
-    unfolding offset
-    run-byte r m =
-        let q : per * (i / per) + i % per ≡ i = div-add-mod i per in
-        let t : getD file (blockSize * (from + i / per) + headSize + size * (i % per) + r) 0
-        ≡ f (per * (i / per) + i % per) r =
-        h (i / per) (block-below from per size pos fit n i l) .entry (i % per) r (index-in per pos n i l)
-        m in
-        rw q at t
+  module _ (h : (j : ℕ) → j < blocks per n → RunLaid file from kind per size n f j) where
+    module _ (i : ℕ) (l : i < n) where
+      run-byte : (r : ℕ) → r < size → getD file (offset from per size i + r) 0 ≡ f i r
+      unfolding offset
+      run-byte r m =
+          let q : per * (i / per) + i % per ≡ i = div-add-mod i per in
+          let t : getD file (blockSize * (from + i / per) + headSize + size * (i % per) + r) 0
+          ≡ f (per * (i / per) + i % per) r =
+          h (i / per) (block-below from per size pos fit n i l) .entry (i % per) r (index-in per pos n i l)
+          m in
+          rw q at t
 
-    -- so a field of entry i is the number that its bytes make
-    pub run-field : (at w : ℕ) → at + w ≤ size
-        → number w (λ k. getD file (offset from per size i + at + k) 0) ≡ number w (λ k. f i (at + k))
-    run-field at w m =
-        number-same w (λ k. getD file (offset from per size i + at + k) 0) (λ k. f i (at + k))
-        (λ k q.
-        let e : offset from per size i + at + k ≡ offset from per size i + (at + k) = omega arith in
-        rw e (run-byte (at + k) (omega arith)))
+      -- so a field of entry i is the number that its bytes make
+      run-field : (at w : ℕ) → at + w ≤ size
+          → number w (λ k. getD file (offset from per size i + at + k) 0) ≡ number w (λ k. f i (at + k))
+      run-field at w m =
+          number-same w (λ k. getD file (offset from per size i + at + k) 0) (λ k. f i (at + k))
+          (λ k q.
+          let e : offset from per size i + at + k ≡ offset from per size i + (at + k) = omega arith in
+          rw e (run-byte (at + k) (omega arith)))
 
-    pub run-value : (at w v : ℕ) → at + w ≤ size → v < 256 ^ w → ((k : ℕ) → k < w → f i (at + k) ≡ byteOf v k)
-        → number w (λ k. getD file (offset from per size i + at + k) 0) ≡ v
-    run-value at w v m q g =
-        run-field at w m ∙ (number-same w (λ k. f i (at + k)) (byteOf v) g ∙ number-byteOf w v q)
+      run-value : (at w v : ℕ) → at + w ≤ size → v < 256 ^ w → ((k : ℕ) → k < w → f i (at + k) ≡ byteOf v k)
+          → number w (λ k. getD file (offset from per size i + at + k) 0) ≡ v
+      run-value at w v m q g =
+          run-field at w m ∙ (number-same w (λ k. f i (at + k)) (byteOf v) g ∙ number-byteOf w v q)
+
+    -- and the table of one field of all entries is the list of their values
+    pub run-table : (at w : ℕ) (g : ℕ → ℕ) (s : List ℕ) → at + w ≤ size → length s ≡ n
+        → ((i : ℕ) → getD s i 0 < 256 ^ w)
+        → ((i : ℕ) → g i ≡ number w (λ k. getD file (offset from per size i + at + k) 0))
+        → ((i k : ℕ) → k < w → f i (at + k) ≡ byteOf (getD s i 0) k) → tab n g ≡ s
+    run-table at w g s m e v t q =
+        ext-getD 0 (tab n g) s (length-tab n g ∙ sym e)
+        (λ i l.
+        let k : i < n = omega (arith, length-tab n g) in
+        getD-tab n g i k ∙ (t i ∙ run-value i k at w (getD s i 0) m (v i) (q i)))
+
+-- the run's blocks in a file whose body has them
+pub file-run : (body : ℕ → ℕ → ℕ) (count from kind per size n : ℕ) (f : ℕ → ℕ → ℕ) → 0 < per → 0 < size
+    → size * per ≤ entriesSize → (j : ℕ) → from + j < count
+    → body (from + j) ≡ runBody kind per size n f from (from + j)
+    → RunLaid (fileOf body count) from kind per size n f j
+file-run body count from kind per size n f pos some fit j l e =
+    run-laid (fileOf body count) from kind per size n f pos some fit j
+    (λ o k. body-byte body count (from + j) o l k ∙ ap (λ (g : ℕ → ℕ). g o) e)
+
+-- A RUN GIVEN BY OTHER BYTES that agree where it has any: entries below n
+module _ (kind per size n : ℕ) (f g : ℕ → ℕ → ℕ) (pos : 0 < per) (h : (i r : ℕ) → i < n → f i r ≡ g i r) where
+  same-entries : (j k : ℕ)
+      → entryByte size (entriesIn per n j) (λ e r. f (per * j + e) r) k
+      ≡ entryByte size (entriesIn per n j) (λ e r. g (per * j + e) r) k
+  unfolding entryByte
+  same-entries j k = elim (decLt (k / size) (entriesIn per n j)) [
+    | yes l ↦ rw (lt-ltb (k / size) (entriesIn per n j) l)
+        (h (per * j + k / size) (k % size) (index-below per pos n j (k / size) l))
+    | no l ↦ rw (le-ltb (k / size) (entriesIn per n j) (omega arith))
+  ]
+
+  pub same-body : (from b o : ℕ) → runBody kind per size n f from b o ≡ runBody kind per size n g from b o
+  unfolding runBody
+  same-body from b o =
+      ap (λ (x : ℕ). cond (ltb o headSize) (headByte kind (entriesIn per n (b - from)) b o) x)
+      (same-entries (b - from) (o - headSize))

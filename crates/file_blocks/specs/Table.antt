@@ -6,9 +6,9 @@ use Prim.Native.Nat.{ℕ, _+_, _-_, _*_, _≤_, _<_, min}
 use native.Mathlib.Nat.{mul-le-mul-left, lt-div-mul-add, mul-comm}
 use native.Mathlib.Omega.{arith}
 use lib.ListN.{length, getD, set}
-use Rattle.theory_loops.specs.Fill.{Filled, fill-none, fill-up, fill-end, tab, getD-tab}
+use Rattle.theory_loops.specs.Fill.{Filled, fill-none, fill-up, fill-end, fill-within, fill-join}
+use Rattle.theory_loops.specs.Fill.{tab, getD-tab}
 use Rattle.file_fields.specs.Fields.{le16, le32, le64}
-use Rattle.file_fields.specs.Put.{fill-within, fill-join}
 use Rattle.file_blocks.specs.Place.{offset, blocks, entriesIn, RunInFile, offset-at, block-starts}
 use Rattle.file_fields.specs.Block.{blockSize, headSize}
 

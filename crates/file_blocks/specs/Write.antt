@@ -6,12 +6,13 @@ use mathlib.Core.List.{List}
 use Prim.Native.Nat.{ℕ, _+_, _-_, _*_, _≤_, _<_}
 use native.Mathlib.Omega.{arith}
 use lib.ListN.{length, take, drop}
-use Rattle.theory_loops.specs.Fill.{Filled, fill-none}
+use Rattle.theory_loops.specs.Fill.{Filled, tab, fill-none, fill-within, fill-join}
 use Rattle.file_fields.specs.Fields.{byteOf}
-use Rattle.file_fields.specs.Put.{put, put-filled, put-pair, fill-put}
+use Rattle.file_fields.specs.Put.{put, put-filled, put-join, fill-put}
 use Rattle.file_fields.specs.Sum.{sums, summedPart, sums-below, sums-at}
 use Rattle.file_fields.specs.declared.sum.Sums.{Sums}
-use Rattle.file_blocks.specs.Bytes.{check}
+use Rattle.file_blocks.specs.Bytes.{check, fileByte, fileByte-at, stored-body, stored-check}
+use Rattle.file_blocks.specs.Bytes.{checked-body}
 use Rattle.file_blocks.specs.Run.{headByte}
 use Rattle.file_blocks.specs.RunLaws.{head-first, head-entries, head-number}
 use Rattle.file_fields.specs.Block.{blockSize, summedSize, headSize, summedWords}
@@ -74,6 +75,34 @@ unfolding sealed
 sealed-filled s b l =
     put-filled 4 s (blockSize * b + summedSize) (check (sums (summedPart s b) summedWords)) (omega arith)
 
+-- so a block whose other bytes are a file's is made whole by its check
+module _ (body : ℕ → ℕ → ℕ) (b : ℕ) (old new : List ℕ) (room : blockSize * b + blockSize ≤ length old)
+    (w : Filled (blockSize * b) (blockSize * b + summedSize) (fileByte body) old new) where
+  over : summedPart new b ≡ tab summedSize (body b)
+  over = checked-body body new b (omega (arith, w .long))
+      (λ o l. w .written (blockSize * b + o) (omega arith) (omega arith)
+      ∙ (fileByte-at body b o (omega arith) ∙ stored-body body b o l))
+
+  check-here : (k : ℕ) → blockSize * b + summedSize ≤ k → k < blockSize * b + summedSize + 4
+      → byteOf (check (sums (summedPart new b) summedWords)) (k - (blockSize * b + summedSize))
+      ≡ fileByte body k
+  check-here k l r =
+      let q : blockSize * b + (summedSize + (k - (blockSize * b + summedSize))) ≡ k = omega arith in
+      let t : fileByte body (blockSize * b + (summedSize + (k - (blockSize * b + summedSize))))
+      ≡ byteOf (check (sums (tab summedSize (body b)) summedWords)) (k - (blockSize * b + summedSize)) =
+      fileByte-at body b (summedSize + (k - (blockSize * b + summedSize))) (omega arith)
+      ∙ stored-check body b (k - (blockSize * b + summedSize)) in
+      rw over (sym (rw q at t))
+
+  pub sealed-block : Filled (blockSize * b) (blockSize * (b + 1)) (fileByte body) old (sealed new b)
+  sealed-block =
+      let q : blockSize * b + summedSize + 4 ≡ blockSize * (b + 1) = omega arith in
+      rw (← q)
+      (fill-join (fileByte body) (blockSize * b) (blockSize * b + summedSize) (blockSize * b + summedSize + 4)
+      old new (sealed new b) (omega arith) (omega arith) w
+      (fill-within _ (fileByte body) (blockSize * b + summedSize) (blockSize * b + summedSize + 4) new
+      (sealed new b) check-here (sealed-filled new b (omega (arith, w .long)))))
+
 -- FOR THE CODE, which stores one field after the other
 pub headed-is : (s t u v : List ℕ) (b kind entries : ℕ) → t ≡ put 2 s (blockSize * b) kind
     → u ≡ put 2 t (blockSize * b + 2) entries → v ≡ put 4 u (blockSize * b + 4) b
@@ -89,4 +118,4 @@ unfolding sealed
 sealed-is s t u b r q e f =
     let c : r ≡ sums (summedPart s b) summedWords = sums-at s b r q in
     let l : r .a < 65536 = rw c (sums-below (summedPart s b) summedWords .0) in
-    put-pair s t u (blockSize * b + summedSize) (r .a) (r .b) l e f ∙ rw c
+    put-join 2 2 s t u (blockSize * b + summedSize) (r .a) (r .b) l e f ∙ rw c

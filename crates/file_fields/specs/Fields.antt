@@ -100,6 +100,10 @@ module _ (s : List ℕ) (o : ℕ) where
   unfolding number
   le32-number = simp (add-zero, add-assoc) (omega arith)
 
+  pub le64-number : le64 s o ≡ number 8 (λ k. getD s (o + k) 0)
+  unfolding number
+  le64-number = simp (add-zero, add-assoc) (omega arith)
+
 -- the bytes back from a field
 module _ (s : List ℕ) (b : Bytes s) (o k : ℕ) where
   made-of : (w : ℕ) → k < w → byteOf (number w (λ k. getD s (o + k) 0)) k ≡ getD s (o + k) 0

@@ -3,13 +3,12 @@
 use mathlib.Core.Path.{_≡_, refl, ap, _∙_}
 use mathlib.Core.List.{List}
 use Prim.Native.Nat.{ℕ, zero, suc, _+_, _-_, _*_, _/_, _%_, _^_, _≤_, _<_}
-use native.Mathlib.Nat.{add-zero}
-use native.Mathlib.Decide.{decLt}
+use native.Mathlib.Nat.{add-zero, mul-assoc, pow-succ'}
 use native.Mathlib.Omega.{arith}
-use lib.ListN.{length, getD, set, length-set}
+use lib.ListN.{length, set}
 use lib.Seq.{sets}
 use Rattle.theory_loops.specs.Fill.{Filled, tab, fill-none, fill-up, fill-end}
-use Rattle.file_fields.specs.Fields.{number, byteOf, number-byteOf, number-same}
+use Rattle.file_fields.specs.Fields.{byteOf}
 
 -- the list with the w bytes of v at byte o and after
 unfoldable pub put : ℕ → List ℕ → ℕ → ℕ → List ℕ
@@ -52,51 +51,40 @@ put-filled w s o v h =
     let q : k ≡ o + k - o = omega arith in
     ap (byteOf v) q)
 
--- a part said with other values that agree on it
-pub fill-within : (f g : ℕ → ℕ) (a b : ℕ) (old new : List ℕ) → ((k : ℕ) → a ≤ k → k < b → f k ≡ g k)
-    → Filled a b f old new → Filled a b g old new
-fill-within f g a b old new e h =
-    record {
-      long = h .long;
-      written = λ k l m. h .written k l m ∙ e k l m;
-      before = h .before;
-      after = h .after;
-    }
-
--- a part written on by a second loop
-pub fill-join : (f : ℕ → ℕ) (a m b : ℕ) (old mid new : List ℕ) → a ≤ m → m ≤ b → Filled a m f old mid
-    → Filled m b f mid new → Filled a b f old new
-fill-join f a m b old mid new l k g h =
-    record {
-      long = h .long ∙ g .long;
-      written = λ i p q. elim (decLt i m) [
-        | yes n ↦ h .before i n ∙ g .written i p n
-        | no n ↦ h .written i (omega arith) q
-      ];
-      before = λ i p. h .before i (omega arith) ∙ g .before i p;
-      after = λ i p. h .after i p ∙ g .after i (omega arith);
-    }
-
 -- FOR THE CODE, which stores a byte, or a field of two bytes, after the other
 pub put-two : (s : List ℕ) (o v : ℕ) → v < 65536 → set (set s o (v % 256)) (o + 1) (v / 256) ≡ put 2 s o v
 unfolding put
 put-two s o v l = let q : v / 256 % 256 ≡ v / 256 = omega arith in rw q
 
-pub put-pair : (s t u : List ℕ) (o x y : ℕ) → x < 65536 → t ≡ put 2 s o x → u ≡ put 2 t (o + 2) y
-    → u ≡ put 4 s o (x + 65536 * y)
+-- of two fields, one behind the other, the low one of w bytes
+pub put-join : (w m : ℕ) (s t u : List ℕ) (o x y : ℕ) → x < 256 ^ w → t ≡ put w s o x → u ≡ put m t (o + w) y
+    → u ≡ put (w + m) s o (x + 256 ^ w * y)
 unfolding put
-put-pair s t u o x y l e f =
-    let q₀ : (x + 65536 * y) % 256 ≡ x % 256 = omega arith in
-    let d : (x + 65536 * y) / 256 ≡ x / 256 + 256 * y = omega arith in
-    let q₁ : (x / 256 + 256 * y) % 256 ≡ x / 256 % 256 = omega arith in
-    let q₂ : (x / 256 + 256 * y) / 256 ≡ y = omega arith in
-    let o₂ : o + 2 ≡ o + 1 + 1 = omega arith in
-    rw (f, e, q₀, d, q₁, q₂, o₂)
+put-join zero m s t u o x y l e f =
+    let z : 0 + m ≡ m = omega arith in
+    let v : x + 256 ^ 0 * y ≡ y = omega arith in
+    rw (z, v, ← e, ← (add-zero o)) f
+put-join (suc w) m s t u o x y l e f =
+    let z : suc w + m ≡ suc (w + m) = omega arith in
+    let p : o + suc w ≡ o + 1 + w = omega arith in
+    let v : x + 256 ^ suc w * y ≡ x + 256 * (256 ^ w * y) = rw (pow-succ' 256 w, mul-assoc) in
+    let q : (x + 256 * (256 ^ w * y)) % 256 ≡ x % 256 = omega arith in
+    let d : (x + 256 * (256 ^ w * y)) / 256 ≡ x / 256 + 256 ^ w * y = omega arith in
+    rw (z, v, put, q, d) (put-join w m (set s o (x % 256)) t u (o + 1) (x / 256) y
+    (omega (arith, pow-succ' 256 w)) e (rw p at f))
 
 pub put-four : (s t u : List ℕ) (o v : ℕ) → t ≡ put 2 s o (v % 65536) → u ≡ put 2 t (o + 2) (v / 65536)
     → u ≡ put 4 s o v
 put-four s t u o v e f =
     let q : v % 65536 + 65536 * (v / 65536) ≡ v = omega arith in
     let h : u ≡ put 4 s o (v % 65536 + 65536 * (v / 65536)) =
-    put-pair s t u o (v % 65536) (v / 65536) (omega arith) e f in
+    put-join 2 2 s t u o (v % 65536) (v / 65536) (omega arith) e f in
+    rw q at h
+
+pub put-eight : (s t u : List ℕ) (o v : ℕ) → t ≡ put 4 s o (v % 2 ^ 32) → u ≡ put 4 t (o + 4) (v / 2 ^ 32)
+    → u ≡ put 8 s o v
+put-eight s t u o v e f =
+    let q : v % 2 ^ 32 + 2 ^ 32 * (v / 2 ^ 32) ≡ v = omega arith in
+    let h : u ≡ put 8 s o (v % 2 ^ 32 + 2 ^ 32 * (v / 2 ^ 32)) =
+    put-join 4 4 s t u o (v % 2 ^ 32) (v / 2 ^ 32) (omega arith) e f in
     rw q at h

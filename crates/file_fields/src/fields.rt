@@ -49,3 +49,11 @@ pub fn put32(out: &mut [u8], o: usize, v: u32)
     put16(out, o, (v % 65536) as u16);
     put16(out, o + 2, (v / 65536) as u16);
 }
+
+pub fn put64(out: &mut [u8], o: usize, v: u64)
+    requires { ⌜ o + 8 ≤ length (now out) ⌝ }
+    ensures { λ _. ⌜ now (out .exit) ≡ put 8 (now (out .entry)) o v ⌝ }
+{
+    put32(out, o, (v % 4294967296) as u32);
+    put32(out, o + 4, (v / 4294967296) as u32);
+}

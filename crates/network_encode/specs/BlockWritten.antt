@@ -1,28 +1,21 @@
 -- A whole block of a run as it is written: a head, entries, zeros and a check make the file's block
 -- (`block-written`), and bytes that agree where a block has any make the same block. Said once over the kind.
-use mathlib.Core.Path.{_≡_, sym, _∙_, ap}
-use mathlib.Core.Bool.{cond}
+use mathlib.Core.Path.{_≡_, sym, _∙_}
 use mathlib.Core.List.{List}
 use Prim.Native.Nat.{ℕ, _+_, _-_, _*_, _/_, _%_, _≤_, _<_}
 use native.Mathlib.Nat.{div-lt-iff-lt-mul}
 use native.Mathlib.Nat.{mul-comm}
 use native.Mathlib.Omega.{arith}
-use native.Mathlib.Decide.{decLt}
 use lib.ListN.{length}
 use lib.Seq.{ext-getD}
-use lib.Dec.{ltb}
 use borrow.Author.Tests.{lt-ltb, le-ltb}
-use Rattle.theory_loops.specs.Fill.{Filled, tab, length-tab, getD-tab}
-use Rattle.file_fields.specs.Fields.{byteOf}
-use Rattle.file_blocks.specs.Place.{entriesIn, index-below}
-use Rattle.file_fields.specs.Sum.{sums, summedPart}
-use Rattle.file_blocks.specs.Bytes.{check, stored, fileByte, fileByte-at, stored-body, stored-check}
-use Rattle.file_blocks.specs.Bytes.{checked-body}
+use Rattle.theory_loops.specs.Fill.{Filled, tab, length-tab, getD-tab, fill-within, fill-join}
+use Rattle.file_blocks.specs.Place.{entriesIn}
+use Rattle.file_blocks.specs.Bytes.{stored, fileByte, fileByte-at, stored-body}
 use Rattle.file_blocks.specs.Run.{headByte, entryByte, runBody}
 use Rattle.file_blocks.specs.RunLaws.{past-byte}
-use Rattle.file_fields.specs.Put.{fill-within, fill-join}
-use Rattle.file_blocks.specs.Write.{headed, sealed, headed-filled, sealed-filled}
-use Rattle.file_fields.specs.Block.{blockSize, summedSize, headSize, entriesSize, summedWords}
+use Rattle.file_blocks.specs.Write.{headed, sealed, headed-filled, sealed-block}
+use Rattle.file_fields.specs.Block.{blockSize, summedSize, headSize, entriesSize}
 use Rattle.network_encode.specs.Entries.{partByte}
 
 -- a byte within a block's entries
@@ -97,53 +90,13 @@ module _ (kind per size n : ℕ) (f : ℕ → ℕ → ℕ) (from b m : ℕ) (som
         (fill-within _ (fileByte body) (blockSize * b + headSize + size * m)
         (blockSize * b + headSize + entriesSize) s₂ s₃ zero-here zeros₃)
 
-    over : summedPart s₃ b ≡ tab summedSize (body b)
-    over = checked-body body s₃ b (omega (arith, unchecked .long))
-        (λ o l. unchecked .written (blockSize * b + o) (omega arith) (omega arith)
-        ∙ (fileByte-at body b o (omega arith) ∙ stored-body body b o l))
-
-    check-here : (k : ℕ) → blockSize * b + summedSize ≤ k → k < blockSize * b + summedSize + 4
-        → byteOf (check (sums (summedPart s₃ b) summedWords)) (k - (blockSize * b + summedSize))
-        ≡ fileByte body k
-    check-here k l r =
-        let q : blockSize * b + (summedSize + (k - (blockSize * b + summedSize))) ≡ k = omega arith in
-        let t : fileByte body (blockSize * b + (summedSize + (k - (blockSize * b + summedSize))))
-        ≡ byteOf (check (sums (tab summedSize (body b)) summedWords)) (k - (blockSize * b + summedSize)) =
-        fileByte-at body b (summedSize + (k - (blockSize * b + summedSize))) (omega arith)
-        ∙ stored-check body b (k - (blockSize * b + summedSize)) in
-        rw over (sym (rw q at t))
-
     pub block-written : Filled (blockSize * b) (blockSize * (b + 1))
         (fileByte (runBody kind per size n f from)) s₀ s₄
     block-written =
         let z : blockSize * b + headSize + entriesSize ≡ blockSize * b + summedSize = omega arith in
-        let q : blockSize * b + summedSize + 4 ≡ blockSize * (b + 1) = omega arith in
-        let u : Filled (blockSize * b) (blockSize * b + summedSize) (fileByte body) s₀ s₃ =
-        rw z at unchecked in
-        rw (← q, sealed₄)
-        (fill-join (fileByte body) (blockSize * b) (blockSize * b + summedSize)
-        (blockSize * b + summedSize + 4) s₀ s₃ (sealed s₃ b) (omega arith) (omega arith) u
-        (fill-within _ (fileByte body) (blockSize * b + summedSize) (blockSize * b + summedSize + 4) s₃
-        (sealed s₃ b) check-here (sealed-filled s₃ b (omega (arith, u .long)))))
+        rw sealed₄ (sealed-block body b s₀ s₃ (omega arith) (rw z at unchecked))
 
--- A BLOCK GIVEN BY OTHER BYTES that agree where it has any: entries below n, and so the check
-module _ (kind per size n : ℕ) (f g : ℕ → ℕ → ℕ) (pos : 0 < per) (h : (i r : ℕ) → i < n → f i r ≡ g i r) where
-  same-entries : (j k : ℕ)
-      → entryByte size (entriesIn per n j) (λ e r. f (per * j + e) r) k
-      ≡ entryByte size (entriesIn per n j) (λ e r. g (per * j + e) r) k
-  unfolding entryByte
-  same-entries j k = elim (decLt (k / size) (entriesIn per n j)) [
-    | yes l ↦ rw (lt-ltb (k / size) (entriesIn per n j) l)
-        (h (per * j + k / size) (k % size) (index-below per pos n j (k / size) l))
-    | no l ↦ rw (le-ltb (k / size) (entriesIn per n j) (omega arith))
-  ]
-
-  pub same-body : (from b o : ℕ) → runBody kind per size n f from b o ≡ runBody kind per size n g from b o
-  unfolding runBody
-  same-body from b o =
-      ap (λ (x : ℕ). cond (ltb o headSize) (headByte kind (entriesIn per n (b - from)) b o) x)
-      (same-entries (b - from) (o - headSize))
-
+-- A BLOCK GIVEN BY OTHER BYTES that agree where it has any
 module _ (body other : ℕ → ℕ → ℕ) (b : ℕ) (h : (o : ℕ) → body b o ≡ other b o) where
   same-tab : tab summedSize (body b) ≡ tab summedSize (other b)
   same-tab =

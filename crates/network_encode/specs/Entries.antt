@@ -2,7 +2,7 @@
 -- block of a run requires (`InRun`). Said once over the kind.
 use mathlib.Core.Path.{_≡_, sym, _∙_}
 use mathlib.Core.List.{List}
-use Prim.Native.Nat.{ℕ, suc, _+_, _-_, _*_, _/_, _%_, _≤_, _<_}
+use Prim.Native.Nat.{ℕ, _+_, _-_, _*_, _/_, _%_, _≤_, _<_}
 use native.Mathlib.Nat.{mul-add-div, mul-add-mod-self-left, div-eq-of-lt, mod-eq-of-lt}
 use native.Mathlib.Nat.{mul-le-mul-left}
 use native.Mathlib.Omega.{arith}
@@ -25,18 +25,6 @@ pub record InRun (from per n b room : ℕ) : Type 0 where
   pub before : b < from + blocks per n
   pub near : b < mostBlocks
   pub whole : blockSize * b + blockSize ≤ room
-
--- a field of two bytes and w bytes after it, put as one number
-pub put-more : (w : ℕ) (s t u : List ℕ) (o x y : ℕ) → x < 65536 → t ≡ put 2 s o x → u ≡ put w t (o + 2) y
-    → u ≡ put (suc (suc w)) s o (x + 65536 * y)
-unfolding put
-put-more w s t u o x y l e f =
-    let q₀ : (x + 65536 * y) % 256 ≡ x % 256 = omega arith in
-    let d : (x + 65536 * y) / 256 ≡ x / 256 + 256 * y = omega arith in
-    let q₁ : (x / 256 + 256 * y) % 256 ≡ x / 256 % 256 = omega arith in
-    let q₂ : (x / 256 + 256 * y) / 256 ≡ y = omega arith in
-    let o₂ : o + 2 ≡ o + 1 + 1 = omega arith in
-    rw (f, e, q₀, d, q₁, q₂, o₂)
 
 -- FOR THE LOOP over a block's entries
 module _ (size : ℕ) (f : ℕ → ℕ → ℕ) (base first : ℕ) where

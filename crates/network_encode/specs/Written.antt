@@ -8,10 +8,11 @@ use native.Mathlib.Omega.{arith}
 use lib.ListN.{length, getD, take}
 use lib.Seq.{getD-take, length-take-le}
 use lib.Dec.{lit<, lit≤}
-use Rattle.theory_loops.specs.Fill.{Filled, filled-list, length-tab, overwritten}
+use Rattle.theory_loops.specs.Fill.{Filled, filled-list, length-tab, overwritten, fill-join}
 use Rattle.file_blocks.specs.Bytes.{fileByte}
 use Rattle.file_blocks.specs.Run.{runBody, headerBody}
-use Rattle.file_fields.specs.Put.{put, fill-join}
+use Rattle.file_blocks.specs.RunLaws.{same-body}
+use Rattle.file_fields.specs.Put.{put}
 use Rattle.network.specs.declared.header.Header.{Header}
 use Rattle.network.specs.declared.header.Layout.{Layout}
 use Rattle.network.specs.Limits.{WithinLimits}
@@ -24,7 +25,7 @@ use Rattle.network_encode.specs.Encode.{points-body, number-byte, period
 use Rattle.network_encode.specs.Encode.{cells-byte, points-byte}
 use Rattle.network_encode.specs.Entries.{partByte, InRun, entry-none, entry-first, entry-field}
 use Rattle.network_encode.specs.Entries.{entry-put}
-use Rattle.network_encode.specs.BlockWritten.{same-body, same-block}
+use Rattle.network_encode.specs.BlockWritten.{same-block}
 use Rattle.network_encode.specs.Packable.{Packable}
 use Rattle.file_fields.specs.Block.{blockSize, headSize}
 use Rattle.file_blocks.specs.Kind.{networkKind, networkSize, cellKind, cellSize, cellPer, arcKind, arcSize}

@@ -1,14 +1,14 @@
 -- The file of the network that is packed, as Pack makes it in the first bytes of a longer list: the network
 -- fits its fields, so the file is laid out as it is read, decodes to that network, and what is judged and
 -- copied of those bytes is judged and copied of the file.
-use mathlib.Core.Path.{_≡_, refl, sym, _∙_, ap, subst, subst⁻¹}
+use mathlib.Core.Path.{_≡_, sym, _∙_, ap, subst, subst⁻¹}
 use mathlib.Core.List.{List}
 use Prim.Native.Nat.{ℕ, _*_, _≤_}
 use native.Mathlib.Omega.{arith}
 use native.Mathlib.Decide.{decLt}
 use lib.ListN.{length, getD, take, length-take, List·getD-eq-default}
 use lib.Seq.{getD-take, length-take-le, take-at}
-use Rattle.theory_loops.specs.Fill.{Filled, filled-list, overwritten}
+use Rattle.theory_loops.specs.Fill.{Filled, tab-list, filled-list, overwritten}
 use Rattle.file_blocks.specs.Laid.{laid-by}
 use Rattle.network.specs.declared.header.Header.{Header}
 use Rattle.network.specs.declared.header.Layout.{Layout}
@@ -20,7 +20,6 @@ use Rattle.network.specs.Tables.{Tables, networkOf}
 use Rattle.network.specs.Decode.{headerAt, decode, Laid}
 use Rattle.network.specs.Rules.{judged}
 use Rattle.network_encode.specs.Encode.{encode, Words, Proper}
-use Rattle.network_pack.specs.HoldsRead.{tab-is}
 use Rattle.network_pack.specs.RoundTrip.{encode-long, header-encode, decode-encode}
 use Rattle.network_encode.specs.Packable.{Packable}
 use Rattle.network_pack.specs.Pack.{packedRules, Packs}
@@ -34,7 +33,7 @@ pub copied : (file old new : List ℕ) (i : ℕ) → length file ≤ length old
 copied file old new i r h l m =
     let e : i ≡ length file = omega arith in
     let f : Filled 0 (length file) (λ k. getD file k 0) old new = rw e at h in
-    rw (tab-is (length file) (λ k. getD file k 0) file refl (λ k _. refl)) at
+    rw (tab-list file) at
     (filled-list (λ k. getD file k 0) (length file) old new r f)
 
 -- the entries of the tables have two bytes each

@@ -11,9 +11,9 @@ use lib.Dec.{lit<, lit≤}
 use Rattle.file_fields.specs.Fields.{Bytes}
 use Rattle.file_blocks.specs.Place.{blocks}
 use Rattle.file_fields.specs.Sum.{good}
-use Rattle.file_blocks.specs.Bytes.{body-byte, file-is}
+use Rattle.file_blocks.specs.Bytes.{file-is}
 use Rattle.file_blocks.specs.Run.{runBody, RunLaid}
-use Rattle.file_blocks.specs.RunLaws.{laid-run, run-laid}
+use Rattle.file_blocks.specs.RunLaws.{laid-run, file-run}
 use Rattle.network.specs.declared.header.Header.{Header}
 use Rattle.network.specs.Layout.{arcBlock, pointBlock, allBlocks}
 use Rattle.network.specs.Network.{Network, nodes, arcs, points}
@@ -36,13 +36,11 @@ pub record Holds (file : List ℕ) (h : Header) (n : Network) : Type 0 where
 
 -- THE BYTES of `encode`
 module _ (h : Header) (n : Network) where
-  run-in : (from kind per size m : ℕ) (f : ℕ → ℕ → ℕ) → 0 < per → 0 < size → size * per ≤ entriesSize
+  abbrev run-in : (from kind per size m : ℕ) (f : ℕ → ℕ → ℕ) → 0 < per → 0 < size → size * per ≤ entriesSize
       → (j : ℕ) → from + j < allBlocks h
       → bodyBy h n (from + j) ≡ runBody kind per size m f from (from + j)
       → RunLaid (encodeBy h n) from kind per size m f j
-  run-in from kind per size m f pos some fit j l e =
-      run-laid (encodeBy h n) from kind per size m f pos some fit j
-      (λ o k. body-byte (bodyBy h n) (allBlocks h) (from + j) o l k ∙ ap (λ (g : ℕ → ℕ). g o) e)
+  run-in = file-run (bodyBy h n) (allBlocks h)
 
   pub encode-holds : Holds (encodeBy h n) h n
   encode-holds = record {

@@ -7,15 +7,14 @@ use Prim.Native.Nat.{ℕ, _+_, _*_, _^_, _≤_, _<_}
 use native.Mathlib.Nat.{add-zero, add-assoc}
 use native.Mathlib.Omega.{arith}
 use lib.ListN.{length, getD}
-use lib.Seq.{ext-getD}
 use lib.Dec.{lit<, lit≤}
-use Rattle.theory_loops.specs.Fill.{tab, getD-tab, length-tab}
+use Rattle.theory_loops.specs.Fill.{tab, getD-tab}
 use Rattle.file_fields.specs.Fields.{Bytes, le16, le32, number, byteOf, byteOf-number, le16-number, le16-is}
 use Rattle.file_fields.specs.Fields.{le32-is}
 use Rattle.file_blocks.specs.Place.{offset, blocks}
 use Rattle.file_blocks.specs.Form.{formed, RunFormed}
 use Rattle.file_blocks.specs.Run.{RunLaid}
-use Rattle.file_blocks.specs.RunLaws.{run-formed, formed-run, run-value}
+use Rattle.file_blocks.specs.RunLaws.{run-formed, formed-run, run-table}
 use Rattle.file_blocks.specs.Table.{entry16}
 use Rattle.network.specs.declared.header.Header.{Header}
 use Rattle.network.specs.Limits.{WithinLimits}
@@ -74,12 +73,6 @@ module _ {file : List ℕ} {h : Header} {n : Network} (w : WithinLimits h) (d : 
     }
 
 -- WHAT IS DECODED: the tables, entry by entry
-pub tab-is : (m : ℕ) (f : ℕ → ℕ) (s : List ℕ) → length s ≡ m → ((i : ℕ) → i < m → f i ≡ getD s i 0)
-    → tab m f ≡ s
-tab-is m f s e h =
-    ext-getD 0 (tab m f) s (length-tab m f ∙ sym e)
-    (λ i l. let k : i < m = omega (arith, length-tab m f) in getD-tab m f i k ∙ h i k)
-
 module _ (file : List ℕ) (from kind per size m : ℕ) (f : ℕ → ℕ → ℕ) (pos : 0 < per) (some : 0 < size)
     (fit : size * per ≤ entriesSize)
     (d : (j : ℕ) → j < blocks per m → RunLaid file from kind per size m f j) where
@@ -87,10 +80,8 @@ module _ (file : List ℕ) (from kind per size m : ℕ) (f : ℕ → ℕ → ℕ
       → ((i k : ℕ) → k < 2 → f i (at + k) ≡ byteOf (getD s i 0) k)
       → tab m (entry16 file from per size at) ≡ s
   table-is at s a e w g =
-      tab-is m (entry16 file from per size at) s e
-      (λ i l.
-      le16-number file (offset from per size i + at)
-      ∙ run-value file from kind per size m f pos some fit d i l at 2 (getD s i 0) a (w .word i) (g i))
+      run-table file from kind per size m f pos some fit d at 2 (entry16 file from per size at) s a e
+      (w .word) (λ i. le16-number file (offset from per size i + at)) g
 
 module _ {file : List ℕ} {n : Network} (p : Proper n) (d : Holds file (headerOf n) n) where
   abbrev arcField : (at : ℕ) (s : List ℕ) → at + 2 ≤ arcSize → length s ≡ arcs n → Words s

@@ -2,7 +2,9 @@
 -- its rules and validation (PlanRules, PlanValidate, PlanValid), their numbers (Numbers), and the laws for
 -- the code.
 pub mod Border
+pub mod Borders
 pub mod Plan
+pub mod Word
 pub mod PlanLimits
 pub mod PlanHeader
 pub mod PlanLayout

@@ -82,6 +82,11 @@ pub record LaidPlan (h : PlanHeader) (l : PlanLayout) : Type 0 where
   pub pointblock : l .pointblock ≡ planPointBlock h
   pub all : l .blocks ≡ planBlocks h
 
+pub layout-plan : {h : PlanHeader} {l : PlanLayout} → l ≡ planLayoutOf h → LaidPlan h l
+unfolding planLayoutOf
+layout-plan e = rw e (record
+    { arcs = refl; profiles = refl; points = refl; countblock = refl; pointblock = refl; all = refl })
+
 module _ {file : List ℕ} {l : PlanLayout} (s : PlanLaid file l) where
   pub plan-sizes : PlanSizes (decodePlan file) l
   unfolding decodePlan planLayoutOf
@@ -93,9 +98,7 @@ module _ {file : List ℕ} {l : PlanLayout} (s : PlanLaid file l) where
   })
 
   pub laid-plan : LaidPlan (planHeaderAt file) l
-  unfolding planLayoutOf
-  laid-plan = rw (s .is) (record
-      { arcs = refl; profiles = refl; points = refl; countblock = refl; pointblock = refl; all = refl })
+  laid-plan = layout-plan (s .is)
 
   pub plan-small : PlanSmall l
   unfolding planLayoutOf

@@ -29,7 +29,7 @@ use Rattle.plan.specs.Plan.{Plan, pointCount, pointStart}
 use Rattle.plan.specs.PlanDecode.{decodePlan}
 use Rattle.plan_tests.specs.Tests.{fails20, fails}
 use Rattle.plan_check.specs.Check.{refusedAt, tripleRung, checked}
-use Rattle.plan_check.specs.Borders.{at-node}
+use Rattle.plan.specs.Borders.{at-node}
 use Rattle.plan_check.specs.Exact.{rung-nowhere, nowhere-rung}
 use Rattle.plan_check.specs.Clean.{NothingFails}
 use Rattle.plan_tests.specs.Checkable.{Checkable}

@@ -1,7 +1,6 @@
--- The check of a plan: its ladder (Check), that it is exact (Borders, Meaning, Exact, Promise, CheckPlan),
+-- The check of a plan: its ladder (Check), that it is exact (Meaning, Exact, Promise, CheckPlan),
 -- its numbers (Numbers), and the laws for the code.
 pub mod Answer
-pub mod Borders
 pub mod Check
 pub mod Meaning
 pub mod Exact

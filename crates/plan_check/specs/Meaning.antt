@@ -15,7 +15,7 @@ use Rattle.theory_paths.specs.Profiles.{LocalProfile}
 use Rattle.theory_paths.specs.Flags.{Border, flagged, FlaggedInside}
 use Rattle.theory_paths.specs.Partition.{Partition}
 use Rattle.plan.specs.Border.{headCell, borderCount, borderAt}
-use Rattle.plan_check.specs.Borders.{at-node, every-border}
+use Rattle.plan.specs.Borders.{at-node, every-border}
 use Rattle.plan.specs.Plan.{Plan, flag, profile, profileTo}
 use Rattle.plan_tests.specs.Tests.{fails20, giving, given, fails21, fails22, fails23, fails24, fails}
 use Rattle.plan_values.specs.Compare.{same, less, isNumber}

@@ -135,3 +135,28 @@ list-filled f n old l = record {
       (rw e at (getD-append-add (tab n f) (drop n old) (k - n) 0)) ∙ getD-drop n old (k - n) 0
       ∙ ap (λ (i : ℕ). getD old i 0) w;
 }
+
+-- a part said with other values that agree on it
+pub fill-within : (f g : ℕ → ℕ) (a b : ℕ) (old new : List ℕ) → ((k : ℕ) → a ≤ k → k < b → f k ≡ g k)
+    → Filled a b f old new → Filled a b g old new
+fill-within f g a b old new e h =
+    record {
+      long = h .long;
+      written = λ k l m. h .written k l m ∙ e k l m;
+      before = h .before;
+      after = h .after;
+    }
+
+-- a part written on by a second loop
+pub fill-join : (f : ℕ → ℕ) (a m b : ℕ) (old mid new : List ℕ) → a ≤ m → m ≤ b → Filled a m f old mid
+    → Filled m b f mid new → Filled a b f old new
+fill-join f a m b old mid new l k g h =
+    record {
+      long = h .long ∙ g .long;
+      written = λ i p q. elim (decLt i m) [
+        | yes n ↦ h .before i n ∙ g .written i p n
+        | no n ↦ h .written i (omega arith) q
+      ];
+      before = λ i p. h .before i (omega arith) ∙ g .before i p;
+      after = λ i p. h .after i p ∙ g .after i (omega arith);
+    }

@@ -2,8 +2,9 @@
 -- the first failing index.
 use mathlib.Core.Path.{_≡_, refl, sym, _∙_}
 use mathlib.Core.Logic.{_↔_}
-use mathlib.Core.Bool.{Bool, true, false, cond}
+use mathlib.Core.Bool.{Bool, true, false, cond, _||_}
 use Prim.Native.Nat.{ℕ, zero, suc, _+_, _≤_, _<_}
+use native.Mathlib.Numerals.{add-one}
 use native.Mathlib.Nat.{le-antisymm}
 use native.Mathlib.Decide.{decLe}
 use native.Mathlib.Omega.{arith}
@@ -155,6 +156,17 @@ first-more k p = go (ltb (first k p) k) (p k)
     go true b = refl
     go false true = refl
     go false false = refl
+
+pub any-none : (p : ℕ → Bool) → any 0 p ≡ false
+any-none p = rw (none-yet p)
+
+pub any-more : (k : ℕ) (p : ℕ → Bool) → any (k + 1) p ≡ any k p || p k
+any-more k p = rw (add-one, first-more k p) (go (ltb (first k p) k) (p k) refl)
+  where
+    go : (t u : Bool) → ltb (first k p) k ≡ t → ltb (cond t (first k p) (cond u k (suc k))) (suc k) ≡ t || u
+    go true u e = lt-ltb (first k p) (suc k) (omega (arith, ltb-true (first k p) k e))
+    go false true e = lt-ltb k (suc k) (omega arith)
+    go false false e = le-ltb (suc k) (suc k) (omega arith)
 
 -- two tests that agree below n have one first
 pub first-same : (p q : ℕ → Bool) (n : ℕ) → ((k : ℕ) → k < n → p k ≡ q k) → first n p ≡ first n q

@@ -33,5 +33,11 @@ module _ (f : ℕ → ℕ) where
     | no e ↦ omega (arith, total-part i n (omega arith))
   ]
 
+-- two functions that agree below n have one sum
+pub total-same : (f g : ℕ → ℕ) (n : ℕ) → ((i : ℕ) → i < n → f i ≡ g i) → total n f ≡ total n g
+unfolding total
+total-same f g zero h = refl
+total-same f g (suc n) h = rw (total-same f g n (λ i l. h i (omega arith)), h n (omega arith))
+
 -- for `search totals` at the needs of such a loop
 pub ruleset totals = (total-none, total-more, total-end)

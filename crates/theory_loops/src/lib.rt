@@ -6,4 +6,8 @@
 //   specs/Stores.antt  values stored one after the other
 //   specs/Total.antt   a running sum
 //   specs/Select.antt  the indices that pass a test, listed
-// Each file has a ruleset: `search_path` with it closes most needs of a loop of that shape.
+//   specs/Count.antt   how many pass
+//   specs/Parts.antt   a run over entries side by side, in parts
+//   specs/Grid.antt    numbers in rows of one width in one list
+//   specs/Joined.antt  lists one behind the other
+// A file of a loop's shape has a ruleset: `search` with it closes most needs of such a loop.

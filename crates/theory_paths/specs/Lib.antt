@@ -10,3 +10,7 @@ pub mod Chosen
 pub mod Agree
 pub mod Profiles
 pub mod Flags
+pub mod Least
+pub mod Settled
+pub mod Queue
+pub mod Planned

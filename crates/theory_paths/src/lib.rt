@@ -1,6 +1,6 @@
 // theory_paths: time-dependent paths, earliest arrivals, profiles and arc flags, over an abstract graph.
-// Theory alone, no code, and it calls nothing. It knows no bytes and no rounding: a network file gives a
-// `Graph`, and what is proved here then holds of it.
+// Theory alone, no code; it calls nothing, and cites `theory_loops`. It knows no bytes and no rounding: a
+// network file gives a `Graph`, and what is proved here then holds of it.
 //   Graph     the definitions that every theorem is about: graph, path, driving, waiting, earliest arrival
 //   Partition a graph whose nodes lie in cells
 //   Drive     `later`, `waiting`, `driven-shift`: FIFO along a path, waiting never helps, whole periods shift
@@ -14,3 +14,7 @@
 //   Profiles  `profile-exact`, `toward-exact`: a profile is true exactly where it is right arc by arc
 //   Flags     `arc-flags`, `arc-flags-reach`, `checked-exact`: flagged arcs are enough exactly where the
 //             check says so
+//   Least     `least-is`, `least-exactly`: least travels to a node, as numbers that compute
+//   Settled   `settled-least`: numbers that are paths' and that no arc undercuts are the least travels
+//   Queue     `queue-least`: they are worked out by taking nodes whose numbers fell, in any order
+//   Planned   `starts-exactly`, `planned-enough`: the flags that a planner gives

@@ -4,5 +4,7 @@ pub mod Line
 pub mod Points
 pub mod Search
 pub mod Day
+pub mod Pieces
+pub mod Turns
 pub mod Ticks
 pub mod Table

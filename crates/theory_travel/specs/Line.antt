@@ -93,6 +93,12 @@ line-first a v b w h =
     let some : 0 < b - a = omega arith in
     rw (sub-self a, mul-zero w, add-zero) (mul-div-cancel v some)
 
+-- where both ends' values, each by the ticks to the other end, come to a whole number of times the width,
+-- nothing is rounded
+pub line-exact : (x a v b w y : ℕ) → a < b → v * (b - x) + w * (x - a) ≡ y * (b - a) → line x a v b w ≡ y
+unfolding line
+line-exact x a v b w y h e = let some : 0 < b - a = omega arith in rw e (mul-div-cancel y some)
+
 -- The published line is v + (x − a)·(w − v)/(b − a), rounded down.
 module _ (x a v b w : ℕ) (from : a ≤ x) (to : x < b) where
   -- the greatest whole number that is at most the published line: both sides are taken b − a times, and (x −

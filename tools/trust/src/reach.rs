@@ -43,14 +43,26 @@ pub fn from_promises(repository: &Repository, contracts: &Reached) -> Result<Rea
     reach(repository, start.collect())
 }
 
-/// On top are the libraries that no other library with code calls: what they offer is for programs and for C.
+/// On top are the libraries that no other library with code calls and that C or a program calls: what the
+/// others offer is for code alone.
 fn is_on_top(repository: &Repository, of: usize) -> bool {
     let is_root = |file: &File<_>, of: usize| file.of == of && file.path.ends_with("/src/lib.rt");
     let has_code = |of: usize| repository.codes.iter().any(|f| f.of == of && !f.text.functions.is_empty());
-    let is_library = |of: usize| has_code(of) && repository.codes.iter().any(|file| is_root(file, of));
+    let has_root = |of: usize| repository.codes.iter().any(|file| is_root(file, of));
+    let is_library = |of: usize| has_code(of) && has_root(of);
+    let is_program = |of: usize| has_code(of) && !has_root(of);
     let name = &repository.crates[of].name;
-    let calls = |(i, other): (usize, &Crate)| other.calls.contains(name) && is_library(i);
-    is_library(of) && !repository.crates.iter().enumerate().any(calls)
+    let called_by = |is_caller: &dyn Fn(usize) -> bool| {
+        let calls = |(i, other): (usize, &Crate)| other.calls.contains(name) && is_caller(i);
+        repository.crates.iter().enumerate().any(calls)
+    };
+    let exports = repository
+        .codes
+        .iter()
+        .filter(|file| file.of == of)
+        .any(|file| file.text.functions.iter().any(|function| function.exported));
+    let is_offered = exports || called_by(&is_program);
+    is_library(of) && is_offered && !called_by(&is_library)
 }
 
 /// Everything that is cited from a start, directly or through others; what is cited is read as a whole.

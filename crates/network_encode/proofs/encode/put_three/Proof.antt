@@ -1,7 +1,7 @@
 -- `network_encode::encode::put_three` meets its contract.
 use native.Mathlib.Omega.{arith}
 use Prim.Native.Nat.{_<_}
-use Rattle.network_encode.specs.Entries.{put-more}
+use Rattle.file_fields.specs.Put.{put-join}
 use borrow.Author.Needs.{needs}
 use Rattle.network_encode.proofs.encode.put_three.Statement.{statement}
 use Rattle.network_encode.proofs.encode.put_three.Tie as tie
@@ -20,7 +20,7 @@ same-length c = search needs
 
 returns : tie.Need-returns
 returns c = let l : c .before .before .before .before .before .before .before .before .before .args .x < 65536
-    = omega arith in put-more 4 _ _ _ _ _ _ l
+    = omega arith in put-join 2 4 _ _ _ _ _ _ l
     (c .before .before .before .before .before .before .put16 .ensures) (c .before .before .put-two .ensures)
 
 pub put-three-spec : {M : Type 1} → statement M

@@ -1,0 +1,22 @@
+-- `plan_encode::entries::put_count` meets its contract: the entry stands in the list.
+use native.Mathlib.Omega.{arith}
+use Rattle.plan_encode.specs.Places.{count-fits, put-at}
+use borrow.Author.Needs.{needs}
+use Rattle.plan_encode.proofs.entries.put_count.Statement.{statement}
+use Rattle.plan_encode.proofs.entries.put_count.Tie as tie
+
+offset-requires : tie.Need-offset-requires
+offset-requires c κs = search needs
+
+put16-requires : tie.Need-put16-requires
+put16-requires c κs = omega
+    (arith, count-fits (c .before .before .before .pre .0) (c .before .before .before .pre .1))
+
+same-length : tie.Need-same-length
+same-length c = search needs
+
+returns : tie.Need-returns
+returns c = search put-at
+
+pub put-count-spec : {M : Type 1} → statement M
+put-count-spec = tie.close (tie.spec offset-requires put16-requires same-length returns)

@@ -1,0 +1,76 @@
+-- `highest` meets its contract: no entry passed is greater, and one is the greatest.
+use mathlib.Core.Path.{refl}
+use native.Mathlib.Omega.{arith}
+use Prim.Native.Nat.{_-_, _≤_}
+use Rattle.toward_node.specs.Places.{Upper, upper-none, upper-more, upper-end}
+use borrow.Author.Needs.{needs}
+use Rattle.toward_node.proofs.highest.Statement.{statement}
+use Rattle.toward_node.proofs.highest.Tie as tie
+
+abbrev Inv-loop : tie.InvT-loop
+Inv-loop u work p e high₀ i₀ high i = (p ≤ i) × (i ≤ e) × Upper p i e work high
+
+abbrev μ-loop : tie.MeasureT-loop
+μ-loop u work p e high₀ i₀ high i = e - i
+
+row-place-requires : tie.Need-row-place-requires Inv-loop μ-loop
+row-place-requires c κs = search needs
+
+add-e : tie.Need-add-e Inv-loop μ-loop
+add-e c = search needs
+
+mul-high : tie.Need-mul-high Inv-loop μ-loop
+mul-high c = search needs
+
+shared-slice-read-high : tie.Need-shared-slice-read-high Inv-loop μ-loop
+shared-slice-read-high c = search needs
+
+loop-holds : tie.Need-loop-holds Inv-loop μ-loop
+loop-holds c = (search needs, search needs, upper-none (omega arith) refl)
+
+mul-greater : tie.Need-mul-greater Inv-loop μ-loop
+mul-greater c = search needs
+
+shared-slice-read-greater : tie.Need-shared-slice-read-greater Inv-loop μ-loop
+shared-slice-read-greater c = search needs
+
+greater-requires : tie.Need-greater-requires Inv-loop μ-loop
+greater-requires c κs = search needs
+
+add-i : tie.Need-add-i Inv-loop μ-loop
+add-i c = search needs
+
+loop-less : tie.Need-loop-less Inv-loop μ-loop
+loop-less c = search needs
+
+loop-again : tie.Need-loop-again Inv-loop μ-loop
+loop-again c = (
+  search needs,
+  search needs,
+  upper-more (c .before .before .before .loop .inv .2) (c .before .before .before .loop .inv .0)
+      (c .before .before .loop-test .taken) (c .greater .ensures),
+)
+
+returns : tie.Need-returns Inv-loop μ-loop
+returns c =
+    upper-end (c .before .loop .inv .2) (c .loop-test .left) (c .before .before .before .before .row-place
+    .ensures .0) refl
+
+pub highest-spec : {M : Type 1} → statement M
+highest-spec =
+    tie.close
+    (tie.spec
+    Inv-loop
+    μ-loop
+    row-place-requires
+    add-e
+    mul-high
+    shared-slice-read-high
+    loop-holds
+    mul-greater
+    shared-slice-read-greater
+    greater-requires
+    add-i
+    loop-less
+    loop-again
+    returns)

@@ -1,0 +1,106 @@
+-- `least_travels` meets its contract: what is left to do falls with each turn, and where no node is dirty the
+-- numbers are least.
+use mathlib.Core.Path.{sym, _∙_}
+use Prim.Native.Nat.{ℕ, _≤_}
+use native.Mathlib.Omega.{arith}
+use lib.ListN.{length, replicate, length-replicate}
+use Rattle.network.specs.Limits.{mostPeriod}
+use Rattle.toward_node.specs.Turn.{left, Waiting, waiting-start, waiting-next, waiting-end}
+use borrow.Author.Needs.{needs}
+use Rattle.toward_node.proofs.least_travels.Statement.{statement}
+use Rattle.toward_node.proofs.least_travels.Tie as tie
+
+abbrev Inv-loop : tie.InvT-loop
+Inv-loop file l starts into next least b work₀ hs₀ near₀ room₀ v₀ work hs near room v =
+    Waiting file l b work near room v × (l .period ≤ length hs)
+
+abbrev μ-loop : tie.MeasureT-loop
+μ-loop file l starts into next least b work₀ hs₀ near₀ room₀ v₀ work hs near room v = left l work near
+
+clear-requires : tie.Need-clear-requires Inv-loop μ-loop
+clear-requires c κs = search needs
+
+zero-row-requires : tie.Need-zero-row-requires Inv-loop μ-loop
+zero-row-requires c κs = search needs
+
+mul-near : tie.Need-mul-near Inv-loop μ-loop
+mul-near c = search needs
+
+array-write-near : tie.Need-array-write-near Inv-loop μ-loop
+array-write-near c = search needs
+
+mul-room : tie.Need-mul-room Inv-loop μ-loop
+mul-room c = search needs
+
+array-write-room : tie.Need-array-write-room Inv-loop μ-loop
+array-write-room c = search needs
+
+loop-holds : tie.Need-loop-holds Inv-loop μ-loop
+loop-holds c =
+    let s = c .before .before .before .before .before .before .before .before .before .before in
+    let small = s .pre .0 .0 .primed .town .small in
+    let long : s .args .l .period ≤ length {A = ℕ} (replicate mostPeriod 0) =
+    rw (length-replicate {A = ℕ} mostPeriod 0) (small .period-most) in (
+      waiting-start (s .pre .0 .0) (s .pre .1 .0) (s .pre .1 .1) (c .before .before .before .before .before
+          .before .clear .ensures)
+          (c .before .before .zero-row .ensures),
+      long,
+    )
+
+settle-requires : tie.Need-settle-requires Inv-loop μ-loop
+settle-requires c κs =
+    let s = c .before .before .before .before .before .before .before .before .before .before .before
+    .before .before .before .before .before .before in
+    let w = c .before .before .before .before .before .before .loop .inv in
+    let h = c .before .before .before .before .if1 .taken in
+    (s .pre .0, (h, w .0 .heights, w .0 .found .dirty h, w .1))
+
+nearest-requires : tie.Need-nearest-requires Inv-loop μ-loop
+nearest-requires c κs =
+    c .before .before .before .before .before .before .before .before .before .before .before .before
+    .before .before .before .before .before .before .before .before .before .pre .0 .0 .primed .town .small
+    .nodes-most
+
+loop-less : tie.Need-loop-less Inv-loop μ-loop
+loop-less c = c .before .before .before .before .settle .ensures .0 .lighter
+
+loop-again : tie.Need-loop-again Inv-loop μ-loop
+loop-again c =
+    let w = c .before .before .before .before .before .before .before .before .before .before .before .loop
+    .inv in
+    let t = c .before .before .before .before .settle .ensures in (
+      waiting-next (c .before .before .before .before .before .before .before .before .before .before
+          .before .before .before .before .before .before .before .before .before .before .before .before .pre
+          .0 .0) (w .0) (t .0) (c .nearest .ensures),
+      omega (arith, w .1, t .1),
+    )
+
+same-length : tie.Need-same-length Inv-loop μ-loop
+same-length c =
+    c .before .before .loop .inv .0 .heights .size ∙ sym (c .before .before .before .before .before .before
+    .before .before .before .before .before .before .before .pre .1 .1)
+
+returns : tie.Need-returns Inv-loop μ-loop
+returns c =
+    waiting-end (c .before .before .before .before .before .before .before .before .before .before .before
+    .before .before .pre .0 .0) (c .before .before .loop .inv .0) (c .if1 .left)
+
+pub least-travels-spec : {M : Type 1} → statement M
+least-travels-spec =
+    tie.close
+    (tie.spec
+    Inv-loop
+    μ-loop
+    clear-requires
+    zero-row-requires
+    mul-near
+    array-write-near
+    mul-room
+    array-write-room
+    loop-holds
+    settle-requires
+    nearest-requires
+    loop-less
+    loop-again
+    same-length
+    returns)

@@ -1,0 +1,126 @@
+-- `settle` meets its contract: the loop walks from each arc into v to the next, and those before have had
+-- their turn.
+use mathlib.Core.Path.{sym, _∙_}
+use Prim.Native.Nat.{_-_}
+use native.Mathlib.Omega.{arith}
+use Rattle.toward_node.specs.Turn.{Walking, walking-start, walking-held, walking-next, walking-less}
+use Rattle.toward_node.specs.Turn.{walking-end}
+use borrow.Author.Needs.{needs}
+use Rattle.toward_node.proofs.settle.Statement.{statement}
+use Rattle.toward_node.proofs.settle.Tie as tie
+
+abbrev Inv-loop : tie.InvT-loop
+Inv-loop file l starts into next least v hs work₀ near₀ room₀ reach a₀ work near room a =
+    Walking file l v a reach hs work₀ near₀ work near room
+
+abbrev μ-loop : tie.MeasureT-loop
+μ-loop file l starts into next least v hs work₀ near₀ room₀ reach a₀ work near room a = l .arcs - a
+
+copy-row-requires : tie.Need-copy-row-requires Inv-loop μ-loop
+copy-row-requires c κs = search needs
+
+mul-reach : tie.Need-mul-reach Inv-loop μ-loop
+mul-reach c = search needs
+
+element-copy-out-reach : tie.Need-element-copy-out-reach Inv-loop μ-loop
+element-copy-out-reach c = search needs
+
+mul-near : tie.Need-mul-near Inv-loop μ-loop
+mul-near c = search needs
+
+element-write-near : tie.Need-element-write-near Inv-loop μ-loop
+element-write-near c = search needs
+
+mul-wide : tie.Need-mul-wide Inv-loop μ-loop
+mul-wide c = search needs
+
+element-copy-out-wide : tie.Need-element-copy-out-wide Inv-loop μ-loop
+element-copy-out-wide c = search needs
+
+wide-requires : tie.Need-wide-requires Inv-loop μ-loop
+wide-requires c κs = search needs
+
+loop-holds : tie.Need-loop-holds Inv-loop μ-loop
+loop-holds c =
+    let s = c .before .before .before .before .before .before .before .before in
+    walking-start (s .pre .0 .0) (s .pre .1 .0) (s .pre .1 .1) (s .pre .1 .2)
+    (c .before .before .before .copy-row .ensures) (c .wide .ensures .0)
+
+lower-tail-requires : tie.Need-lower-tail-requires Inv-loop μ-loop
+lower-tail-requires c κs =
+    let s = c .before .before .before .before .before .before .before .before .before .before .before
+    .before .before .before .before in
+    let w = c .before .before .before .before .before .before .loop .inv in
+    let h = c .before .before .before .before .if1 .taken in
+    ((s .pre .0 .0 .primed, s .pre .0 .1), (h, w .heights, walking-held (s .pre .0 .0) w h))
+
+mul-wide-2 : tie.Need-mul-wide-2 Inv-loop μ-loop
+mul-wide-2 c =
+    omega (
+      arith,
+      c .before .before .before .before .before .before .before .before .before .loop .inv
+          .within,
+    )
+
+element-copy-out-wide-2 : tie.Need-element-copy-out-wide-2 Inv-loop μ-loop
+element-copy-out-wide-2 c =
+    omega (
+      arith,
+      c .before .before .before .before .before .before .before .before .before .before .before
+          .before .before .before .before .before .before .before .pre .0 .0 .primed .town .small .arcs-most,
+    )
+
+wide-requires-2 : tie.Need-wide-requires-2 Inv-loop μ-loop
+wide-requires-2 c κs = search needs
+
+loop-less : tie.Need-loop-less Inv-loop μ-loop
+loop-less c =
+    walking-less (c .before .before .before .before .before .before .before .before .before .before .before
+    .before .before .before .before .before .before .before .before .before .pre .0 .0) (c .before .before
+    .before .before .before .before .before .before .before .before .before .loop .inv) (c .before .before
+    .before .before .before .before .before .before .before .if1 .taken) (c .wide2 .ensures .0)
+
+loop-again : tie.Need-loop-again Inv-loop μ-loop
+loop-again c =
+    walking-next (c .before .before .before .before .before .before .before .before .before .before .before
+    .before .before .before .before .before .before .before .before .before .pre .0 .0) (c .before .before
+    .before .before .before .before .before .before .before .before .before .loop .inv) (c .before .before
+    .before .before .before .before .before .before .before .if1 .taken)
+    (c .before .before .before .before .lower-tail .ensures) (c .wide2 .ensures .0)
+
+same-length : tie.Need-same-length Inv-loop μ-loop
+same-length c =
+    c .before .before .loop .inv .heights .size ∙ sym (c .before .before .before .before .before .before
+    .before .before .before .before .before .pre .1 .1 .size)
+
+returns : tie.Need-returns Inv-loop μ-loop
+returns c =
+    let s = c .before .before .before .before .before .before .before .before .before .before .before in (
+      walking-end (s .pre .0 .0) _ (s .pre .1 .0) (s .pre .1 .1) (s .pre .1 .2) (c .before .before .loop .inv)
+          (c .if1 .left),
+      c .before .before .before .before .before .before .copy-row .ensures .long,
+    )
+
+pub settle-spec : {M : Type 1} → statement M
+settle-spec =
+    tie.close
+    (tie.spec
+    Inv-loop
+    μ-loop
+    copy-row-requires
+    mul-reach
+    element-copy-out-reach
+    mul-near
+    element-write-near
+    mul-wide
+    element-copy-out-wide
+    wide-requires
+    loop-holds
+    lower-tail-requires
+    mul-wide-2
+    element-copy-out-wide-2
+    wide-requires-2
+    loop-less
+    loop-again
+    same-length
+    returns)

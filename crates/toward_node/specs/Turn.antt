@@ -1,0 +1,392 @@
+-- The laws of the code: an arc's turn, a node's turn, and turn after turn until no node is dirty.
+use mathlib.Core.Path.{_≡_, refl, sym, _∙_, ap}
+use mathlib.Core.Bool.{Bool, true}
+use mathlib.Core.Logic.{_≢_}
+use mathlib.Core.List.{List}
+use Prim.Native.Nat.{ℕ, _+_, _-_, _*_, _%_, _≤_, _<_, zero-le}
+use native.Mathlib.Nat.{mul-le-mul, mul-le-mul-right, mod-lt}
+use native.Mathlib.Omega.{arith}
+use native.Mathlib.Decide.{ℕ-discrete, decLt}
+use lib.ListN.{length, getD, set, replicate}
+use lib.Seq.{getD-set-other}
+use Rattle.theory_loops.specs.Fill.{Filled}
+use Rattle.theory_loops.specs.Grid.{gridAt, grid-in}
+use Rattle.theory_paths.specs.Graph.{Graph}
+use Rattle.theory_paths.specs.Earliest.{never}
+use Rattle.theory_paths.specs.Least.{Travels, Modest, least-is}
+use Rattle.theory_paths.specs.Settled.{givesTicks}
+use Rattle.network.specs.declared.header.Layout.{Layout}
+use Rattle.network.specs.Network.{tail, head}
+use Rattle.network.specs.Decode.{decode}
+use Rattle.network.specs.Town.{graphOf, travelAt, town-bounded}
+use Rattle.search_arcs.specs.Town.{Town, lawful, tail-node, head-node}
+use Rattle.search_arcs.specs.Chain.{Chained, NextArc}
+use Rattle.toward_row.specs.Arcs.{Primed}
+use Rattle.toward_row.specs.Cut.{Cut}
+use Rattle.toward_row.specs.Lower.{entries}
+use Rattle.theory_paths.specs.Queue.{Queue, queue-begin, queue-skip, queue-quiet, queue-lower, queue-least}
+use Rattle.theory_paths.specs.Queue.{queue-first, Lowering}
+use Rattle.toward_node.specs.Burden.{burden, burden-clear, burden-lower}
+use Rattle.toward_node.specs.Heights.{Heights, Held, Near, NearFirst, Highest, numbered}
+use Rattle.toward_node.specs.Heights.{number-early, heights-held}
+use Rattle.toward_node.specs.Heights.{heights-clear, heights-lower, heights-first, numbered-early}
+use Rattle.toward_node.specs.Heights.{only-same}
+use Rattle.toward_node.specs.Leasts.{LeastTravel}
+use Rattle.toward_node.specs.Rows.{rowsOf, Worked, rowLowered, row-lower, row-same, row-lowering}
+use Rattle.toward_node.specs.Rows.{row-quiet, row-held}
+use Rattle.network.specs.Limits.{mostArcs, mostNodes, mostPeriod}
+
+-- A town, the table of its arcs' first points, and the chains of the arcs into each node.
+pub record Ready (file : List ℕ) (l : Layout) (starts into next : List ℕ) : Type 0 where
+  pub primed : Primed file l starts
+  pub chained : Chained (head (decode file)) (l .nodes) (l .arcs) 0 into next
+
+-- All that is to be done of the arcs into the clean nodes is done.
+abbrev pub Idle : Graph → ℕ → Travels → List ℕ → Type 0
+Idle g b T D = Queue g b 0 (g .arcs) T D
+
+-- what is left to do
+abbrev pub left : Layout → List ℕ → List ℕ → ℕ
+left l W D = burden (l .nodes * l .period) W D
+
+-- What arc a's turn makes of the list and the tables: W, D and H become M, E and I.
+pub record Stepped (file : List ℕ) (l : Layout) (a near : ℕ) (hs W D H M E I : List ℕ) : Type 0 where
+  pub heights : Heights l M E I
+  pub held : Held (l .period) near hs M I (head (decode file) a)
+  pub lighter : left l M E ≤ left l W D
+  pub carried : (b v : ℕ) → Queue (graphOf (decode file)) b v a (rowsOf (l .period) W) D
+      → Queue (graphOf (decode file)) b v (a + 1) (rowsOf (l .period) M) E
+
+-- Node v's turn under way, from where it is clean: arc a is next.
+pub record Walking (file : List ℕ) (l : Layout) (v a near : ℕ) (hs W D M E I : List ℕ) : Type 0 where
+  pub within : a ≤ mostArcs
+  pub meets : a < l .arcs → head (decode file) a ≡ v
+  pub heights : Heights l M E I
+  pub held : Held (l .period) near hs M I v
+  pub lighter : left l M E ≤ left l W D
+  pub carried : (b : ℕ) → Queue (graphOf (decode file)) b v 0 (rowsOf (l .period) W) D
+      → Queue (graphOf (decode file)) b v a (rowsOf (l .period) M) E
+
+-- What a node's turn makes of them.
+pub record Turned (file : List ℕ) (l : Layout) (W D M E I : List ℕ) : Type 0 where
+  pub heights : Heights l M E I
+  pub lighter : left l M E < left l W D
+  pub carried : (b : ℕ) → Idle (graphOf (decode file)) b (rowsOf (l .period) W) D
+      → Idle (graphOf (decode file)) b (rowsOf (l .period) M) E
+
+-- v is a dirty node, or there is none.
+pub record Found (nodes : ℕ) (D : List ℕ) (v : ℕ) : Type 0 where
+  pub dirty : v < nodes → getD D v 0 ≢ 0
+  pub none : nodes ≤ v → (u : ℕ) → u < nodes → getD D u 0 ≡ 0
+
+-- Between two turns: v is next.
+pub record Waiting (file : List ℕ) (l : Layout) (b : ℕ) (W D H : List ℕ) (v : ℕ) : Type 0 where
+  pub heights : Heights l W D H
+  pub queue : Idle (graphOf (decode file)) b (rowsOf (l .period) W) D
+  pub found : Found (l .nodes) D v
+
+module _ {file : List ℕ} {l : Layout} (t : Town file l) where
+  pub modest : Modest (graphOf (decode file))
+  modest = record {
+    lawful = lawful t;
+    bounded = town-bounded (t .sound);
+    early =
+        let n : graphOf (decode file) .nodes ≤ mostNodes = omega (
+          arith,
+          t .sizes .nodes,
+          t .small
+              .nodes-most,
+        ) in
+        let p : graphOf (decode file) .period ≤ mostPeriod =
+        omega (arith, t .sizes .period, t .small .period-most) in
+        omega (arith, mul-le-mul n p);
+  }
+
+  arc-apart : (a : ℕ) → a < l .arcs → tail (decode file) a ≢ head (decode file) a
+  arc-apart a h = t .sound .arc a (omega (arith, t .sizes .arcs)) .apart
+
+-- AN ARC'S TURN: u is its tail
+module _ {file : List ℕ} {l : Layout} {starts hs W D H : List ℕ} {a u near : ℕ} (t : Primed file l starts)
+    (h : a < l .arcs) (o : Heights l W D H)
+    (k : Held (l .period) near hs W H (head (decode file) a)) (e : u ≡ tail (decode file) a) where
+  node : u < l .nodes
+  node = tail-node (t .town) a u h e
+
+  met : head (decode file) a < l .nodes
+  met = head-node (t .town) a (head (decode file) a) h refl
+
+  in-graph : a < graphOf (decode file) .arcs
+  in-graph = omega (arith, t .town .sizes .arcs)
+
+  -- the tick at which it ends is one of the day
+  ended : (x : ℕ) → (x + travelAt (decode file) a x) % decode file .period < l .period
+  ended x =
+      let p : 0 < decode file .period = omega (arith, t .town .sizes .period, t .town .small .period-some) in
+      omega (arith, t .town .sizes .period, mod-lt (x + travelAt (decode file) a x) p)
+
+  -- its least travel is less than what `near` says of its head
+  pub least-near : {m : ℕ} → LeastTravel file l a m → m ≤ near
+  least-near w =
+      let x = t .town .small .period-some in
+      let y : 0 < decode file .period = omega (arith, t .town .sizes .period) in
+      omega (
+        arith,
+        w .all 0 x,
+        town-bounded (t .town .sound) a 0 in-graph y,
+        t .town .sizes .period,
+        k .least 0 x,
+        k .at 0 x,
+        number-early (t .town .small) o (head (decode file) a) 0 met x (k .some),
+        numbered-early (t .town .small) o,
+      )
+
+  -- no entry of its tail's row is above what it gives, by the tables alone
+  pub stepped-skip : {m : ℕ} → LeastTravel file l a m → near ≤ getD H u 0 + m
+      → Stepped file l a near hs W D H W D H
+  unfolding givesTicks
+  stepped-skip w z = record {
+    heights = o;
+    held = k;
+    lighter = omega arith;
+    carried = λ b v q. queue-quiet q (λ x i.
+        let y : x < l .period = omega (arith, t .town .sizes .period) in
+        let f = rw e at (o .high u x node y) in
+        omega (arith, w .all x y, rw e at z, k .at _ (ended x), k .least _ (ended x)));
+  }
+
+  module _ {M : List ℕ} {r : ℕ} (c : Cut (u * l .period) (u * l .period + l .period)
+      (rowLowered (travelAt (decode file) a) (entries hs) (l .period) (u * l .period) W) W M r) where
+    start : u * l .period ≡ tail (decode file) a * l .period
+    start = rw e
+
+    lowering : Lowering (graphOf (decode file)) a (rowsOf (l .period) W) (rowsOf (l .period) M)
+    lowering =
+        row-lowering (graphOf (decode file)) a (l .period) (u * l .period) (u * l .period + l .period) r hs
+        W M
+        (t .town .sizes .period) (t .town .small .period-some) start refl (k .at) c
+
+    still : {I : List ℕ} → getD I (head (decode file) a) 0 ≢ 0
+        → Held (l .period) near hs M I (head (decode file) a)
+    still some = record {
+      at = row-held (graphOf (decode file)) a (l .period) (u * l .period) (u * l .period + l .period) r hs W M
+          (t .town .sizes .period) (t .town .small .period-some) start refl
+          (k .at) c (arc-apart (t .town) a h);
+      some = some;
+      least = k .least;
+    }
+
+    pub stepped-quiet : r ≡ 0 → Stepped file l a near hs W D H M D H
+    stepped-quiet z =
+        let same : M ≡ W = row-same c z in
+        record {
+          heights = rw same o;
+          held = still (k .some);
+          lighter = rw same (omega arith);
+          carried = λ b v q. rw same (queue-quiet q
+              (row-quiet (graphOf (decode file)) a (l .period) (u * l .period) (u * l .period + l .period) r
+              hs W M (t .town .sizes .period) (t .town .small .period-some) start refl (k .at) c z));
+        }
+
+    -- what it gives is at most a period more than its head's numbers
+    given : (x : ℕ) → x < l .period → gridAt (l .period) M u x ≤ numbered H * l .period
+    unfolding givesTicks
+    given x i =
+        let y : x < decode file .period = omega (arith, t .town .sizes .period) in
+        rw e
+        (omega (
+          arith,
+          lowering .at x y,
+          town-bounded (t .town .sound) a x in-graph y,
+          t .town .sizes .period,
+          number-early (t .town .small) o (head (decode file) a) _ met (ended x) (k .some),
+        ))
+
+    -- a row that got its first numbers: none is below the least of its head's row and its least travel
+    pub near-first : {m : ℕ} {first : Bool} → LeastTravel file l a m → (first ≡ true → getD H u 0 ≡ 0)
+        → NearFirst first (l .period) M u (near - m)
+    unfolding givesTicks
+    near-first w z = record {
+      holds = λ f. record {
+        all = λ x i.
+            let bare = rw e at (o .bare u x node i (z f)) in
+            rw e
+            (omega (
+              arith,
+              lowering .at x (omega (arith, t .town .sizes .period)),
+              w .all x i,
+              k .at _ (ended x),
+              k .least _ (ended x),
+              least-near w,
+            ));
+      };
+    }
+
+    near-some : {d : ℕ} → Near (l .period) M u d → 0 < d
+    near-some n =
+        let x = t .town .small .period-some in
+        omega (arith, n .all 0 x, given 0 x, numbered-early (t .town .small) o)
+
+    pub stepped-lower : 0 < r → {d high : ℕ} → Near (l .period) M u d → Highest (l .period) M u high
+        → Stepped file l a near hs W D H M (set D u d) (set H u (never - high))
+    stepped-lower z {d} {high} n top =
+        let apart : head (decode file) a ≢ u = λ q. arc-apart (t .town) a h (sym e ∙ sym q) in
+        let kept = getD-set-other H u (head (decode file) a) (never - high) 0 apart in
+        record {
+          heights = heights-lower (t .town .small) o node (c .filled .long)
+              (λ w x m i ne.
+              lowering .other w x (omega (arith, t .town .sizes .nodes)) (omega (
+                arith,
+                t .town .sizes
+                    .period,
+              ))
+              (λ q. ne (q ∙ sym e)))
+              (λ x i. rw e (omega (arith, lowering .at x (omega (arith, t .town .sizes .period))))) given n
+              top;
+          held = still (λ q. k .some (sym kept ∙ q));
+          lighter =
+              burden-lower (l .nodes * l .period) D u (omega (arith, node, t .town .small .nodes-most))
+              (omega (arith, node, o .wide)) c z
+              (let m : u + 1 ≤ l .nodes = omega (arith, node) in omega (
+                arith,
+                mul-le-mul-right (l .period)
+                    m,
+              ))
+              (λ i _ _. row-lower _ _ _ _ W i) d;
+          carried = λ b v q. rw e
+              (queue-lower (lawful (t .town)) lowering in-graph d (near-some n) q
+              (omega (arith, node, o .wide, e)));
+        }
+
+-- A NODE'S TURN
+module _ {file : List ℕ} {l : Layout} {starts into next : List ℕ} (t : Ready file l starts into next) where
+  -- on to the arc that the table says
+  walk-skip : {b v i j : ℕ} {T : Travels} {D : List ℕ} → NextArc (head (decode file)) (l .arcs) v i j
+      → Queue (graphOf (decode file)) b v i T D
+      → Queue (graphOf (decode file)) b v j T D
+  walk-skip n q = queue-skip q (λ a lo hi m. n .none a lo hi (omega (arith, t .primed .town .sizes .arcs)))
+
+  pub walking-start : {v a : ℕ} {old hs W D H : List ℕ} → v < l .nodes → Heights l W D H → getD D v 0 ≢ 0
+      → Filled 0 (l .period) (rowsOf (l .period) W v) old hs → a ≡ getD into v 0
+      → Walking file l v a (getD D v 0) hs W (set D v 0) W (set D v 0) H
+  walking-start {v} {a} {W = W} {D = D} h o d f e =
+      let n = t .chained .firsts v h in
+      let small = t .primed .town .small in
+      rw e (record {
+        within = n .within;
+        meets = n .meets;
+        heights = heights-clear small o v h;
+        held = heights-held small o h d (λ y m. f .written y (omega arith) m);
+        lighter = omega arith;
+        carried = λ b q. walk-skip n q;
+      })
+
+  module _ {v a near : ℕ} {hs W D M E I : List ℕ} (w : Walking file l v a near hs W D M E I) where
+    -- FOR THE CALL at arc a
+    pub walking-held : a < l .arcs → Held (l .period) near hs M I (head (decode file) a)
+    walking-held h = rw (w .meets h) (w .held)
+
+    pub walking-next : {c : ℕ} {N F J : List ℕ} → a < l .arcs → Stepped file l a near hs M E I N F J
+        → c ≡ getD next a 0
+        → Walking file l v c near hs W D N F J
+    walking-next h s e =
+        let m = w .meets h in
+        let n = rw m at (t .chained .nexts a zero-le h) in
+        rw e (record {
+          within = n .within;
+          meets = n .meets;
+          heights = s .heights;
+          held = rw m at (s .held);
+          lighter = omega (arith, s .lighter, w .lighter);
+          carried = λ b q. walk-skip n (s .carried b v (w .carried b q));
+        })
+
+    pub walking-less : {c : ℕ} → a < l .arcs → c ≡ getD next a 0 → l .arcs - c < l .arcs - a
+    walking-less h e = let n = t .chained .nexts a zero-le h .from in omega (arith, n)
+
+    walking-all : l .arcs ≤ a → {b : ℕ} → Queue (graphOf (decode file)) b v a (rowsOf (l .period) M) E
+        → Idle (graphOf (decode file)) b (rowsOf (l .period) M) E
+    walking-all h q = record {
+      node = q .node;
+      sound = q .sound;
+      home = q .home;
+      settled = λ c x m k d _. q .settled c x m k d (λ _. omega (arith, t .primed .town .sizes .arcs));
+    }
+
+  pub walking-end : {v a near : ℕ} {hs W M E H I : List ℕ} (D : List ℕ) → v < l .nodes → Heights l W D H
+      → getD D v 0 ≢ 0
+      → Walking file l v a near hs W (set D v 0) M E I → l .arcs ≤ a
+      → Turned file l W D M E I
+  walking-end {v} {W = W} D n o d w h = record {
+    heights = w .heights;
+    lighter =
+        omega (
+          arith,
+          w .lighter,
+          burden-clear (l .nodes * l .period) D v (omega (arith, t .primed .town .small .nodes-most))
+              (omega (arith, o .wide)) W d,
+        );
+    carried = λ b q. walking-all w h (w .carried b (queue-begin q (omega arith) v));
+  }
+
+-- TURN AFTER TURN
+module _ {file : List ℕ} {l : Layout} {starts into next : List ℕ} (t : Ready file l starts into next) {b : ℕ}
+  where
+    pub waiting-start : {old W M : List ℕ} → b < l .nodes → length old ≡ l .nodes * l .period
+        → Filled 0 (length old) (λ _. never) old W
+        → Filled (b * l .period) (b * l .period + l .period) (λ _. 0) W M
+        → Waiting file l b M (set (replicate mostNodes 0) b never) (set (replicate mostNodes 0) b never) b
+    unfolding gridAt
+    waiting-start {W = W} {M = M} h s f z = record {
+      heights = heights-first h (z .long ∙ f .long ∙ s) few
+          (λ x k. home x (omega (arith, town .sizes .period)))
+          (λ u x n k. away u x (omega (arith, town .sizes .nodes)) (omega (arith, town .sizes .period)));
+      queue = queue-first (lawful town) (omega (arith, town .sizes .nodes)) home away
+          (λ e. omega (arith, dirty));
+      found = record {
+        dirty = λ _ e. omega (arith, dirty);
+        none = λ m. absurd (omega arith);
+      };
+    }
+      where
+        town : Town file l
+        town = t .primed .town
+
+        few : l .nodes ≤ mostNodes
+        few = town .small .nodes-most
+
+        dirty : getD (set (replicate mostNodes 0) b never) b 0 ≡ never
+        dirty = only-same b never (omega arith)
+
+        home : (x : ℕ) → x < graphOf (decode file) .period → gridAt (l .period) M b x ≡ 0
+        home x k = z .written (b * l .period + x) (omega arith) (omega (arith, town .sizes .period))
+
+        away : (u x : ℕ) → u < graphOf (decode file) .nodes → x < graphOf (decode file) .period → u ≢ b
+            → gridAt (l .period) M u x ≡ never
+        away u x n k ne =
+            let y : x < l .period = omega (arith, town .sizes .period) in
+            let w : getD W (u * l .period + x) 0 ≡ never =
+            f .written (u * l .period + x) (omega arith)
+            (omega (arith, s, grid-in (l .period) (l .nodes) u x (omega (arith, town .sizes .nodes)) y)) in
+            elim (decLt u b) [
+              | yes m ↦ z .before (u * l .period + x) (omega (arith, mul-le-mul-right (l .period) m)) ∙ w
+              | no m ↦
+                  let q : b < u = omega arith in
+                  z .after (u * l .period + x) (omega (arith, mul-le-mul-right (l .period) q)) ∙ w
+            ]
+
+    module _ {W D H : List ℕ} {v : ℕ} (w : Waiting file l b W D H v) where
+      pub waiting-next : {M E I : List ℕ} {u : ℕ} → Turned file l W D M E I → Found (l .nodes) E u
+          → Waiting file l b M E I u
+      waiting-next s f = record { heights = s .heights; queue = s .carried b (w .queue); found = f }
+
+      pub waiting-end : l .nodes ≤ v → Worked (graphOf (decode file)) b W
+      waiting-end h =
+          let town = t .primed .town in
+          let m = modest town in
+          let k = queue-least (m .lawful) (w .queue) (omega arith)
+          (λ u n. w .found .none h u (omega (arith, town .sizes .nodes))) in
+          record {
+            at =
+                λ u x n y. ap (λ (p : ℕ). gridAt p W u x) (sym (town .sizes .period))
+                ∙ least-is m b n y (k .at u x n y);
+          }

@@ -1,0 +1,322 @@
+// toward_node: the least travel from every node, at every tick, to one node, worked out backwards from it in
+// a lent list of numbers. The list has a row for each node and in it a number for each tick. A node whose
+// row has fallen is dirty; the arcs into a dirty node lower the rows of their tails, whole rows at a time,
+// until no node is dirty. The order in which nodes are taken is free; the nearest dirty node is taken first.
+//   leasts   the least travel of each arc
+// Two tables stand beside the rows: `near`, 0 where a node is clean and else never less a number that no
+// entry of its row is below, and `room`, 0 where it has no number yet and else never less its greatest
+// (specs/Heights.antt). By them an arc that cannot lower its tail's row is passed over.
+// It may call `toward_row` for an arc lowered into a row and `network` for the entries of the file; it cites
+// `search_arcs`, `theory_loops`, `theory_paths` and `theory_travel`.
+pub mod leasts;
+
+use network::header::Layout;
+use network::limits::MOST_ARCS;
+use network::limits::MOST_NODES;
+use network::limits::MOST_PERIOD;
+use network::limits::NEVER;
+use network::read;
+use search_arcs::wide;
+ghost use mathlib.Core.Path.{_≡_};
+ghost use mathlib.Core.Logic.{_≢_};
+ghost use Prim.Native.Nat.{_+_, _-_, _*_, _≤_, _<_, min, max};
+ghost use lib.ListN.{length, getD};
+ghost use lib.Dec.{leb};
+ghost use Rattle.theory_loops.specs.Fill.{Filled};
+ghost use Rattle.theory_paths.specs.Earliest.{never};
+ghost use Rattle.network.specs.Network.{head};
+ghost use Rattle.network.specs.Limits.{mostNodes};
+ghost use Rattle.network.specs.Decode.{decode, Small};
+ghost use Rattle.network.specs.Town.{graphOf, travelAt};
+ghost use Rattle.toward_row.specs.Arcs.{Primed};
+ghost use Rattle.toward_row.specs.Cut.{Cut};
+ghost use Rattle.toward_row.specs.Lower.{entries, Capped, Fresh};
+ghost use Rattle.toward_node.specs.Heights.{Heights, Held, Near, NearFirst, Highest};
+ghost use Rattle.toward_node.specs.Leasts.{Leasts};
+ghost use Rattle.toward_node.specs.Rows.{rowsOf, rowLowered, Worked};
+ghost use Rattle.toward_node.specs.Turn.{Ready, Stepped, Turned, Found};
+ghost use Rattle.toward_node.specs.Places.{Most};
+
+// The place of a node's row.
+pub fn row_place(l: Layout, u: usize) -> usize
+    requires { ⌜ Small l ⌝ }
+    requires { ⌜ u < l .nodes ⌝ }
+    ensures { λ r. ⌜ (r ≡ u * l .period) × (r + l .period ≤ l .nodes * l .period)
+        × (r + l .period < 2000000) ⌝ }
+{
+    u * l.period
+}
+
+// Copies a node's row.
+pub fn copy_row(l: Layout, v: usize, work: &[u32], hs: &mut [u32; MOST_PERIOD])
+    requires { ⌜ Small l ⌝ }
+    requires { ⌜ (v < l .nodes) × (length (now work) ≡ l .nodes * l .period)
+        × (l .period ≤ length (now hs)) ⌝ }
+    ensures { λ _. ⌜ Filled 0 (l .period) (rowsOf (l .period) (now (work .entry)) v) (now (hs .entry))
+        (now (hs .exit)) ⌝ }
+{
+    let p = row_place(l, v);
+    for x in 0..l.period {
+        hs[x] = work[p + x];
+    }
+}
+
+// Lowers the row of node u by what an arc gives, where `hs` is its head's row. `first` says that the row has
+// no number yet. Answers how many entries fell.
+fn lower_row(
+    first: bool,
+    file: &[u8],
+    l: Layout,
+    starts: &[u16; MOST_ARCS],
+    arc: usize,
+    u: usize,
+    hs: &[u32; MOST_PERIOD],
+    work: &mut [u32],
+) -> u32
+    requires { ⌜ Primed (now file) l (now starts) ⌝ }
+    requires { ⌜ (arc < l .arcs) × (u < l .nodes) × (length (now work) ≡ l .nodes * l .period) ⌝ }
+    requires { ⌜ Capped (now hs) (l .period)
+        × Fresh first (now work) (u * l .period) (u * l .period + l .period) ⌝ }
+    ensures { λ r. ⌜ Cut (u * l .period) (u * l .period + l .period)
+        (rowLowered (travelAt (decode (now (file .entry))) arc) (entries (now (hs .entry))) (l .period)
+        (u * l .period) (now (work .entry))) (now (work .entry)) (now (work .exit)) r ⌝ }
+{
+    let p = row_place(l, u);
+    let e = p + l.period;
+    toward_row::lower_arc(first, file, l, starts, arc, hs, &mut work[p..e])
+}
+
+// The lesser of two numbers.
+fn lesser(a: u32, b: u32) -> u32
+    ensures { λ r. ⌜ r ≡ min a b ⌝ }
+{
+    if b < a { b } else { a }
+}
+
+// The greater of two numbers.
+fn greater(a: u32, b: u32) -> u32
+    ensures { λ r. ⌜ r ≡ max a b ⌝ }
+{
+    if a < b { b } else { a }
+}
+
+// How near a node is: never less the least number of its row.
+fn nearness(l: Layout, u: usize, work: &[u32]) -> u32
+    requires { ⌜ Small l ⌝ }
+    requires { ⌜ (u < l .nodes) × (length (now work) ≡ l .nodes * l .period) ⌝ }
+    ensures { λ r. ⌜ Near (l .period) (now (work .entry)) u r ⌝ }
+{
+    let p = row_place(l, u);
+    let e = p + l.period;
+    let mut low = NEVER;
+    for i in p..e {
+        low = lesser(low, work[i]);
+    }
+    NEVER - low
+}
+
+// The same, where a row that got its first numbers needs no look: by an arc with least travel `least`, whose
+// head has `reach` in `near`.
+fn nearness_after(first: bool, reach: u32, least: u16, l: Layout, u: usize, work: &[u32]) -> u32
+    requires { ⌜ Small l ⌝ }
+    requires { ⌜ (u < l .nodes) × (length (now work) ≡ l .nodes * l .period) × (least ≤ reach)
+        × NearFirst first (l .period) (now work) u (reach - least) ⌝ }
+    ensures { λ r. ⌜ Near (l .period) (now (work .entry)) u r ⌝ }
+{
+    if first {
+        return reach - least as u32;
+    }
+    nearness(l, u, work)
+}
+
+// The greatest number of a node's row.
+fn highest(l: Layout, u: usize, work: &[u32]) -> u32
+    requires { ⌜ Small l ⌝ }
+    requires { ⌜ (u < l .nodes) × (length (now work) ≡ l .nodes * l .period) ⌝ }
+    ensures { λ r. ⌜ Highest (l .period) (now (work .entry)) u r ⌝ }
+{
+    let p = row_place(l, u);
+    let e = p + l.period;
+    let mut high = work[p];
+    for i in p..e {
+        high = greater(high, work[i]);
+    }
+    high
+}
+
+// Whether an arc gives no less than its tail's row has: `near` is that of its head, `room` that of its tail,
+// and `least` its least travel.
+fn is_idle(near: u32, room: u32, least: u16) -> bool
+    ensures { λ r. ⌜ r ≡ leb near (room + least) ⌝ }
+{
+    near as u64 <= room as u64 + least as u64
+}
+
+// An arc's turn: its tail's row is lowered, and where an entry fell the tail is dirty. `hs` is its head's row
+// and `reach` what `near` had of the head.
+fn lower_tail(
+    file: &[u8],
+    l: Layout,
+    starts: &[u16; MOST_ARCS],
+    least: &[u16; MOST_ARCS],
+    arc: usize,
+    hs: &[u32; MOST_PERIOD],
+    reach: u32,
+    work: &mut [u32],
+    near: &mut [u32; MOST_NODES],
+    room: &mut [u32; MOST_NODES],
+)
+    requires { ⌜ Primed (now file) l (now starts) × Leasts (now file) l (l .arcs) (now least) ⌝ }
+    requires { ⌜ (arc < l .arcs) × Heights l (now work) (now near) (now room)
+        × Held (l .period) reach (now hs) (now work) (now room) (head (decode (now file)) arc) ⌝ }
+    ensures { λ _. ⌜ Stepped (now (file .entry)) l arc reach (now (hs .entry)) (now (work .entry))
+        (now (near .entry)) (now (room .entry)) (now (work .exit)) (now (near .exit)) (now (room .exit)) ⌝ }
+{
+    let u = read::tail(file, l, arc);
+    let top = room[u];
+    if is_idle(reach, top, least[arc]) {
+        return;
+    }
+    let first = top == 0;
+    let fell = lower_row(first, file, l, starts, arc, u, hs, work);
+    if fell == 0 {
+        return;
+    }
+    near[u] = nearness_after(first, reach, least[arc], l, u, work);
+    room[u] = NEVER - highest(l, u, work);
+}
+
+// A node's turn: it is clean, and each arc into it has its turn. Its row is copied to `hs`.
+fn settle(
+    file: &[u8],
+    l: Layout,
+    starts: &[u16; MOST_ARCS],
+    into: &[u16; MOST_NODES],
+    next: &[u16; MOST_ARCS],
+    least: &[u16; MOST_ARCS],
+    v: usize,
+    hs: &mut [u32; MOST_PERIOD],
+    work: &mut [u32],
+    near: &mut [u32; MOST_NODES],
+    room: &mut [u32; MOST_NODES],
+)
+    requires { ⌜ Ready (now file) l (now starts) (now into) (now next)
+        × Leasts (now file) l (l .arcs) (now least) ⌝ }
+    requires { ⌜ (v < l .nodes) × Heights l (now work) (now near) (now room) × (getD (now near) v 0 ≢ 0)
+        × (l .period ≤ length (now hs)) ⌝ }
+    ensures { λ _. ⌜ Turned (now (file .entry)) l (now (work .entry)) (now (near .entry)) (now (work .exit))
+        (now (near .exit)) (now (room .exit)) × (length (now (hs .exit)) ≡ length (now (hs .entry))) ⌝ }
+{
+    copy_row(l, v, work, hs);
+    let reach = near[v];
+    near[v] = 0;
+    let mut a = wide(into[v]);
+    while a < l.arcs {
+        lower_tail(file, l, starts, least, a, hs, reach, work, near, room);
+        a = wide(next[a]);
+    }
+}
+
+// The most that a node has in `near`.
+fn most_near(near: &[u32; MOST_NODES], nodes: usize) -> u32
+    requires { ⌜ nodes ≤ mostNodes ⌝ }
+    ensures { λ r. ⌜ Most nodes r (now (near .entry)) ⌝ }
+{
+    let mut most = 0;
+    for v in 0..nodes {
+        most = greater(most, near[v]);
+    }
+    most
+}
+
+// The first node that has `most` in `near`.
+fn first_with(near: &[u32; MOST_NODES], nodes: usize, most: u32) -> usize
+    requires { ⌜ (nodes ≤ mostNodes) × Most nodes most (now near) × (most ≢ 0) ⌝ }
+    ensures { λ r. ⌜ Found nodes (now (near .entry)) r ⌝ }
+{
+    for v in 0..nodes {
+        if near[v] == most {
+            return v;
+        }
+    }
+    nodes
+}
+
+// The nearest dirty node, or the number of nodes where none is dirty. Two looks, the first of which has no
+// test in its loop and becomes vector code.
+fn nearest(near: &[u32; MOST_NODES], nodes: usize) -> usize
+    requires { ⌜ nodes ≤ mostNodes ⌝ }
+    ensures { λ r. ⌜ Found nodes (now (near .entry)) r ⌝ }
+{
+    let most = most_near(near, nodes);
+    if most == 0 {
+        return nodes;
+    }
+    first_with(near, nodes, most)
+}
+
+// No node has a number.
+fn clear(work: &mut [u32])
+    ensures { λ _. ⌜ Filled 0 (length (now (work .entry))) (λ _. never) (now (work .entry))
+        (now (work .exit)) ⌝ }
+{
+    for i in 0..work.len() {
+        work[i] = NEVER;
+    }
+}
+
+// Node b's numbers are 0.
+fn zero_row(l: Layout, b: usize, work: &mut [u32])
+    requires { ⌜ Small l ⌝ }
+    requires { ⌜ (b < l .nodes) × (length (now work) ≡ l .nodes * l .period) ⌝ }
+    ensures { λ _. ⌜ Filled (b * l .period) (b * l .period + l .period) (λ _. 0) (now (work .entry))
+        (now (work .exit)) ⌝ }
+{
+    let p = row_place(l, b);
+    let e = p + l.period;
+    for i in p..e {
+        work[i] = 0;
+    }
+}
+
+// The least travels to node b, by turn after turn until no node is dirty.
+pub fn least_travels(
+    file: &[u8],
+    l: Layout,
+    starts: &[u16; MOST_ARCS],
+    into: &[u16; MOST_NODES],
+    next: &[u16; MOST_ARCS],
+    least: &[u16; MOST_ARCS],
+    b: usize,
+    work: &mut [u32],
+)
+    requires { ⌜ Ready (now file) l (now starts) (now into) (now next)
+        × Leasts (now file) l (l .arcs) (now least) ⌝ }
+    requires { ⌜ (b < l .nodes) × (length (now work) ≡ l .nodes * l .period) ⌝ }
+    ensures { λ _. ⌜ Worked (graphOf (decode (now (file .entry)))) b (now (work .exit)) ⌝ }
+{
+    clear(work);
+    zero_row(l, b, work);
+    let mut hs = [0u32; MOST_PERIOD];
+    let mut near = [0u32; MOST_NODES];
+    let mut room = [0u32; MOST_NODES];
+    near[b] = NEVER;
+    room[b] = NEVER;
+    let mut v = b;
+    while v < l.nodes {
+        settle(
+            file,
+            l,
+            starts,
+            into,
+            next,
+            least,
+            v,
+            &mut hs,
+            work,
+            &mut near,
+            &mut room,
+        );
+        v = nearest(&near, l.nodes);
+    }
+}

@@ -1,0 +1,2 @@
+-- A row of travels, and the laws of the loop that counts its points.
+pub mod Row

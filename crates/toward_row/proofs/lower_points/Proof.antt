@@ -1,0 +1,323 @@
+-- `toward_row::lower_points` meets its contract: before tick `flat` all is lowered, from there up to the tick
+-- of point k the travel is v, and it waits.
+use mathlib.Core.Path.{_≡_, refl, _∙_}
+use Prim.Native.Nat.{_+_, _-_, _≤_, _<_}
+use native.Mathlib.Omega.{arith}
+use lib.ListN.{length}
+use denote.Ref.{now}
+use Rattle.theory_travel.specs.Table.{entryAt, valueAt, entry-start}
+use Rattle.theory_travel.specs.Pieces.{tick-first, tick-rises, tick-below}
+use Rattle.network.specs.Decode.{decode}
+use Rattle.toward_row.specs.Cut.{Cut, cut-none}
+use Rattle.toward_row.specs.Lower.{entries, lowered, fresh-on}
+use Rattle.toward_row.specs.Arcs.{Flat, flat-none, flat-more, flat-lowered, ready-next, ready-last}
+use Rattle.toward_row.specs.Arcs.{arc-next, arc-last}
+use borrow.Author.Needs.{needs}
+use Rattle.toward_row.proofs.lower_points.Statement.{statement}
+use Rattle.toward_row.proofs.lower_points.Tie as tie
+
+abbrev Inv-loop : tie.InvT-loop
+Inv-loop first file l from count hs row₀ last begin fallen₀ flat₀ a₀ v₀ k₀ row fallen flat a v k =
+    (k ≤ last) × (a ≡ entryAt (decode file .ticks) from k) × (v ≡ entryAt (decode file .travels) from k)
+    × Flat (valueAt (decode file .ticks) (decode file .travels) from count (l .period)) flat a v
+    × Cut 0 flat
+    (lowered (valueAt (decode file .ticks) (decode file .travels) from count (l .period)) (entries hs)
+    (l .period) row₀) row₀ row fallen
+
+abbrev μ-loop : tie.MeasureT-loop
+μ-loop first file l from count hs row₀ last begin fallen₀ flat₀ a₀ v₀ k₀ row fallen flat a v k = last - k
+
+sub-last : tie.Need-sub-last Inv-loop μ-loop
+sub-last c = search needs
+
+travel-requires : tie.Need-travel-requires Inv-loop μ-loop
+travel-requires c κs = search needs
+
+loop-holds : tie.Need-loop-holds Inv-loop μ-loop
+unfolding entryAt
+loop-holds c =
+    let s = c .before .before .before in (
+      search needs,
+      tick-first (s .pre .1 .0 .day),
+      entry-start (decode (now (s .args .file)) .travels) (s .args .from) _ (c .travel .ensures .0),
+      search flat-none,
+      search cut-none,
+    )
+
+add-tick : tie.Need-add-tick Inv-loop μ-loop
+add-tick c = search needs
+
+add-tick-2 : tie.Need-add-tick-2 Inv-loop μ-loop
+add-tick-2 c = search needs
+
+tick-requires : tie.Need-tick-requires Inv-loop μ-loop
+tick-requires c κs = search needs
+
+add-travel : tie.Need-add-travel Inv-loop μ-loop
+add-travel c = search needs
+
+add-travel-2 : tie.Need-add-travel-2 Inv-loop μ-loop
+add-travel-2 c = search needs
+
+travel-requires-2 : tie.Need-travel-requires-2 Inv-loop μ-loop
+travel-requires-2 c κs = search needs
+
+add-k : tie.Need-add-k Inv-loop μ-loop
+add-k c = search needs
+
+loop-less : tie.Need-loop-less Inv-loop μ-loop
+loop-less c = search needs
+
+loop-again : tie.Need-loop-again Inv-loop μ-loop
+unfolding entryAt
+loop-again c =
+    let s = c .before .before .before .before .before .before .before .before in
+    let l = c .before .before .before .before .loop in
+    let h : l .k + 1 < s .args .count = omega arith in
+    let tick = c .before .before .tick .ensures .0 in
+    let travel = c .before .travel2 .ensures .0 in (
+      search needs,
+      tick,
+      c .if1 .taken ∙ travel,
+      flat-more (s .pre .1 .0) _ (l .k) _ _ _ _ (l .inv .3) (l .inv .1) (l .inv .2) tick travel h
+          (c .if1 .taken),
+      l .inv .4,
+    )
+
+lower-span-requires : tie.Need-lower-span-requires Inv-loop μ-loop
+unfolding entryAt
+lower-span-requires c κs =
+    let s = c .before .before .before .before .before .before .before .before .before in
+    let l = c .before .before .before .before .before .loop in
+    let h : l .k < s .args .count = omega arith in
+    let m : s .args .l .period ≤ length (l .row) = omega (arith, l .inv .4 .filled .long) in (
+      (
+        l .inv .3 .order,
+        omega (arith, tick-below (s .pre .1 .0 .day) (l .k) _ (l .inv .1) h),
+        omega (arith, s .pre .1 .0 .most (l .k) h, l .inv .2),
+        s .pre .1 .0 .short,
+        m,
+      ),
+      (
+        s .pre .1 .1 .1,
+        fresh-on (s .pre .1 .1 .2) (l .inv .4 .filled) (omega arith)
+            (omega (arith, tick-below (s .pre .1 .0 .day) (l .k) _ (l .inv .1) h)),
+      ),
+    )
+
+add-fallen : tie.Need-add-fallen Inv-loop μ-loop
+unfolding entryAt
+add-fallen c =
+    let s = c .before .before .before .before .before .before .before .before .before .before .before .before
+    in
+    let l = c .before .before .before .before .before .before .before .before .loop in
+    let h : l .k < s .args .count = omega arith in
+    let n = tick-below (s .pre .1 .0 .day) (l .k) _ (l .inv .1) h in
+    omega (
+      arith,
+      n,
+      l .inv .3 .order,
+      l .inv .4 .few,
+      c .before .before .lower-span .ensures .few,
+      s .pre .1 .0 .short,
+    )
+
+lower-piece-requires : tie.Need-lower-piece-requires Inv-loop μ-loop
+unfolding entryAt
+lower-piece-requires c κs =
+    let s = c .before .before .before .before .before .before .before .before .before .before .before .before
+    .before in
+    let l = c .before .before .before .before .before .before .before .before .before .loop in
+    let h : l .k + 1 < s .args .count = omega arith in
+    let m : s .args .l .period ≤ length (c .before .before .before .lower-span .last .1 .1 .1 .1 .0) =
+    omega (arith, l .inv .4 .filled .long, c .before .before .before .lower-span .ensures .filled .long)
+    in
+    let before = fresh-on {e = s .args .l .period} (s .pre .1 .1 .2) (l .inv .4 .filled) (omega arith)
+    (omega arith) in
+    let fresh = fresh-on {e = s .args .l .period} before (c .before .before .before .lower-span .ensures
+    .filled)
+    (l .inv .3 .order) (omega arith) in
+    ready-next (s .pre .1 .0) (s .pre .1 .1 .1) (l .k) _ _ _ _ fresh (l .inv .1) (l .inv .2) m
+    (c .before .before .before .before .before .before .before .tick .ensures .0)
+    (c .before .before .before .before .before .before .travel2 .ensures .0) h
+
+add-fallen-2 : tie.Need-add-fallen-2 Inv-loop μ-loop
+unfolding entryAt
+add-fallen-2 c =
+    let s = c .before .before .before .before .before .before .before .before .before .before .before .before
+    .before .before .before .before in
+    let l = c .before .before .before .before .before .before .before .before .before .before .before .before
+    .loop in
+    let h : l .k + 1 < s .args .count = omega arith in
+    let m = tick-rises (s .pre .1 .0 .day) (l .k) _ (l .inv .1) _
+    (c .before .before .before .before .before .before .before .before .before .before .tick .ensures .0)
+    h in
+    let n = tick-below (s .pre .1 .0 .day) (l .k + 1) _
+    (c .before .before .before .before .before .before .before .before .before .before .tick .ensures .0)
+    h in
+    omega (
+      arith,
+      m,
+      n,
+      l .inv .3 .order,
+      l .inv .4 .few,
+      c .before .before .before .before .before .before .lower-span .ensures .few,
+      c .before .before .lower-piece .ensures .few,
+      s .pre .1 .0 .short,
+    )
+
+add-k-2 : tie.Need-add-k-2 Inv-loop μ-loop
+add-k-2 c = search needs
+
+loop-less-2 : tie.Need-loop-less-2 Inv-loop μ-loop
+loop-less-2 c = search needs
+
+loop-again-2 : tie.Need-loop-again-2 Inv-loop μ-loop
+unfolding entryAt
+loop-again-2 c =
+    let s = c .before .before .before .before .before .before .before .before .before .before .before .before
+    .before .before .before .before in
+    let l = c .before .before .before .before .before .before .before .before .before .before .before .before
+    .loop in
+    let h : l .k + 1 < s .args .count = omega arith in
+    let tick =
+    c .before .before .before .before .before .before .before .before .before .before .tick .ensures .0 in
+    let travel =
+    c .before .before .before .before .before .before .before .before .before .travel2 .ensures .0 in
+    let before =
+    flat-lowered _ _ _ _ _ _ _ _ _ _ _ (l .inv .4) (l .inv .3)
+    (c .before .before .before .before .before .before .lower-span .ensures) in (
+      search needs,
+      tick,
+      travel,
+      flat-none _ _ _,
+      arc-next (s .pre .1 .0) _ _ _ _ (l .k) _ _ _ _ _ _ before (c .before .before .lower-piece .ensures)
+          (l .inv .1) (l .inv .2) tick travel h,
+    )
+
+lower-span-requires-2 : tie.Need-lower-span-requires-2 Inv-loop μ-loop
+unfolding entryAt
+lower-span-requires-2 c κs =
+    let s = c .before .before .before .before .before .before in
+    let l = c .before .before .loop in
+    let h : l .k < s .args .count = omega arith in
+    let m : s .args .l .period ≤ length (l .row) = omega (arith, l .inv .4 .filled .long) in (
+      (
+        l .inv .3 .order,
+        omega (arith, tick-below (s .pre .1 .0 .day) (l .k) _ (l .inv .1) h),
+        omega (arith, s .pre .1 .0 .most (l .k) h, l .inv .2),
+        s .pre .1 .0 .short,
+        m,
+      ),
+      (
+        s .pre .1 .1 .1,
+        fresh-on (s .pre .1 .1 .2) (l .inv .4 .filled) (omega arith)
+            (omega (arith, tick-below (s .pre .1 .0 .day) (l .k) _ (l .inv .1) h)),
+      ),
+    )
+
+add-fallen-3 : tie.Need-add-fallen-3 Inv-loop μ-loop
+unfolding entryAt
+add-fallen-3 c =
+    let s = c .before .before .before .before .before .before .before .before .before in
+    let l = c .before .before .before .before .before .loop in
+    let h : l .k < s .args .count = omega arith in
+    let n = tick-below (s .pre .1 .0 .day) (l .k) _ (l .inv .1) h in
+    omega (
+      arith,
+      n,
+      l .inv .3 .order,
+      l .inv .4 .few,
+      c .before .before .lower-span2 .ensures .few,
+      s .pre .1 .0 .short,
+    )
+
+lower-piece-requires-2 : tie.Need-lower-piece-requires-2 Inv-loop μ-loop
+unfolding entryAt
+lower-piece-requires-2 c κs =
+    let s = c .before .before .before .before .before .before .before .before .before .before in
+    let l = c .before .before .before .before .before .before .loop in
+    let h : l .k < s .args .count = omega arith in
+    let m : s .args .l .period ≤ length (c .before .before .before .lower-span2 .last .1 .1 .1 .1 .0) =
+    omega (arith, l .inv .4 .filled .long, c .before .before .before .lower-span2 .ensures .filled .long)
+    in
+    let first =
+    entry-start (decode (now (s .args .file)) .travels) (s .args .from) _
+    (c .before .before .before .before .before .before .before .travel .ensures .0) in
+    let before = fresh-on {e = s .args .l .period} (s .pre .1 .1 .2) (l .inv .4 .filled) (omega arith)
+    (omega arith) in
+    let fresh = fresh-on {e = s .args .l .period} before (c .before .before .before .lower-span2 .ensures
+    .filled)
+    (l .inv .3 .order) (omega arith) in
+    ready-last (s .pre .1 .0) (s .pre .1 .1 .1) (l .k) _ _ _ _ fresh (l .inv .1) (l .inv .2) m refl first h
+
+add-result : tie.Need-add-result Inv-loop μ-loop
+unfolding entryAt
+add-result c =
+    let s = c .before .before .before .before .before .before .before .before .before .before .before .before
+    .before in
+    let l = c .before .before .before .before .before .before .before .before .before .loop in
+    let h : l .k < s .args .count = omega arith in
+    let n = tick-below (s .pre .1 .0 .day) (l .k) _ (l .inv .1) h in
+    omega (
+      arith,
+      n,
+      l .inv .3 .order,
+      l .inv .4 .few,
+      c .before .before .before .before .before .before .lower-span2 .ensures .few,
+      c .before .before .lower-piece2 .ensures .few,
+      s .pre .1 .0 .short,
+    )
+
+same-length : tie.Need-same-length Inv-loop μ-loop
+same-length c = search needs
+
+returns : tie.Need-returns Inv-loop μ-loop
+unfolding entryAt
+returns c =
+    let s = c .before .before .before .before .before .before .before .before .before .before .before .before
+    .before in
+    let l = c .before .before .before .before .before .before .before .before .before .loop in
+    let h : l .k < s .args .count = omega arith in
+    let m : s .args .count ≤ l .k + 1 = omega arith in
+    let first =
+    entry-start (decode (now (s .args .file)) .travels) (s .args .from) _
+    (c .before .before .before .before .before .before .before .before .before .before .travel .ensures
+    .0) in
+    let before =
+    flat-lowered _ _ _ _ _ _ _ _ _ _ _ (l .inv .4) (l .inv .3)
+    (c .before .before .before .before .before .before .lower-span2 .ensures) in
+    arc-last (s .pre .1 .0) _ _ _ _ (l .k) _ _ _ _ _ _ before (c .before .before .lower-piece2 .ensures)
+    (l .inv .1) (l .inv .2) refl first h m
+
+pub lower-points-spec : {M : Type 1} → statement M
+lower-points-spec =
+    tie.close
+    (tie.spec
+    Inv-loop
+    μ-loop
+    sub-last
+    travel-requires
+    loop-holds
+    add-tick
+    add-tick-2
+    tick-requires
+    add-travel
+    add-travel-2
+    travel-requires-2
+    add-k
+    loop-less
+    loop-again
+    lower-span-requires
+    add-fallen
+    lower-piece-requires
+    add-fallen-2
+    add-k-2
+    loop-less-2
+    loop-again-2
+    lower-span-requires-2
+    add-fallen-3
+    lower-piece-requires-2
+    add-result
+    same-length
+    returns)

@@ -1,0 +1,46 @@
+-- `toward_row::lower_run` meets its contract: into a fresh row a run is copied.
+use Rattle.toward_row.specs.Lower.{run-copied}
+use borrow.Author.Needs.{needs}
+use Rattle.toward_row.proofs.lower_run.Statement.{statement}
+use Rattle.toward_row.proofs.lower_run.Tie as tie
+
+copy-run-requires : tie.Need-copy-run-requires
+copy-run-requires c κs = search needs
+
+sub-result : tie.Need-sub-result
+sub-result c = search needs
+
+cast-result : tie.Need-cast-result
+cast-result c = search needs
+
+same-length : tie.Need-same-length
+same-length c = search needs
+
+returns : tie.Need-returns
+returns c =
+    let s = c .before .before .before .before .before .before in
+    run-copied _ _ _ _ (c .before .before .before .before .if1 .taken) (s .pre .0 .0) (s .pre .0 .4) (s
+    .pre .1 .0)
+    (s .pre .1 .1) (c .before .before .copy-run .ensures)
+
+fold-run-requires : tie.Need-fold-run-requires
+fold-run-requires c κs = search needs
+
+same-length-2 : tie.Need-same-length-2
+same-length-2 c = search needs
+
+returns-2 : tie.Need-returns-2
+returns-2 c = search needs
+
+pub lower-run-spec : {M : Type 1} → statement M
+lower-run-spec =
+    tie.close
+    (tie.spec
+    copy-run-requires
+    sub-result
+    cast-result
+    same-length
+    returns
+    fold-run-requires
+    same-length-2
+    returns-2)

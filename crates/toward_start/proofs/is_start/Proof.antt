@@ -1,0 +1,113 @@
+-- `toward_start::is_start` meets its contract.
+use mathlib.Core.Path.{refl}
+use native.Mathlib.Omega.{arith}
+use Rattle.search_arcs.specs.Town.{tail-node, head-node}
+use Rattle.toward_start.specs.Start.{no-start, tail-row, head-capped, not-fresh, start-is}
+use borrow.Author.Needs.{needs}
+use Rattle.toward_start.proofs.is_start.Statement.{statement}
+use Rattle.toward_start.proofs.is_start.Tie as tie
+
+tail-requires : tie.Need-tail-requires
+tail-requires c κs = search needs
+
+head-requires : tie.Need-head-requires
+head-requires c κs = search needs
+
+row-place-requires : tie.Need-row-place-requires
+row-place-requires c κs =
+    let s = c .before .before .before .before in
+    (s .pre .0 .town .small, head-node (s .pre .0 .town) _ _ (s .pre .1 .0 .0) (c .head .ensures .0))
+
+mul-if1 : tie.Need-mul-if1
+mul-if1 c = search needs
+
+shared-slice-read-if1 : tie.Need-shared-slice-read-if1
+shared-slice-read-if1 c = search needs
+
+returns : tie.Need-returns
+returns c =
+    let s = c .before .before .before .before .before .before .before in
+    no-start (s .pre .0) (s .pre .1 .1) (s .pre .1 .0 .0)
+    (c .before .before .before .before .tail .ensures .0) (c .before .before .before .head .ensures .0)
+    _ _ (c .before .before .row-place .ensures .0) refl (c .if1 .taken)
+
+copy-row-requires : tie.Need-copy-row-requires
+copy-row-requires c κs =
+    let s = c .before .before .before .before .before .before .before .before in (
+      s .pre .0 .town .small,
+      (
+        head-node (s .pre .0 .town) _ _ (s .pre .1 .0 .0)
+            (c .before .before .before .before .head .ensures .0),
+        s .pre .1 .0 .2,
+        s .pre .0 .town .small .period-most,
+      ),
+    )
+
+raise-row-requires : tie.Need-raise-row-requires
+raise-row-requires c κs =
+    let s = c .before .before .before .before .before .before .before .before .before .before in
+    let e = c .before .before .before .before .before .before .before .tail .ensures .0 in (
+      s .pre .0 .town .small,
+      (
+        (
+          tail-node (s .pre .0 .town) _ _ (s .pre .1 .0 .0) e,
+          s .pre .1 .0 .2,
+          s .pre .0 .town .small .period-most,
+        ),
+        tail-row (s .pre .0) (s .pre .1 .1) (s .pre .1 .0 .0) e
+            (c .before .before .before .before .before .before .head .ensures .0)
+            _ _ (c .before .before .before .before .before .row-place .ensures .0) refl
+            (c .before .before .before .if1 .left),
+      ),
+    )
+
+slice-aggregate-lower-arc : tie.Need-slice-aggregate-lower-arc
+slice-aggregate-lower-arc c = search needs
+
+lower-arc-requires : tie.Need-lower-arc-requires
+lower-arc-requires c κs =
+    let s = c .before .before .before .before .before .before .before .before .before .before .before .before
+    .before in
+    let e = c .before .before .before .before .before .before .before .before .before .before .tail .ensures
+    .0 in (
+      s .pre .0,
+      (
+        s .pre .1 .0 .0,
+        omega (arith, c .before .before .raise-row .ensures .long, s .pre .0 .town .small .period-most),
+        head-capped (s .pre .0) (s .pre .1 .1) (s .pre .1 .0 .0) e
+            (c .before .before .before .before .before .before .before .before .before .head .ensures .0)
+            _ _ (c .before .before .before .before .before .before .before .before .row-place .ensures .0)
+            refl
+            (c .before .before .before .before .before .before .if1 .left)
+            (c .before .before .before .before .copy-row .ensures),
+        not-fresh,
+      ),
+    )
+
+returns-2 : tie.Need-returns-2
+returns-2 c =
+    let s = c .before .before .before .before .before .before .before .before .before .before .before .before
+    .before .before .before in
+    start-is (s .pre .0) (s .pre .1 .1) (s .pre .1 .0 .0)
+    (c .before .before .before .before .before .before .before .before .before .before .before .before
+    .tail .ensures .0)
+    (c .before .before .before .before .before .before .before .before .before .before .before .head
+    .ensures .0)
+    (c .before .before .before .before .before .before .copy-row .ensures)
+    (c .before .before .before .before .raise-row .ensures) (c .before .lower-arc .ensures) refl
+
+pub is-start-spec : {M : Type 1} → statement M
+is-start-spec =
+    tie.close
+    (tie.spec
+    tail-requires
+    head-requires
+    row-place-requires
+    mul-if1
+    shared-slice-read-if1
+    returns
+    copy-row-requires
+    raise-row-requires
+    slice-aggregate-lower-arc
+    lower-arc-requires
+    returns-2)

@@ -1,0 +1,2 @@
+-- Whether an arc starts a least path, told by lowering a raised row.
+pub mod Start

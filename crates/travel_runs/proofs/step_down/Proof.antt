@@ -1,0 +1,17 @@
+use Rattle.travel_runs.specs.Fixed.{stepDown}
+use borrow.Author.Needs.{needs}
+use Rattle.travel_runs.proofs.step_down.Statement.{statement}
+use Rattle.travel_runs.proofs.step_down.Tie as tie
+
+mul-result : tie.Need-mul-result
+mul-result c = search needs
+
+div-result : tie.Need-div-result
+div-result c = search needs
+
+returns : tie.Need-returns
+unfolding stepDown
+returns c = search needs
+
+pub step-down-spec : {M : Type 1} → statement M
+step-down-spec = tie.close (tie.spec mul-result div-result returns)
