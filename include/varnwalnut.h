@@ -14,7 +14,8 @@
  * numbers in lists of uint16_t and uint32_t are the machine's own.
  *
  * Threads: the functions have no state and may run at once on any number of threads, also on the same files.
- * Stack: below 20 KB for each function but varnwalnut_pack_network, which needs about 280 KB.
+ * Stack: below 20 KB for each function but two: varnwalnut_make_plan needs below 80 KB, and
+ * varnwalnut_pack_network about 280 KB.
  *
  * Link with libvarnwalnut.a: cc program.c -Iinclude target/staticlib/libvarnwalnut.a
  */
@@ -37,15 +38,17 @@ enum {
     VARNWALNUT_MOST_POINTS = 65535,
     VARNWALNUT_TRIP_BYTES = 1032,  /* the longest answer to a trip: 511 roads */
     VARNWALNUT_NETWORK_BYTES = 283648, /* the longest network file */
-    VARNWALNUT_PLAN_BYTES = 7023616    /* the longest plan file */
+    VARNWALNUT_PLAN_BYTES = 7023616,   /* the longest plan file */
+    VARNWALNUT_WORK_ENTRIES = 1474560  /* the longest work list that making a plan needs: ticks x places */
 };
 
 /* The arrival of a place that is not reached. */
 #define VARNWALNUT_NEVER UINT32_C(4294967295)
 
 /*
- * Refusals. The lowest number wins, then the lowest place. In brackets: what the three places say; places
- * that are not named are 0. Where counts do not add up, the place is how many roads or profiles there are.
+ * Refusals. The lowest number wins, then the lowest place; a function with another order names it. In
+ * brackets: what the three places say; places that are not named are 0. Where counts do not add up, the place
+ * is how many roads or profiles there are.
  */
 enum {
     VARNWALNUT_OK = 0,
@@ -87,7 +90,11 @@ enum {
     VARNWALNUT_NO_WAY = 28,         /* there is no way */
     VARNWALNUT_ROADS_SHORT = 29,    /* the list of roads is shorter than the chosen way */
     VARNWALNUT_TABLE_SHORT = 30,    /* a lent table is shorter than its count */
-    VARNWALNUT_ANSWER_SHORT = 31    /* the answer, or the bytes for a file, are too few; nothing is written */
+    VARNWALNUT_ANSWER_SHORT = 31,   /* the answer, or the bytes for a file, are too few */
+
+    /* making a plan */
+    VARNWALNUT_PLAN_POINTS = 33,    /* the plan would have more than 1,048,576 profile points */
+    VARNWALNUT_WORK_SHORT = 34      /* the work list is shorter than ticks x places */
 };
 
 /*
@@ -136,6 +143,24 @@ uint32_t varnwalnut_flagged_trip(const uint8_t *network, size_t network_length,
 uint32_t varnwalnut_check_plan(const uint8_t *network, size_t network_length,
                                const uint8_t *plan, size_t plan_length,
                                uint32_t *answer, size_t answer_length);
+
+/*
+ * The plan file of a network. Each profile but never has a point at tick 0 and at each later tick where the
+ * step to the next tick differs from the step before it, the period's end counting as the next day's tick 0,
+ * and no other. A road has the flag of a cell exactly when both its ends lie in the cell, or it starts a
+ * least way to some border of the cell at some tick. varnwalnut_check_plan accepts every plan that is made:
+ * flagged trips under it arrive as early as any way does.
+ *
+ * answer[0..4]: the places, then the file's length in bytes. `work` needs an entry for each tick of each
+ * place, at most VARNWALNUT_WORK_ENTRIES; `out` needs at most VARNWALNUT_PLAN_BYTES. On a refusal no byte of
+ * `out` changes; else its first bytes become the file and the others stay. On 1 to 10 and on 34 `work` stays
+ * as it was; on 33, on 31 for `out` and on success the entries that are needed end as 0, and those after them
+ * stay. Refusals: 1 to 10, 34, 33, 31, in this order.
+ */
+uint32_t varnwalnut_make_plan(const uint8_t *network, size_t network_length,
+                              uint32_t *work, size_t work_length,
+                              uint8_t *out, size_t out_length,
+                              uint32_t *answer, size_t answer_length);
 
 /*
  * The tables of a network file: for each place its cell; for each road where it leads from and to and its

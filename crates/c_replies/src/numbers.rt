@@ -1,7 +1,7 @@
 // The desk's answers in lent numbers: the three places of a refusal, then the answer's own values. Each
 // returns the refusal, or 0.
+use file_refusals::writing::Writing;
 use network::answer::Opening;
-use network_pack::pack::Packing;
 use plan_check::answer::Checking;
 use search_path::answer::Answer;
 ghost use mathlib.Core.Path.{_≡_};
@@ -10,7 +10,7 @@ ghost use lib.ListN.{length};
 ghost use Rattle.theory_loops.specs.Fill.{overwritten};
 ghost use Rattle.file_refusals.specs.Says.{numbersOf};
 ghost use Rattle.network.specs.Answer.{openingSays};
-ghost use Rattle.network_pack.specs.Answer.{packingSays};
+ghost use Rattle.file_refusals.specs.Writing.{writingSays};
 ghost use Rattle.plan_check.specs.Answer.{checkingSays};
 ghost use Rattle.search_path.specs.Says.{tripSays, tripCount};
 ghost use Rattle.network.specs.Limits.{mostRoads};
@@ -78,19 +78,19 @@ pub fn write_opening(opening: Opening, answer: &mut [u32]) -> u32
 }
 
 // What Pack answers.
-pub fn write_packing(packing: Packing, answer: &mut [u32]) -> u32
+pub fn write_writing(packing: Writing, answer: &mut [u32]) -> u32
     requires { ⌜ 4 ≤ length (now answer) ⌝ }
-    ensures code { λ r. ⌜ r ≡ packingSays packing .number ⌝ }
+    ensures code { λ r. ⌜ r ≡ writingSays packing .number ⌝ }
     ensures numbers { λ _. ⌜ now (answer .exit)
-        ≡ overwritten (numbersOf (packingSays packing)) (now (answer .entry)) ⌝ }
+        ≡ overwritten (numbersOf (writingSays packing)) (now (answer .entry)) ⌝ }
 {
     match packing {
-        Packing::Packed(l) => {
+        Writing::Written(l) => {
             let numbers = [0, 0, 0, l.bytes];
             write(&numbers, answer);
             0
         }
-        Packing::Refused(r) => {
+        Writing::Refused(r) => {
             let numbers = [r.first, r.second, r.third, 0];
             write(&numbers, answer);
             r.number

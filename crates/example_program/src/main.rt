@@ -13,8 +13,8 @@ use print::end_line;
 use print::print_checking;
 use print::print_number;
 use print::print_opening;
-use print::print_packing;
 use print::print_trip;
+use print::print_writing;
 use print::say;
 use search_path::answer::Answer;
 use town::LONG;
@@ -73,7 +73,7 @@ fn print_second_point(travel: u16) {
     print_number(travel as u32);
     say(b"): ");
     let mut file = [0u8; LONG];
-    print_packing(town::pack(travel, &mut file));
+    print_writing(town::pack(travel, &mut file));
 }
 
 // The opening of the network in a file.
@@ -134,7 +134,7 @@ fn main() {
     let packed = town::pack(7, &mut file);
     print_road(&file);
     say(b"network: ");
-    print_packing(packed);
+    print_writing(packed);
     say(b"the packed network: ");
     print_open(&file);
     print_second_point(8);

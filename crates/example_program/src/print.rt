@@ -1,9 +1,9 @@
 // Answers as lines of standard output.
 use file_refusals::Refusal;
+use file_refusals::writing::Writing;
 use libc::STDOUT_FILENO;
 use network::answer::Opening;
 use network::limits::MOST_ROADS;
-use network_pack::pack::Packing;
 use plan_check::answer::Checking;
 use search_path::answer::Answer;
 
@@ -32,15 +32,15 @@ fn print_refusal(r: Refusal) {
     end_line();
 }
 
-pub fn print_packing(answer: Packing) {
+pub fn print_writing(answer: Writing) {
     match answer {
-        Packing::Packed(l) => {
+        Writing::Written(l) => {
             say(b"packed, ");
             print_number(l.bytes);
             say(b" bytes");
             end_line();
         }
-        Packing::Refused(r) => print_refusal(r),
+        Writing::Refused(r) => print_refusal(r),
     }
 }
 

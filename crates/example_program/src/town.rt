@@ -1,12 +1,12 @@
 // The town's files: the network, packed from its tables, and plans, read from files.
-use network_pack::pack::Packing;
+use file_refusals::writing::Writing;
 use network_pack::pack::pack_network;
 
 // Both files have four blocks.
 pub const LONG: usize = 2048;
 
-// Packs the network, with this travel at road 1's second point.
-pub fn pack(travel: u16, out: &mut [u8; 2048]) -> Packing {
+// Writes the network, with this travel at road 1's second point.
+pub fn pack(travel: u16, out: &mut [u8; 2048]) -> Writing {
     let cells = [0u16, 0, 1, 1];
     let tails = [0u16, 1, 0, 2];
     let heads = [1u16, 2, 2, 3];

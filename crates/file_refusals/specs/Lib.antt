@@ -1,4 +1,6 @@
--- Refusals: what one is, and the range of the numbers that an answer can give.
+-- Refusals: what one is, the range of the numbers that an answer can give, what an answer says, and what an
+-- operation that writes a file answers.
 pub mod Refusal
 pub mod Numbered
 pub mod Says
+pub mod Writing

@@ -1,7 +1,9 @@
 // file_refusals: what every operation refuses with: a number of document 01 and three places. It calls
 // nothing.
-//   number   the numbers, by name
+//   number    the numbers, by name
+//   writing   what an operation that writes a file answers
 pub mod number;
+pub mod writing;
 
 ghost use mathlib.Core.Path.{_≡_};
 ghost use Rattle.file_refusals.specs.Refusal as refusals;

@@ -66,3 +66,8 @@ pub const ROADS_SHORT: u32 = 29;
 pub const TABLE_SHORT: u32 = 30;
 
 pub const ANSWER_SHORT: u32 = 31;
+
+// A plan that is made.
+pub const PLAN_POINTS: u32 = 33;
+
+pub const WORK_SHORT: u32 = 34;

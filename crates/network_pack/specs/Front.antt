@@ -12,7 +12,7 @@ use Rattle.theory_loops.specs.Fill.{Filled, tab-list, filled-list, overwritten}
 use Rattle.file_blocks.specs.Laid.{laid-by}
 use Rattle.network.specs.declared.header.Header.{Header}
 use Rattle.network.specs.declared.header.Layout.{Layout}
-use Rattle.network_pack.specs.declared.pack.Packing.{Packing}
+use Rattle.file_refusals.specs.declared.writing.Writing.{Writing}
 use Rattle.network.specs.Limits.{WithinLimits}
 use Rattle.network.specs.Layout.{allBlocks, LaidBlocks, layout-blocks}
 use Rattle.network.specs.Network.{Network}
@@ -22,7 +22,8 @@ use Rattle.network.specs.Rules.{judged}
 use Rattle.network_encode.specs.Encode.{encode, Words, Proper}
 use Rattle.network_pack.specs.RoundTrip.{encode-long, header-encode, decode-encode}
 use Rattle.network_encode.specs.Packable.{Packable}
-use Rattle.network_pack.specs.Pack.{packedRules, Packs}
+use Rattle.file_refusals.specs.Writing.{Writes}
+use Rattle.network_pack.specs.Pack.{packedRules}
 use Rattle.network_encode.specs.Written.{packed-header}
 use Rattle.file_fields.specs.Block.{blockSize}
 
@@ -99,16 +100,16 @@ module _ {h : Header} {l : Layout} (t : Tables) (p : Packable h l t) where
     pub front-laid : Fields t → Laid (take (blockSize * l .blocks) new) l
     front-laid f = subst⁻¹ (λ (s : List ℕ). Laid s l) front-is (packed-laid f)
 
-    pub front-packs : Fields t → (lent after : List ℕ) (r : Packing)
-        → Packs (packedRules (judged (decode (take (blockSize * l .blocks) new)))
+    pub front-packs : Fields t → (lent after : List ℕ) (r : Writing)
+        → Writes (packedRules (judged (decode (take (blockSize * l .blocks) new)))
         (length (take (blockSize * l .blocks) new)) (length lent)) (take (blockSize * l .blocks) new) lent
         after r
-        → Packs (packedRules (judged (networkOf h t)) (length (encode (networkOf h t))) (length lent))
+        → Writes (packedRules (judged (networkOf h t)) (length (encode (networkOf h t))) (length lent))
         (encode (networkOf h t)) lent after r
     front-packs f lent after r g =
-        let a : Packs (packedRules (judged (decode (encode n))) (length (encode n)) (length lent)) (encode n)
+        let a : Writes (packedRules (judged (decode (encode n))) (length (encode n)) (length lent)) (encode n)
         lent after r =
-        subst (λ (s : List ℕ). Packs (packedRules (judged (decode s)) (length s) (length lent)) s lent after
+        subst (λ (s : List ℕ). Writes (packedRules (judged (decode s)) (length s) (length lent)) s lent after
         r) front-is g in
-        subst (λ (m : Network). Packs (packedRules (judged m) (length (encode n)) (length lent)) (encode n)
+        subst (λ (m : Network). Writes (packedRules (judged m) (length (encode n)) (length lent)) (encode n)
         lent after r) (decode-encode (packed-proper f)) a

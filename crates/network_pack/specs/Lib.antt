@@ -1,6 +1,5 @@
 -- Packing a network: the answer and the lent bytes (Pack), both round trips (Holds, HoldsRead, RoundTrip,
 -- Packed), and the laws for the code (Front).
-pub mod Answer
 pub mod Holds
 pub mod HoldsRead
 pub mod RoundTrip

@@ -19,16 +19,17 @@ use Rattle.network.specs.Tables.{Tables, networkOf}
 use Rattle.network.specs.Rules.{judged}
 use Rattle.network_open.specs.Open.{tooShort}
 use Rattle.network_encode.specs.Encode.{encode}
-use Rattle.network_pack.specs.declared.pack.Packing.{Packing}
-use Rattle.network_pack.specs.declared.pack.Packing.the-variants.{Packed, Refused}
-use Rattle.network_pack.specs.Pack.{packedInto, packedRules, packedTables, packedMade, madeOf, packing}
+use Rattle.file_refusals.specs.declared.writing.Writing.{Writing}
+use Rattle.file_refusals.specs.declared.writing.Writing.the-variants.{Written, Refused}
+use Rattle.file_refusals.specs.Writing.{writtenInto}
+use Rattle.network_pack.specs.Pack.{packedRules, packedTables, packedMade, madeOf, packing}
 
 -- document 01's numbers for Pack
 abbrev pub PackNumber : ℕ → Type 0
 PackNumber n = (n ≡ 4) ⊎ (((7 ≤ n) × (n ≤ 10)) ⊎ ((n ≡ 30) ⊎ (n ≡ 31)))
 
 -- an answer that, where it is refused, has such a number
-abbrev Fine : Packing → Type 0
+abbrev Fine : Writing → Type 0
 Fine a = (r : Refusal) → a ≡ Refused r → PackNumber (r .number)
 
 same-refused : (q r : Refusal) → Refused q ≡ Refused r → q .number ≡ r .number
@@ -38,10 +39,10 @@ fine : (number : ℕ) → PackNumber number → Fine (Refused (refusal number 0)
 fine number n r e = rw (← same-refused (refusal number 0) r e) n
 
 rules-fine : (j : Judged) → Numbered Faulty 7 10 j → (long room : ℕ) → Fine (packedRules j long room)
-unfolding packedInto
+unfolding writtenInto
 rules-fine Sound n long room = cond-holds Fine (ltb room long) _ _ (fine 31 (inr (inr (inr refl)))) packed
   where
-    packed : Fine (Packed (record { bytes = long }))
+    packed : Fine (Written (record { bytes = long }))
     packed r e = let z : _≡_ {A = ℕ} 0 1 = cc in absurd (omega arith)
 rules-fine (Faulty q) n long room = λ r e. rw (← same-refused q r e) (inr (inl (n q refl)))
 

@@ -1,5 +1,5 @@
--- Packing a network: the answer, what becomes of the lent bytes, and the call (`PackCall`). The bytes are
--- written only where nothing is refused, and then the first of them alone, which become the network's file.
+-- Packing a network: the answer, what becomes of the lent bytes, and the call (`PackCall`). The bytes that
+-- are written become the network's file.
 use mathlib.Core.Path.{_≡_, refl, sym, _∙_, ap, subst}
 use mathlib.Core.Bool.{Bool, true, false, cond}
 use mathlib.Core.List.{List}
@@ -25,8 +25,9 @@ use Rattle.network.specs.Rules.{judged}
 use Rattle.network_open.specs.Open.{tooShort, open-room}
 use Rattle.network_encode.specs.Encode.{encode}
 use Rattle.network_encode.specs.Packable.{Packable}
-use Rattle.network_pack.specs.declared.pack.Packing.{Packing}
-use Rattle.network_pack.specs.declared.pack.Packing.the-variants.{Packed, Refused}
+use Rattle.file_refusals.specs.declared.writing.Writing.{Writing}
+use Rattle.file_refusals.specs.declared.writing.Writing.the-variants.{Refused}
+use Rattle.file_refusals.specs.Writing.{unwritten, writtenInto, bytesAfter, Writes, writes-refused}
 
 -- the header of these numbers, within the limits or not, and what they make
 abbrev pub numbers : ℕ → ℕ → ℕ → ℕ → ℕ → ℕ → Header
@@ -36,92 +37,56 @@ numbers number period nodes arcs cells points =
 abbrev pub madeOf : Header → Made
 madeOf h = made (h .number) (h .period) (h .nodes) (h .arcs) (h .cells) (h .points)
 
-abbrev pub unpacked : ℕ → Packing
-unpacked number = Refused (refusal number 0)
-
--- 31: fewer lent bytes than the file has; else its length
-unfoldable pub packedInto : ℕ → ℕ → Packing
-packedInto long room = cond (ltb room long) (unpacked 31) (Packed (record { bytes = long }))
-
 -- 7 to 10
-abbrev pub packedRules : Judged → ℕ → ℕ → Packing
-packedRules Sound long room = packedInto long room
+abbrev pub packedRules : Judged → ℕ → ℕ → Writing
+packedRules Sound long room = writtenInto long room
 packedRules (Faulty r) long room = Refused r
 
 -- 30: a table shorter than its count
-unfoldable pub packedTables : Header → Tables → ℕ → Packing
+unfoldable pub packedTables : Header → Tables → ℕ → Writing
 packedTables h t room =
     let n = networkOf h t in
-    cond (tooShort h t) (unpacked 30) (packedRules (judged n) (length (encode n)) room)
+    cond (tooShort h t) (unwritten 30) (packedRules (judged n) (length (encode n)) room)
 
 -- 4: numbers outside the limits
-abbrev pub packedMade : Made → Tables → ℕ → Packing
+abbrev pub packedMade : Made → Tables → ℕ → Writing
 packedMade (Inside h) t room = packedTables h t room
-packedMade Outside t room = unpacked 4
+packedMade Outside t room = unwritten 4
 
 -- Pack's answer by the numbers, the tables, and how many bytes are lent
-abbrev pub packing : Header → Tables → ℕ → Packing
+abbrev pub packing : Header → Tables → ℕ → Writing
 packing h = packedMade (madeOf h)
 
--- the lent bytes at exit, by the answer
-abbrev pub bytesAfter : Packing → List ℕ → List ℕ → List ℕ
-bytesAfter (Packed l) file old = overwritten file old
-bytesAfter (Refused r) file old = old
-
--- an answer with the bytes that it leaves: the first of them the file's, or all as they were
-pub record Packs (told : Packing) (file before after : List ℕ) (r : Packing) : Type 0 where
-  pub answer : r ≡ told
-  pub written : after ≡ bytesAfter r file before
-
--- the same for a network, and for a header and tables
-abbrev pub PacksNetwork : Network → List ℕ → List ℕ → Packing → Type 0
+-- an answer for a network, and for a header and tables, with the bytes that it leaves
+abbrev pub PacksNetwork : Network → List ℕ → List ℕ → Writing → Type 0
 PacksNetwork n before after r =
-    Packs (packedRules (judged n) (length (encode n)) (length before)) (encode n) before after r
+    Writes (packedRules (judged n) (length (encode n)) (length before)) (encode n) before after r
 
-abbrev pub PacksTables : Header → Tables → List ℕ → List ℕ → Packing → Type 0
+abbrev pub PacksTables : Header → Tables → List ℕ → List ℕ → Writing → Type 0
 PacksTables h t before after r =
-    Packs (packedTables h t (length before)) (encode (networkOf h t)) before after r
+    Writes (packedTables h t (length before)) (encode (networkOf h t)) before after r
 
 -- THE CALL: what Pack answers for numbers, tables and lent bytes, and the bytes that it leaves
-pub record PackCall (h : Header) (t : Tables) (before after : List ℕ) (r : Packing) : Type 0 where
+pub record PackCall (h : Header) (t : Tables) (before after : List ℕ) (r : Writing) : Type 0 where
   pub answer : r ≡ packing h t (length before)
   pub written : after ≡ bytesAfter r (encode (networkOf h t)) before
 
--- FOR THE CODE: a refusal leaves the bytes as they are
-pub packs-refused : (told : Packing) (file old : List ℕ) (number : ℕ) (r : Packing) → r ≡ unpacked number
-    → r ≡ told
-    → Packs told file old old r
-packs-refused told file old number r e f = record { answer = f; written = rw e }
-
--- 31
-module _ (file before : List ℕ) where
-  pub into-short : (r : Packing) → length before < length file → r ≡ unpacked 31
-      → Packs (packedInto (length file) (length before)) file before before r
-  unfolding packedInto
-  into-short r l e = packs-refused _ file before 31 r e (rw (lt-ltb (length before) (length file) l) e)
-
-  pub into-whole : (after : List ℕ) → length file ≤ length before → after ≡ overwritten file before
-      → Packs (packedInto (length file) (length before)) file before after
-      (Packed (record { bytes = length file }))
-  unfolding packedInto
-  into-whole after l e = record { answer = rw (le-ltb (length before) (length file) l); written = e }
-
--- 7 to 10
+-- FOR THE CODE: 7 to 10
 module _ (file before after : List ℕ) (long room : ℕ) (j k : Judged) (e : j ≡ k) where
-  pub rules-sound : (r : Packing) → j ≡ Sound → Packs (packedInto long room) file before after r
-      → Packs (packedRules k long room) file before after r
+  pub rules-sound : (r : Writing) → j ≡ Sound → Writes (writtenInto long room) file before after r
+      → Writes (packedRules k long room) file before after r
   rules-sound r f p = record { answer = rw (← e, f) (p .answer); written = p .written }
 
   pub rules-faulty : (q : Refusal) → j ≡ Faulty q
-      → Packs (packedRules k long room) file before before (Refused q)
+      → Writes (packedRules k long room) file before before (Refused q)
   rules-faulty q f = record { answer = rw (← e, f); written = refl }
 
 -- 30
-module _ (h : Header) (t : Tables) (before : List ℕ) (y : Bool) (e : y ≡ tooShort h t) (r : Packing) where
-  pub tables-short : y ≡ true → r ≡ unpacked 30
+module _ (h : Header) (t : Tables) (before : List ℕ) (y : Bool) (e : y ≡ tooShort h t) (r : Writing) where
+  pub tables-short : y ≡ true → r ≡ unwritten 30
       → PacksTables h t before before r
   unfolding packedTables
-  tables-short f g = packs-refused _ _ before 30 r g (rw (← e, f) g)
+  tables-short f g = writes-refused _ _ before 30 r g (rw (← e, f) g)
 
   pub tables-long : (after : List ℕ) → y ≡ false
       → PacksNetwork (networkOf h t) before after r → PacksTables h t before after r
@@ -149,10 +114,10 @@ module _ (number period nodes arcs cells points : ℕ) (m : Made)
 
 -- 4
 module _ (g : Header) (t : Tables) (before : List ℕ) (m : Made) (e : m ≡ madeOf g) where
-  pub numbers-outside : (r : Packing) → m ≡ Outside → r ≡ unpacked 4 → PackCall g t before before r
+  pub numbers-outside : (r : Writing) → m ≡ Outside → r ≡ unwritten 4 → PackCall g t before before r
   numbers-outside r f q = record { answer = rw (← e, f) q; written = rw q }
 
-  pub numbers-inside : (h : Header) → m ≡ Inside h → (after : List ℕ) (r : Packing)
+  pub numbers-inside : (h : Header) → m ≡ Inside h → (after : List ℕ) (r : Writing)
       → PacksTables h t before after r → PackCall g t before after r
   numbers-inside h f after r p =
       let q : h ≡ g = made-within (g .number) (g .period) (g .nodes) (g .arcs) (g .cells) (g .points) h

@@ -18,8 +18,8 @@ use Rattle.network.specs.declared.answer.Opening.{Opening}
 use Rattle.file_refusals.specs.declared.Refusal.{Refusal}
 use Rattle.network.specs.declared.answer.Opening.the-variants.{Opened}
 use Rattle.network.specs.declared.header.Header.{Header}
-use Rattle.network_pack.specs.declared.pack.Length.{Length}
-use Rattle.network_pack.specs.declared.pack.Packing.the-variants.{Packed, Refused}
+use Rattle.file_refusals.specs.declared.writing.Length.{Length}
+use Rattle.file_refusals.specs.declared.writing.Writing.the-variants.{Written, Refused}
 use Rattle.network.specs.declared.header.Made.{Made}
 use Rattle.network.specs.declared.header.Made.the-variants.{Inside, Outside}
 use Rattle.network.specs.Limits.{WithinLimits, made-within, within-made}
@@ -36,7 +36,8 @@ use Rattle.network_open.specs.Open.{tooShortBy, tooShort, openedIn, opening}
 use Rattle.network_encode.specs.Encode.{headerOf, encode, Proper}
 use Rattle.network_pack.specs.RoundTrip.{decode-encode, encode-valid, encode-decode}
 use Rattle.network_encode.specs.Packable.{Packable}
-use Rattle.network_pack.specs.Pack.{packedInto, packedRules, packedTables, packedMade, madeOf, packing}
+use Rattle.file_refusals.specs.Writing.{writtenInto}
+use Rattle.network_pack.specs.Pack.{packedRules, packedTables, packedMade, madeOf, packing}
 use Rattle.network_pack.specs.Pack.{now-packable}
 use Rattle.network_encode.specs.Written.{packed-header}
 use Rattle.network_pack.specs.Front.{Fields, packed-proper}
@@ -50,31 +51,31 @@ pub record Reopens (h : Header) (n : Network) (file : List ℕ) (answer : Length
   pub tables : decode file ≡ n
 
 -- no refusal packs, so every test on the way was passed
-not-packed : (q : Refusal) (y : Length) → Refused q ≡ Packed y → ⊥
+not-packed : (q : Refusal) (y : Length) → Refused q ≡ Written y → ⊥
 not-packed q y e = let z : _≡_ {A = ℕ} 0 1 = cc in omega arith
 
-one-length : (a b : Length) → Packed a ≡ Packed b → a ≡ b
+one-length : (a b : Length) → Written a ≡ Written b → a ≡ b
 one-length a b e = cc
 
-rules-passed : (j : Judged) (long room : ℕ) (y : Length) → packedRules j long room ≡ Packed y
-    → (j ≡ Sound) × (packedInto long room ≡ Packed y)
+rules-passed : (j : Judged) (long room : ℕ) (y : Length) → packedRules j long room ≡ Written y
+    → (j ≡ Sound) × (writtenInto long room ≡ Written y)
 rules-passed Sound long room y e = (refl, e)
 rules-passed (Faulty q) long room y e = absurd (not-packed q y e)
 
-made-passed : (m : Made) (t : Tables) (room : ℕ) (y : Length) → packedMade m t room ≡ Packed y
-    → (h : Header) × (m ≡ Inside h) × (packedTables h t room ≡ Packed y)
+made-passed : (m : Made) (t : Tables) (room : ℕ) (y : Length) → packedMade m t room ≡ Written y
+    → (h : Header) × (m ≡ Inside h) × (packedTables h t room ≡ Written y)
 made-passed (Inside h) t room y e = (h, refl, e)
 made-passed Outside t room y e = absurd (not-packed (refusal 4 0) y e)
 
 module _ (t : Tables) (f : Fields t) (room : ℕ) (y : Length) where
-  tables-reopen : (h : Header) → WithinLimits h → h .number < 2 ^ 32 → packedTables h t room ≡ Packed y
+  tables-reopen : (h : Header) → WithinLimits h → h .number < 2 ^ 32 → packedTables h t room ≡ Written y
       → Reopens h (networkOf h t) (encode (networkOf h t)) y
-  unfolding packedTables packedInto
+  unfolding packedTables writtenInto
   tables-reopen h w b e =
       let m = networkOf h t in
-      let (s, e₁) = passed-by (tooShort h t) _ _ (Packed y) (not-packed (refusal 30 0) y) e in
+      let (s, e₁) = passed-by (tooShort h t) _ _ (Written y) (not-packed (refusal 30 0) y) e in
       let (j, e₂) = rules-passed (judged m) (length (encode m)) room y e₁ in
-      let (_, e₃) = passed-by (ltb room (length (encode m))) _ _ (Packed y) (not-packed (refusal 31 0) y)
+      let (_, e₃) = passed-by (ltb room (length (encode m))) _ _ (Written y) (not-packed (refusal 31 0) y)
       e₂ in
       let p : Packable h (layoutOf h) t = now-packable h (layoutOf h) t _ w b refl refl s in
       let a : Proper m = packed-proper t p f in
@@ -87,17 +88,17 @@ module _ (t : Tables) (f : Fields t) (room : ℕ) (y : Length) where
         tables = decode-encode a;
       }
 
-  pub packed-opens : (h : Header) → h .number < 2 ^ 32 → packing h t room ≡ Packed y
+  pub packed-opens : (h : Header) → h .number < 2 ^ 32 → packing h t room ≡ Written y
       → Reopens h (networkOf h t) (encode (networkOf h t)) y
   packed-opens h b e =
       let (g, i, k) = made-passed (madeOf h) t room y e in
       let (w, q) = made-within (h .number) (h .period) (h .nodes) (h .arcs) (h .cells) (h .points) g i in
       tables-reopen h (subst (λ (o : Header). WithinLimits o) q w) b
-      (subst (λ (o : Header). packedTables o t room ≡ Packed y) q k)
+      (subst (λ (o : Header). packedTables o t room ≡ Written y) q k)
 
 -- THE SECOND PROMISE: a file that opens packs to the same bytes, from the tables that Open leaves
 pub record Repacks (file : List ℕ) (h : Header) (t : Tables) (room : ℕ) : Type 0 where
-  pub answers : packing h t room ≡ Packed (record { bytes = length file })
+  pub answers : packing h t room ≡ Written (record { bytes = length file })
   pub bytes : encode (networkOf h t) ≡ file
 
 open-passed : (o : Opening) (short : Header → Bool) (h : Header) → openedIn o short ≡ Opened h → o ≡ Opened h
@@ -147,7 +148,7 @@ module _ (file : List ℕ) (s : Bytes file) (t : Tables) where
 
   pub opened-packs : (h : Header) → opening file t ≡ Opened h → (room : ℕ) → length file ≤ room
       → Repacks file h (each overwritten (decode file) t) room
-  unfolding packedTables packedInto
+  unfolding packedTables writtenInto
   opened-packs h o room l =
       let u : ValidFile file h = valid-exactly file h .0 (open-passed (validated file) _ h o) in
       let v : ValidFile file (headerAt file) = subst (λ (i : Header). ValidFile file i) (u .is) u in

@@ -3,9 +3,10 @@
 // for Open, on the bytes that are then copied.
 use file_fields::BLOCK;
 use file_refusals::Judged;
-use file_refusals::Refusal;
 use file_refusals::number;
-use file_refusals::refuse;
+use file_refusals::writing::Length;
+use file_refusals::writing::Writing;
+use file_refusals::writing::unwritten;
 use network::header::Header;
 use network::header::Layout;
 use network::header::Made;
@@ -22,28 +23,10 @@ ghost use Rattle.network.specs.Tables.{tables, networkOf};
 ghost use Rattle.network.specs.Decode.{decode, Laid};
 ghost use Rattle.network.specs.Rules.{judged};
 ghost use Rattle.theory_loops.specs.Fill.{overwritten};
-ghost use Rattle.network_pack.specs.Pack;
 ghost use Rattle.network_encode.specs.Packable.{Packable};
-ghost use Rattle.network_pack.specs.Pack.{numbers, packedInto, packedRules, Packs};
+ghost use Rattle.file_refusals.specs.Writing.{writtenInto, Writes};
+ghost use Rattle.network_pack.specs.Pack.{numbers, packedRules};
 ghost use Rattle.network_pack.specs.Pack.{PacksNetwork, PacksTables, PackCall};
-
-// How many bytes a file that was written has.
-pub struct Length {
-    pub bytes: u32,
-}
-
-// What Pack answers.
-pub enum Packing {
-    Packed(Length),
-    Refused(Refusal),
-}
-
-// A network that is not packed, with no place.
-fn refused(number: u32) -> Packing
-    ensures { λ r. ⌜ r ≡ Pack.unpacked number ⌝ }
-{
-    Packing::Refused(refuse(number, 0))
-}
 
 // The bytes of a file become the first of the lent ones.
 fn copy(file: &[u8], out: &mut [u8])
@@ -56,29 +39,29 @@ fn copy(file: &[u8], out: &mut [u8])
 }
 
 // Refusal 31, or the file copied.
-fn write_out(file: &[u8], out: &mut [u8]) -> Packing
+fn write_out(file: &[u8], out: &mut [u8]) -> Writing
     requires { ⌜ length (now file) < 2 ^ 32 ⌝ }
-    ensures { λ r. ⌜ Packs (packedInto (length (now (file .entry))) (length (now (out .entry))))
+    ensures { λ r. ⌜ Writes (writtenInto (length (now (file .entry))) (length (now (out .entry))))
         (now (file .entry)) (now (out .entry)) (now (out .exit)) r ⌝ }
 {
     let long = file.len();
     if out.len() < long {
-        return refused(number::ANSWER_SHORT);
+        return unwritten(number::ANSWER_SHORT);
     }
     copy(file, out);
-    Packing::Packed(Length { bytes: long as u32 })
+    Writing::Written(Length { bytes: long as u32 })
 }
 
 // Refusals 7 to 10 and 31, or the file copied.
-fn pack_file(file: &[u8], l: Layout, out: &mut [u8]) -> Packing
+fn pack_file(file: &[u8], l: Layout, out: &mut [u8]) -> Writing
     requires { ⌜ Laid (now file) l ⌝ }
-    ensures { λ r. ⌜ Packs (packedRules (judged (decode (now (file .entry)))) (length (now (file .entry)))
+    ensures { λ r. ⌜ Writes (packedRules (judged (decode (now (file .entry)))) (length (now (file .entry)))
         (length (now (out .entry))))
         (now (file .entry)) (now (out .entry)) (now (out .exit)) r ⌝ }
 {
     match judge(file, l) {
         Judged::Sound => write_out(file, out),
-        Judged::Faulty(r) => Packing::Refused(r),
+        Judged::Faulty(r) => Writing::Refused(r),
     }
 }
 
@@ -94,7 +77,7 @@ fn pack_tables(
     travels: &[u16],
     scratch: &mut [u8],
     out: &mut [u8],
-) -> Packing
+) -> Writing
     requires { ⌜ Packable h l
         (tables (now cellof) (now tails) (now heads) (now counts) (now ticks) (now travels)) ⌝ }
     requires { ⌜ blockSize * l .blocks ≤ length (now scratch) ⌝ }
@@ -119,7 +102,7 @@ fn pack_within(
     travels: &[u16],
     scratch: &mut [u8; MOST_BYTES],
     out: &mut [u8],
-) -> Packing
+) -> Writing
     requires { ⌜ WithinLimits h × (h .number < 2 ^ 32) ⌝ }
     ensures { λ r. ⌜ PacksTables h
         (tables (now (cellof .entry)) (now (tails .entry)) (now (heads .entry)) (now (counts .entry))
@@ -135,7 +118,7 @@ fn pack_within(
         ticks.len(),
         travels.len(),
     ) {
-        return refused(number::TABLE_SHORT);
+        return unwritten(number::TABLE_SHORT);
     }
     pack_tables(
         h,
@@ -167,7 +150,7 @@ pub fn pack_network(
     ticks: &[u16],
     travels: &[u16],
     out: &mut [u8],
-) -> Packing
+) -> Writing
     ensures { λ r. ⌜ PackCall (numbers number period nodes arcs cells points)
         (tables (now (cellof .entry)) (now (tails .entry)) (now (heads .entry)) (now (counts .entry))
         (now (ticks .entry)) (now (travels .entry)))
@@ -188,6 +171,6 @@ pub fn pack_network(
                 out,
             )
         }
-        Made::Outside => refused(number::NETWORK_LIMITS),
+        Made::Outside => unwritten(number::NETWORK_LIMITS),
     }
 }

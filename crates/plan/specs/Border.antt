@@ -1,7 +1,8 @@
 -- The borders of a graph with cells: the nodes with an arc into them from another cell, by rising number.
+use mathlib.Core.Path.{_≡_}
 use mathlib.Core.Bool.{Bool, not, _&&_}
 use mathlib.Core.List.{List}
-use Prim.Native.Nat.{ℕ}
+use Prim.Native.Nat.{ℕ, _<_}
 use lib.ListN.{length, getD}
 use lib.Dec.{eqb}
 use Rattle.theory_loops.specs.First.{any}
@@ -30,3 +31,7 @@ borderAt G i = getD (borders G) i 0
 
 unfoldable pub borderIndex : Partition → ℕ → ℕ
 borderIndex G b = length (select b (isBorder G))
+
+-- A list that has them: border number i stands at place i.
+pub record Listed (G : Partition) (list : List ℕ) : Type 0 where
+  pub at : (i : ℕ) → i < borderCount G → getD list i 0 ≡ borderAt G i

@@ -3,8 +3,6 @@
 use mathlib.Core.Path.{_≡_, sym, _∙_}
 use mathlib.Core.List.{List}
 use Prim.Native.Nat.{ℕ}
-use lib.ListN.{length, drop, List·getD-append}
-use Rattle.theory_loops.specs.Fill.{overwritten}
 use Rattle.theory_paths.specs.Partition.{Partition}
 use Rattle.file_refusals.specs.declared.Refusal.{Refusal}
 use Rattle.network.specs.declared.answer.Opening.{Opening}
@@ -24,7 +22,7 @@ use Rattle.plan_check.specs.declared.answer.Checking.{Checking}
 use Rattle.plan_check.specs.declared.answer.Checking.the-variants.{Refused}
 use Rattle.plan.specs.declared.header.PlanHeader.{PlanHeader}
 use Rattle.plan_tests.specs.declared.tests.Layouts.{Layouts}
-use Rattle.plan.specs.Border.{borders}
+use Rattle.plan.specs.Borders.{listed-front}
 use Rattle.plan.specs.Plan.{Plan}
 use Rattle.plan.specs.PlanLayout.{planLayoutOf}
 use Rattle.plan.specs.PlanHeader.{PlanWithin}
@@ -35,7 +33,6 @@ use Rattle.plan_check.specs.Check.{checked}
 use Rattle.plan_check.specs.CheckPlan.{checkedBy, checking}
 use Rattle.plan_tests.specs.Checkable.{Checkable}
 use Rattle.plan_values.specs.Formed.{formed-of}
-use Rattle.plan_check.specs.Finding.{Listed}
 
 module _ {network : List ℕ} {h : Header} (v : ValidFile network h) where
   pub check-laid : (l : Layout) → l ≡ layoutOf h → Laid network l
@@ -70,12 +67,6 @@ module _ {network : List ℕ} {h : Header} (v : ValidFile network h) where
           arcs = p .arcs-are ∙ sym (z .arcs);
           borders = p .borders-are;
         }
-
--- the borders at the front of a table are listed
-pub listed-front : (G : Partition) (old new : List ℕ) → new ≡ overwritten (borders G) old → Listed G new
-listed-front G old new e = record {
-  at = λ i l. rw e (List·getD-append (borders G) (drop (length (borders G)) old) 0 i l);
-}
 
 -- FOR THE CODE
 pub check-formed : (G : Partition) (p : Plan) (m M : Planning) (k : PlanHeader) (r : Checking) → m ≡ M

@@ -24,7 +24,7 @@ use Rattle.plan_check.specs.declared.answer.Checking.{Checking}
 use Rattle.plan_check.specs.declared.answer.Checking.the-variants.{Accepted, Refused}
 use Rattle.plan_tests.specs.declared.tests.Layouts.{Layouts}
 use Rattle.plan_tests.specs.declared.tests.Target.{Target}
-use Rattle.plan.specs.Border.{borderCount, borderAt}
+use Rattle.plan.specs.Border.{borderCount, borderAt, Listed}
 use Rattle.plan.specs.Plan.{Plan, pointCount, pointStart}
 use Rattle.plan.specs.PlanDecode.{decodePlan}
 use Rattle.plan_tests.specs.Tests.{fails20, fails}
@@ -49,10 +49,6 @@ failsNode number G p nodes period i = any nodes (failsTick number G p period i)
 unfoldable pub triplesFrom : ℕ → ℕ → Partition → Plan → Checking
 triplesFrom zero number G p = Accepted
 triplesFrom (suc k) number G p = tripleRung number G p (triplesFrom k (number + 1) G p)
-
--- The list of borders: border number i stands at place i.
-pub record Listed (G : Partition) (list : List ℕ) : Type 0 where
-  pub at : (i : ℕ) → i < borderCount G → getD list i 0 ≡ borderAt G i
 
 -- What the search for a failing triple rests on: both files, the tables of the arcs' first points and of the
 -- chains, and the list of borders.

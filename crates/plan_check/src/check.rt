@@ -35,7 +35,8 @@ ghost use Rattle.plan_check.specs.CheckPlan.{checkedBy, checking};
 ghost use Rattle.plan.specs.PlanValidate.{planned};
 ghost use Rattle.plan.specs.PlanValid.{ValidPlan};
 ghost use Rattle.plan_tests.specs.Checkable.{Checkable};
-ghost use Rattle.plan_check.specs.Finding.{Listed, Equipped, triplesFrom};
+ghost use Rattle.plan.specs.Border.{Listed};
+ghost use Rattle.plan_check.specs.Finding.{Equipped, triplesFrom};
 
 // After the last of the tests.
 const TESTS_END: u32 = number::CHECK_NO_FLAG + 1;

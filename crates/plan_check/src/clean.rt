@@ -26,7 +26,8 @@ ghost use Rattle.plan_tests.specs.declared.tests.Asked.the-variants as asked;
 ghost use Rattle.plan_values.specs.Value.{valueOf};
 ghost use Rattle.plan_tests.specs.Giving.{offers, Aimed, Prepared};
 ghost use Rattle.plan_tests.specs.Failing.{AtBorder, AtTriple};
-ghost use Rattle.plan_check.specs.Finding.{Listed, Equipped};
+ghost use Rattle.plan.specs.Border.{Listed};
+ghost use Rattle.plan_check.specs.Finding.{Equipped};
 ghost use Rattle.plan_check.specs.Clean.{Clean, CleanNode, CleanBorder, NothingFails, Kept, keeps};
 
 // An arc against a value: does it give less, and is the value kept, by an arc before it or because it gives

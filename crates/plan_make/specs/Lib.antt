@@ -1,3 +1,8 @@
--- The plan that is made of a network (Made), and that the check accepts it (Accepts).
-pub mod Made
-pub mod Accepts
+-- Making a plan: the call and its answer (Make), which numbers it can give (Numbers), what it promises
+-- (Promise),
+-- and the laws for the code: the two rounds over the borders (Rounds), the writing and its refusals (Making).
+pub mod Make
+pub mod Numbers
+pub mod Promise
+pub mod Rounds
+pub mod Making

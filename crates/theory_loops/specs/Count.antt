@@ -1,14 +1,14 @@
 -- How many indices below a bound pass a test, counted one by one, with the laws of the loop that counts. It
 -- is the length of the list that `select` makes of them, and the index n, where it passes, is entry `count n`
 -- of that list.
-use mathlib.Core.Path.{_≡_, refl}
-use mathlib.Core.Bool.{Bool, true, false}
-use mathlib.Core.List.{[], _∷_, _++_}
+use mathlib.Core.Path.{_≡_, refl, sym, ap}
+use mathlib.Core.Bool.{Bool, true, false, true≢false}
+use mathlib.Core.List.{List, [], _∷_, _++_}
 use Prim.Native.Nat.{ℕ, zero, suc, _+_, _≤_, _<_}
 use native.Mathlib.Numerals.{add-one}
 use native.Mathlib.Omega.{arith}
 use lib.ListN.{length, getD, length-append}
-use Rattle.theory_loops.specs.Select.{select, selected-at}
+use Rattle.theory_loops.specs.Select.{select, selected-at, rank-grows, rank-rises}
 
 unfoldable pub count : ℕ → (ℕ → Bool) → ℕ
 count zero p = 0
@@ -55,9 +55,52 @@ module _ (p : ℕ → Bool) where
       go true h = rw (length-append (select n p) (n ∷ [])) (omega arith)
       go false h = h
 
+  -- so it never falls, and rises past an index that passes
+  pub count-grows : (m n : ℕ) → m ≤ n → count m p ≤ count n p
+  count-grows m n l = omega (arith, rank-grows p m n l, count-select m, count-select n)
+
+  pub count-rises : (m n : ℕ) → m < n → p m ≡ true → count m p < count n p
+  count-rises m n l t = omega (arith, rank-rises p m n l t, count-select m, count-select n)
+
+  -- an index at which it rises passes
+  pub count-passes : (n : ℕ) → count n p < count (n + 1) p → p n ≡ true
+  unfolding count
+  count-passes n l = go (p n) refl
+    where
+      go : (t : Bool) → p n ≡ t → t ≡ true
+      go true e = refl
+      go false e = absurd (omega (arith, count-no (count n p) n refl e))
+
   -- and an index that passes stands in that list behind those counted before it
   pub counted-at : (n v : ℕ) → v < n → p v ≡ true → getD (select n p) (count v p) 0 ≡ v
   counted-at n v l t = rw (count-select v) at (selected-at p n v l t)
+
+-- two tests that agree below n count and list the same
+pub count-same : (p q : ℕ → Bool) (n : ℕ) → ((i : ℕ) → i < n → p i ≡ q i) → count n p ≡ count n q
+unfolding count
+count-same p q zero h = refl
+count-same p q (suc n) h = go (p n) (q n) (h n (omega arith)) (count-same p q n (λ i l. h i (omega arith)))
+  where
+    go : (s t : Bool) → s ≡ t → count n p ≡ count n q
+        → _≡_ {A = ℕ} (elim s [ true ↦ suc (count n p) | false ↦ count n p ])
+        (elim t [ true ↦ suc (count n q) | false ↦ count n q ])
+    go true true e f = ap suc f
+    go true false e f = absurd (true≢false e)
+    go false true e f = absurd (true≢false (sym e))
+    go false false e f = f
+
+pub select-same : (p q : ℕ → Bool) (n : ℕ) → ((i : ℕ) → i < n → p i ≡ q i) → select n p ≡ select n q
+unfolding select
+select-same p q zero h = refl
+select-same p q (suc n) h = go (p n) (q n) (h n (omega arith)) (select-same p q n (λ i l. h i (omega arith)))
+  where
+    go : (s t : Bool) → s ≡ t → select n p ≡ select n q
+        → _≡_ {A = List ℕ} (elim s [ true ↦ select n p ++ (n ∷ []) | false ↦ select n p ])
+        (elim t [ true ↦ select n q ++ (n ∷ []) | false ↦ select n q ])
+    go true true e f = ap (λ (w : List ℕ). w ++ (n ∷ [])) f
+    go true false e f = absurd (true≢false e)
+    go false true e f = absurd (true≢false (sym e))
+    go false false e f = f
 
 -- for `search counts` at the needs of such a loop
 pub ruleset counts = (count-none, count-yes, count-no, count-end)

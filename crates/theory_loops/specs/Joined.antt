@@ -2,8 +2,8 @@
 -- where an entry of a part stands in it.
 use mathlib.Core.Path.{_≡_, refl, _∙_, ap}
 use mathlib.Core.List.{List, [], _++_}
-use Prim.Native.Nat.{ℕ, zero, suc, _+_, _<_}
-use native.Mathlib.Decide.{ℕ-discrete}
+use Prim.Native.Nat.{ℕ, zero, suc, _+_, _-_, _<_}
+use native.Mathlib.Decide.{ℕ-discrete, decLt}
 use native.Mathlib.Omega.{arith}
 use lib.ListN.{length, getD, length-append, List·getD-append}
 use lib.Seq.{getD-append-add}
@@ -34,4 +34,20 @@ module _ (f : ℕ → List ℕ) where
         List·getD-append (joined n f) (f n) 0 (partStart f k + i)
         (omega (arith, joined-length n, total-part (λ j. length (f j)) k n (omega arith)))
         ∙ joined-at n k i (omega arith) h
+  ]
+
+  -- what every entry of every part is below, every entry of the whole is below
+  pub joined-below : (m n : ℕ) → ((k i : ℕ) → k < n → i < length (f k) → getD (f k) i 0 < m) → (q : ℕ)
+      → q < length (joined n f) → getD (joined n f) q 0 < m
+  unfolding joined
+  joined-below m zero h q l = absurd (omega arith)
+  joined-below m (suc n) h q l = elim (decLt q (length (joined n f))) [
+    | yes j ↦
+        rw (List·getD-append (joined n f) (f n) 0 q j)
+        (joined-below m n (λ k i a b. h k i (omega arith) b) q j)
+    | no j ↦
+        let i = q - length (joined n f) in
+        let e : q ≡ length (joined n f) + i = omega arith in
+        rw (e, getD-append-add (joined n f) (f n) i 0)
+        (h n i (omega arith) (omega (arith, length-append (joined n f) (f n))))
   ]

@@ -1,7 +1,8 @@
 -- The sum of a function's values below a bound, with its laws: running starts, such as the first point of
 -- each arc.
 use mathlib.Core.Path.{_≡_, refl}
-use Prim.Native.Nat.{ℕ, zero, suc, _+_, _*_, _≤_, _<_}
+use Prim.Native.Nat.{ℕ, zero, suc, _+_, _-_, _*_, _≤_, _<_}
+use native.Mathlib.Nat.{add-zero}
 use native.Mathlib.Numerals.{add-one}
 use native.Mathlib.Omega.{arith}
 use native.Mathlib.Decide.{ℕ-discrete}
@@ -32,6 +33,24 @@ module _ (f : ℕ → ℕ) where
     | yes e ↦ rw e (omega arith)
     | no e ↦ omega (arith, total-part i n (omega arith))
   ]
+
+  -- a sum in two parts
+  pub total-add : (a b : ℕ) → total (a + b) f ≡ total a f + total b (λ i. f (a + i))
+  unfolding total
+  total-add a zero = rw (add-zero a) (omega arith)
+  total-add a (suc b) = let z : a + suc b ≡ suc (a + b) = omega arith in rw z (omega (arith, total-add a b))
+
+  -- it never falls
+  pub total-up : (a b : ℕ) → a ≤ b → total a f ≤ total b f
+  total-up a b l =
+      let e : a + (b - a) ≡ b = omega arith in
+      omega (arith, rw e at (total-add a (b - a)))
+
+  -- no more than the most of one for each
+  pub total-most : (m n : ℕ) → ((i : ℕ) → i < n → f i ≤ m) → total n f ≤ n * m
+  unfolding total
+  total-most m zero h = omega arith
+  total-most m (suc n) h = omega (arith, total-most m n (λ i l. h i (omega arith)), h n (omega arith))
 
 -- two functions that agree below n have one sum
 pub total-same : (f g : ℕ → ℕ) (n : ℕ) → ((i : ℕ) → i < n → f i ≡ g i) → total n f ≡ total n g

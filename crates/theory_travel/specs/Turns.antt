@@ -4,6 +4,7 @@
 -- (`turns-value`): between two of them the line meets every tick's value exactly, so rounding plays no part.
 use mathlib.Core.Path.{_≡_, refl, sym, _∙_, ap}
 use mathlib.Core.Bool.{Bool, true, false, not, _||_, true≢false}
+use mathlib.Core.List.{List}
 use Prim.Native.Nat.{ℕ, zero, suc, _+_, _-_, _*_, _≤_, _<_}
 use native.Mathlib.Decide.{decLt}
 use native.Mathlib.Omega.{arith}
@@ -12,7 +13,8 @@ use lib.Dec.{eqb}
 use borrow.Author.Tests.{eqb-true, eq-eqb, ne-eqb}
 use Rattle.theory_loops.specs.First.{first-same}
 use Rattle.theory_loops.specs.Select.{select, Selected, selected, select-rises, rank-rises}
-use Rattle.theory_loops.specs.Count.{count, count-none, count-select, count-few, counted-at}
+use Rattle.theory_loops.specs.Count.{count, count-none, count-select, count-few, counted-at, count-same}
+use Rattle.theory_loops.specs.Count.{select-same}
 use Rattle.theory_travel.specs.Line.{line, line-exact}
 use Rattle.theory_travel.specs.Points.{Segment, segment, value, segment-is}
 use Rattle.theory_travel.specs.Day.{Day, closed, closed-in, closed-end, dayValue}
@@ -95,7 +97,7 @@ module _ (f : ℕ → ℕ) (period : ℕ) where
   unfolding turnCount
   turns-listed = count-select (turns f period) period
 
-  turn-is : (i : ℕ) → i < turnCount f period → Selected period (turns f period) i (turnTick f period i)
+  pub turn-is : (i : ℕ) → i < turnCount f period → Selected period (turns f period) i (turnTick f period i)
   unfolding turnTick
   turn-is i l = selected (turns f period) period i (omega (arith, turns-listed))
 
@@ -103,11 +105,13 @@ module _ (f : ℕ → ℕ) (period : ℕ) where
   unfolding turnTick
   turns-rise i j l m = select-rises (turns f period) period i j l (omega (arith, turns-listed))
 
-  turn-at : (x : ℕ) → x < period → turns f period x ≡ true → turnTick f period (count x (turns f period)) ≡ x
+  pub turn-at : (x : ℕ) → x < period → turns f period x ≡ true → turnTick f period (count x (turns f
+      period)) ≡ x
   unfolding turnTick
   turn-at x l e = counted-at (turns f period) period x l e
 
-  turn-rank : (x : ℕ) → x < period → turns f period x ≡ true → count x (turns f period) < turnCount f period
+  pub turn-rank : (x : ℕ) → x < period → turns f period x ≡ true → count x (turns f period) < turnCount f
+      period
   turn-rank x l e =
       omega (arith, rank-rises (turns f period) x period l e, count-select (turns f period) x, turns-listed)
 
@@ -220,6 +224,29 @@ module _ (f : ℕ → ℕ) (period : ℕ) where
         on-piece (segment tick (turnCount f period) x) x h
         (segment-is tick (turnCount f period) x (omega (arith, tick-in 0 (d .some), d .start))
         (omega (arith, tick-end (turnCount f period) (omega arith))))
+
+-- a day with the same values has the same points
+module _ (f g : ℕ → ℕ) (period : ℕ) (e : (x : ℕ) → x < period → f x ≡ g x) where
+  around-same : (x : ℕ) → 0 < period → around f period x ≡ around g period x
+  around-same x some = elim (decLt x period) [
+    | yes l ↦ rw (closed-in period f (f 0) x l, closed-in period g (g 0) x l) (e x l)
+    | no l ↦ rw (closed-end period f (f 0) x (omega arith), closed-end period g (g 0) x (omega arith)) (e 0
+        some)
+  ]
+
+  pub turns-same : (x : ℕ) → x < period → turns f period x ≡ turns g period x
+  unfolding turns
+  turns-same x l =
+      rw (around-same (x - 1) (omega arith), around-same (x + 1) (omega arith), e x l)
+
+  pub turn-count-same : turnCount f period ≡ turnCount g period
+  unfolding turnCount
+  turn-count-same = count-same (turns f period) (turns g period) period turns-same
+
+  pub turn-tick-same : (i : ℕ) → turnTick f period i ≡ turnTick g period i
+  unfolding turnTick
+  turn-tick-same i = ap (λ (w : List ℕ). getD w i 0) (select-same (turns f period) (turns g period) period
+      turns-same)
 
 -- FOR A READER of points that stand anywhere: n points (t i, v i) that are these
 closed-same : (n : ℕ) (f h : ℕ → ℕ) (d e : ℕ) → d ≡ e → ((i : ℕ) → i < n → f i ≡ h i) → (i : ℕ)

@@ -3,8 +3,8 @@
 // for the segment of a tick (specs/Search.antt), and the value at a tick by points in general
 // (specs/Points.antt), by a day's points (specs/Day.antt, specs/Pieces.antt) and by points in tables
 // (specs/Table.antt), with the laws of values: least, most, FIFO over all days; and the points of a day that
-// has a value at every tick (specs/Turns.antt). Those who read points from a file write the loops. It calls no
-// other crate, and cites the shapes of loops from `theory_loops` alone. It knows no bytes, no files and no
+// has a value at every tick (specs/Turns.antt). Those who read points from a file write the loops. It calls
+// no other crate, and cites the shapes of loops from `theory_loops` alone. It knows no bytes, no files and no
 // graph.
 ghost use mathlib.Core.Path.{_≡_};
 ghost use Prim.Native.Nat.{_≤_, _<_};

@@ -75,6 +75,11 @@ module _ (f : ℕ → ℕ) (period : ℕ) where
       turned c x (f (x + 1)) r l (omega arith) e
       (rw (closed-in period f (f 0) (x - 1) (omega arith), closed-in period f (f 0) (x + 1) h)) q
 
+  -- s points stand before the part of which c are counted
+  pub turned-more : (s c x r : ℕ) → 1 ≤ x → x + 1 < period → s + c ≡ count x (turns f period)
+      → r ≡ differ (f (x - 1) + f (x + 1)) (f x + f x) → s + (c + r) ≡ count (x + 1) (turns f period)
+  turned-more s c x r l h e q = omega (arith, turned-next (s + c) x r l h e q)
+
   pub turned-last : (c x r : ℕ) → 1 ≤ x → x + 1 ≡ period → c ≡ count x (turns f period)
       → r ≡ differ (f (x - 1) + f 0) (f x + f x) → c + r ≡ turnCount f period
   unfolding turnCount

@@ -73,7 +73,7 @@ module _ {g : Graph} (m : Modest g) {b : ℕ} {W : List ℕ} (w : Worked g b W) 
 
   -- what arc a gives, by the list
   module _ (a : ℕ) (l : a < g .arcs) where
-    gives-is : (x : ℕ) → x < g .period
+    pub gives-is : (x : ℕ) → x < g .period
         → givesTicks g (leastTicks g b) a x
         ≡ g .travel a x + gridAt (g .period) W (g .head a) ((x + g .travel a x) % g .period)
     unfolding givesTicks
@@ -82,10 +82,12 @@ module _ {g : Graph} (m : Modest g) {b : ℕ} {W : List ℕ} (w : Worked g b W) 
         omega (arith, w .at (g .head a) y (m .lawful .heads a l) (mod-lt (x + g .travel a x) (omega arith)))
 
     -- where the arc gives the tail's number nowhere, it starts nothing
-    none : ((x : ℕ) → x < g .period → givesTicks g (leastTicks g b) a x ≢ leastTicks g b (g .tail a) x)
+    pub start-nowhere : ((x : ℕ) → x < g .period
+        → givesTicks g (leastTicks g b) a x ≢ leastTicks g b (g .tail a) x)
         → false ≡ starts g (leastTicks g b) a
     unfolding startsAt
-    none e = sym (any-clear (startsAt g (leastTicks g b) a) (g .period) .1 (λ x h. ne-eqb _ _ (e x h)))
+    start-nowhere e =
+        sym (any-clear (startsAt g (leastTicks g b) a) (g .period) .1 (λ x h. ne-eqb _ _ (e x h)))
 
     tail-capped : (x : ℕ) → x < g .period → leastTicks g b (g .tail a) x ≤ never
     tail-capped x h = least-capped m b {u = g .tail a} {x = x} (m .lawful .tails a l) h
@@ -93,7 +95,7 @@ module _ {g : Graph} (m : Modest g) {b : ℕ} {W : List ℕ} (w : Worked g b W) 
     -- no number at its head
     pub start-none : 0 < g .period → gridAt (g .period) W (g .head a) 0 ≡ never
         → false ≡ starts g (leastTicks g b) a
-    start-none some e = none (λ x h q.
+    start-none some e = start-nowhere (λ x h q.
         let y = (x + g .travel a x) % g .period in
         let k : y < g .period = mod-lt (x + g .travel a x) some in
         let n = m .lawful .heads a l in
@@ -141,7 +143,7 @@ module _ {g : Graph} (m : Modest g) {b : ℕ} {W : List ℕ} (w : Worked g b W) 
 
       pub start-quiet : r ≡ 0 → false ≡ starts g (leastTicks g b) a
       unfolding lowered
-      start-quiet z = none (λ x h q.
+      start-quiet z = start-nowhere (λ x h q.
           omega (
             arith,
             c .none z x (omega arith) h,

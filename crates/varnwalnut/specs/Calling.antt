@@ -16,9 +16,10 @@ use Rattle.network.specs.Answer.{openingSays}
 use Rattle.network.specs.Limits.{mostRoads}
 use Rattle.network.specs.Tables.{Tables}
 use Rattle.network_open.specs.Open.{OpenCall}
-use Rattle.network_pack.specs.Answer.{packingSays}
+use Rattle.file_refusals.specs.Writing.{writingSays}
 use Rattle.network_pack.specs.Pack.{PackCall}
-use Rattle.network_pack.specs.declared.pack.Packing.{Packing}
+use Rattle.plan_make.specs.Make.{MakeCall}
+use Rattle.file_refusals.specs.declared.writing.Writing.{Writing}
 use Rattle.search_path.specs.declared.answer.Arrival.{Arrival}
 use Rattle.search_path.specs.declared.answer.Answer.{Answer}
 use Rattle.search_path.specs.declared.answer.Answer.the-variants.{Arrived, Refused}
@@ -33,7 +34,7 @@ use Rattle.trip.specs.Calls.{plainAnswer, flaggedAnswer}
 use Rattle.c_replies.specs.Reply.{tripSize, bytes, roadBytes, tripBytes}
 use Rattle.c_replies.specs.Writing.{trip-long}
 use Rattle.varnwalnut.specs.Room.{roomed, kept}
-use Rattle.varnwalnut.specs.Replies.{TripReply, DeskReply, OpenReply, PackReply, TripDesk}
+use Rattle.varnwalnut.specs.Replies.{TripReply, DeskReply, OpenReply, PackReply, MakeReply, TripDesk}
 
 -- ROOM
 module _ (w room : ℕ) where
@@ -81,13 +82,34 @@ module _ (h : Header) (t : Tables) (out₀ before : List ℕ) (r : ℕ) where
   pub pack-short : length before < 4 → r ≡ 31 → PackReply h t out₀ out₀ before before r
   pack-short l e = record { reply = desk-short 4 _ before r l e; written = kept-short 4 _ out₀ _ l }
 
-  pub pack-written : (o : Packing) (out₁ after : List ℕ) → 4 ≤ length before
-      → PackCall h t out₀ out₁ o → r ≡ packingSays o .number
-      → after ≡ overwritten (numbersOf (packingSays o)) before → PackReply h t out₀ out₁ before after r
+  pub pack-written : (o : Writing) (out₁ after : List ℕ) → 4 ≤ length before
+      → PackCall h t out₀ out₁ o → r ≡ writingSays o .number
+      → after ≡ overwritten (numbersOf (writingSays o)) before → PackReply h t out₀ out₁ before after r
   pack-written o out₁ after l c e f =
       let q = c .answer in
       record {
-        reply = rw q at (desk-written 4 (packingSays o) before r after l e f);
+        reply = rw q at (desk-written 4 (writingSays o) before r after l e f);
+        written = kept-enough 4 _ out₀ l (rw q at (c .written));
+      }
+
+-- MAKE PLAN
+module _ (network work₀ out₀ before : List ℕ) (r : ℕ) where
+  pub make-short : length before < 4 → r ≡ 31 → MakeReply network work₀ work₀ out₀ out₀ before before r
+  make-short l e = record {
+    reply = desk-short 4 _ before r l e;
+    work = kept-short 4 _ work₀ _ l;
+    written = kept-short 4 _ out₀ _ l;
+  }
+
+  pub make-written : (o : Writing) (work₁ out₁ after : List ℕ) → 4 ≤ length before
+      → MakeCall network work₀ work₁ out₀ out₁ o → r ≡ writingSays o .number
+      → after ≡ overwritten (numbersOf (writingSays o)) before
+      → MakeReply network work₀ work₁ out₀ out₁ before after r
+  make-written o work₁ out₁ after l c e f =
+      let q = c .answer in
+      record {
+        reply = rw q at (desk-written 4 (writingSays o) before r after l e f);
+        work = kept-enough 4 _ work₀ l (c .work);
         written = kept-enough 4 _ out₀ l (rw q at (c .written));
       }
 

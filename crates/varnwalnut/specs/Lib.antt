@@ -3,3 +3,4 @@
 pub mod Room
 pub mod Replies
 pub mod Calling
+pub mod Planner

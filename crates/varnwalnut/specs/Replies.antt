@@ -16,8 +16,10 @@ use Rattle.network.specs.Tables.{Tables, networkOf}
 use Rattle.network.specs.Town.{graphOf}
 use Rattle.network_open.specs.Open.{opening, tablesAfter}
 use Rattle.network_encode.specs.Encode.{encode}
-use Rattle.network_pack.specs.Answer.{packingSays}
-use Rattle.network_pack.specs.Pack.{packing, bytesAfter}
+use Rattle.file_refusals.specs.Writing.{writingSays, bytesAfter}
+use Rattle.network_pack.specs.Pack.{packing}
+use Rattle.plan_made.specs.File.{madeFile}
+use Rattle.plan_make.specs.Make.{making, workAfter}
 use Rattle.search_path.specs.declared.answer.Answer.{Answer}
 use Rattle.search_path.specs.Answer.{searched}
 use Rattle.search_path.specs.Says.{tripSays}
@@ -46,9 +48,16 @@ pub record OpenReply (file : List ℕ) (tables₀ tables₁ : Tables) (before af
 
 -- Pack: beside the reply, the bytes for the file of these numbers and tables
 pub record PackReply (h : Header) (t : Tables) (out₀ out₁ before after : List ℕ) (returned : ℕ) : Type 0 where
-  pub reply : DeskReply 4 (packingSays (packing h t (length out₀))) before after returned
+  pub reply : DeskReply 4 (writingSays (packing h t (length out₀))) before after returned
   pub written : out₁ ≡ kept 4 (length before) out₀
       (bytesAfter (packing h t (length out₀)) (encode (networkOf h t)) out₀)
+
+-- Make plan: beside the reply, the work list, and the bytes for the plan's file
+pub record MakeReply (network work₀ work₁ out₀ out₁ before after : List ℕ) (returned : ℕ) : Type 0 where
+  pub reply : DeskReply 4 (writingSays (making network (length work₀) (length out₀))) before after returned
+  pub work : work₁ ≡ kept 4 (length before) work₀ (workAfter network work₀)
+  pub written : out₁ ≡ kept 4 (length before) out₀
+      (bytesAfter (making network (length work₀) (length out₀)) (madeFile (decode network)) out₀)
 
 -- A trip: beside the reply, the lists of arrivals and of roads. b is what comes before the search, from s to
 -- t over the permitted arcs of g, leaving at tick x.

@@ -4,18 +4,20 @@
 use c_replies::numbers::write_checking;
 use c_replies::numbers::write_lists;
 use c_replies::numbers::write_opening;
-use c_replies::numbers::write_packing;
+use c_replies::numbers::write_writing;
 use file_refusals::number::ANSWER_SHORT;
 use network_open::open::open_network;
 use network_pack::pack::pack_network;
 use plan_check::check::check_plan;
+use plan_make::make::make_plan;
 use trip::flagged::flagged_trip;
 use trip::plain::plain_trip;
 ghost use Rattle.network.specs.Tables.{tables};
 ghost use Rattle.network_pack.specs.Pack.{numbers};
 ghost use Rattle.plan_check.specs.CheckPlan.{checking as checkingOf};
 ghost use Rattle.plan_check.specs.Answer.{checkingSays};
-ghost use Rattle.varnwalnut.specs.Replies.{DeskReply, OpenReply, PackReply, PlainDesk, FlaggedDesk};
+ghost use Rattle.varnwalnut.specs.Replies.{DeskReply, OpenReply, PackReply, MakeReply};
+ghost use Rattle.varnwalnut.specs.Replies.{PlainDesk, FlaggedDesk};
 
 // Is the plan one that the flagged trips of the network may trust?
 #[no_mangle]
@@ -83,7 +85,7 @@ pub extern "C" fn varnwalnut_pack_network(
     if answer.len() < 4 {
         return ANSWER_SHORT;
     }
-    write_packing(
+    write_writing(
         pack_network(
             number,
             period,
@@ -101,6 +103,23 @@ pub extern "C" fn varnwalnut_pack_network(
         ),
         answer,
     )
+}
+
+// The file of the plan that is made of a network, and its length.
+#[no_mangle]
+pub extern "C" fn varnwalnut_make_plan(
+    network: &[u8],
+    work: &mut [u32],
+    out: &mut [u8],
+    answer: &mut [u32],
+) -> u32
+    ensures { λ r. ⌜ MakeReply (now (network .entry)) (now (work .entry)) (now (work .exit))
+        (now (out .entry)) (now (out .exit)) (now (answer .entry)) (now (answer .exit)) r ⌝ }
+{
+    if answer.len() < 4 {
+        return ANSWER_SHORT;
+    }
+    write_writing(make_plan(network, work, out), answer)
 }
 
 // The plain trip with lent lists.

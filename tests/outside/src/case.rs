@@ -3,7 +3,9 @@
 use crate::draft::{Drafts, NetworkDraft, PlanDraft};
 use crate::generate::{town, Size};
 use crate::input::Input;
+use crate::made;
 use crate::planner::{exact_plan, work};
+use crate::reference::make_plan::MakeLengths;
 use crate::reference::network::{self, Network};
 use crate::reference::trips::{least_arrivals, plain_trip, ListLengths, TripCall};
 use crate::rng::Rng;
@@ -16,6 +18,9 @@ pub struct Case {
     pub spare: usize,
     /// How many arcs the plain trip's chosen way has.
     pub roads: usize,
+    /// How long the planner's lists have to be, and how many entries longer they are.
+    pub make_needs: MakeLengths,
+    pub make_spare: usize,
 }
 
 /// What a case's exact plan may cost.
@@ -43,7 +48,11 @@ pub fn generate(rng: &mut Rng, size: Size) -> Case {
     let call = reachable_pair(rng, &network);
     let any_list = ListLengths { arrivals: 512, roads: 512 };
     let roads = plain_trip(&network, call, any_list).answer.map_or(0, |arrived| arrived.roads.len());
-    Case { drafts: Drafts { network: draft, plan }, network, call, spare: rng.below(4), roads }
+    let make_needs = made::of(&draft.file(), &network).needs;
+    // A planner that clears a block or a row too many needs room for it.
+    let make_spare = rng.pick(&[0, 0, 1, 3, 512, 1_100]);
+    let drafts = Drafts { network: draft, plan };
+    Case { drafts, network, call, spare: rng.below(4), roads, make_needs, make_spare }
 }
 
 /// The opened town and its exact plan, unless that takes too much work or too many points.
@@ -84,6 +93,9 @@ impl Case {
     }
 
     pub fn input_of_files(&self, network: Vec<u8>, plan: Vec<u8>) -> Input {
-        Input::roomy(network, plan, self.call, self.network.header.table_lengths(), self.spare)
+        let tables = self.network.header.table_lengths();
+        let mut input = Input::roomy(network, plan, self.call, tables, self.spare);
+        input.plan_what_the_network_says(self.make_needs, self.make_spare);
+        input
     }
 }

@@ -1,24 +1,32 @@
-//! One input through all seven functions: the reference predicts the returned number, the answer and every
+//! One input through all eight functions: the reference predicts the returned number, the answer and every
 //! entry of lent memory, and each difference becomes a line of text.
+
+mod make_plan;
 
 use crate::input::Input;
 use crate::library::*;
+use crate::made::{self, Made};
 use crate::marked::{Entry, Lent};
 use crate::reference::network::{self, Network};
 use crate::reference::plan::{self, Plan};
 use crate::reference::trips::{flagged_trip, plain_trip, ListLengths, Trip, TripCall};
 use crate::reference::{check, refuse, Refusal};
+use std::rc::Rc;
+
+pub use make_plan::PlannerLengths;
 
 /// What the reference says of one operation: nothing refused, or which refusal.
 pub type Predicted = Option<Refusal>;
 
 /// All operations on one input.
 pub struct Verdict {
-    pub predicted: [Predicted; 7],
+    pub predicted: [Predicted; COUNT],
     pub differences: Vec<String>,
     /// The reference's reading of the files, for the oracles.
     pub opened: Result<Network, Refusal>,
     pub planned: Result<Plan, Refusal>,
+    /// What the reference's planner makes of the network, if it opens.
+    pub made: Option<Rc<Made>>,
 }
 
 impl Verdict {
@@ -35,6 +43,7 @@ struct Run<'a> {
     plan: Lent<u8>,
     opened: &'a Result<Network, Refusal>,
     planned: &'a Result<Plan, Refusal>,
+    made: Option<Rc<Made>>,
     differences: Vec<String>,
 }
 
@@ -44,7 +53,8 @@ pub fn compare(input: &Input) -> Verdict {
         Ok(network) => plan::open(network, &input.plan),
         Err(refusal) => Err(*refusal),
     };
-    let mut run = Run::new(input, &opened, &planned);
+    let made = opened.as_ref().ok().map(|network| made::of(&input.network, network));
+    let mut run = Run::new(input, &opened, &planned, made);
     let predicted = [
         run.open_network(),
         run.pack_network(),
@@ -53,15 +63,16 @@ pub fn compare(input: &Input) -> Verdict {
         run.c_trip(FLAGGED),
         run.trip_lists(PLAIN_LISTS),
         run.trip_lists(FLAGGED_LISTS),
+        run.make_plan(),
     ];
-    let differences = run.differences;
-    Verdict { predicted, differences, opened, planned }
+    let (made, differences) = (run.made, run.differences);
+    Verdict { predicted, differences, opened, planned, made }
 }
 
 /// Both C trips for every pair of nodes and every tick of the input's town.
 pub fn compare_all_trips(input: &Input, verdict: &Verdict) -> Vec<String> {
     let Ok(network) = &verdict.opened else { return Vec::new() };
-    let mut run = Run::new(input, &verdict.opened, &verdict.planned);
+    let mut run = Run::again(input, verdict);
     for from in 0..network.header.nodes {
         for to in 0..network.header.nodes {
             for departure in 0..network.header.period {
@@ -72,6 +83,13 @@ pub fn compare_all_trips(input: &Input, verdict: &Verdict) -> Vec<String> {
         }
     }
     run.differences
+}
+
+/// The planner alone, with lists of other lengths: its refusal and the differences.
+pub fn compare_make_plan(input: &Input, verdict: &Verdict, lengths: PlannerLengths) -> (u32, Vec<String>) {
+    let mut run = Run::again(input, verdict);
+    let refused = run.make_plan_with(lengths);
+    (refused.map_or(0, |refusal| refusal.number), run.differences)
 }
 
 /// "an answer list shorter than named gives 31 before all else and nothing is written".
@@ -97,7 +115,16 @@ fn answer_words(lent: usize, named: usize, refused: Predicted, numbers: &[u32]) 
 }
 
 impl<'a> Run<'a> {
-    fn new(input: &'a Input, opened: &'a Result<Network, Refusal>, planned: &'a Result<Plan, Refusal>) -> Run<'a> {
+    fn again(input: &'a Input, verdict: &'a Verdict) -> Run<'a> {
+        Run::new(input, &verdict.opened, &verdict.planned, verdict.made.clone())
+    }
+
+    fn new(
+        input: &'a Input,
+        opened: &'a Result<Network, Refusal>,
+        planned: &'a Result<Plan, Refusal>,
+        made: Option<Rc<Made>>,
+    ) -> Run<'a> {
         // Files are lent at changing distances from an even address.
         let shift = input.call.departure as usize % 16;
         Run {
@@ -107,6 +134,7 @@ impl<'a> Run<'a> {
             plan: Lent::holding(&input.plan, shift / 2),
             opened,
             planned,
+            made,
             differences: Vec::new(),
         }
     }

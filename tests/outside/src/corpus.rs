@@ -1,18 +1,23 @@
-//! Inputs kept as files. A corpus file is the four bytes VWC1, 31 numbers of 32 bits, low byte first, the
+//! Inputs kept as files. A corpus file is the four bytes VWC2, 34 numbers of 32 bits, low byte first, the
 //! network's bytes and the plan's. The numbers: from, to, departure; pack's number, P, N, R, K, Q; the lengths
 //! of the arrival list, the road list, the C trips' answer, the answers of the lists, the check, open and pack,
-//! pack's out-bytes, open's six tables and pack's six; the network's length and the plan's.
+//! pack's out-bytes, open's six tables and pack's six; the network's length and the plan's; the lengths of
+//! the planner's work list, out-bytes and answer. A file that starts with VWC1 is older and without the last
+//! three: there they are one entry more than the network needs.
 
 use crate::compare::{compare, Verdict};
-use crate::input::{Input, Lengths};
-use crate::library::OPERATIONS;
+use crate::input::{Input, Lengths, NO_LISTS};
+use crate::library::{MAKE_ANSWER, OPERATIONS};
+use crate::reference::make_plan::MakeLengths;
 use crate::reference::network::Header;
 use crate::reference::trips::TripCall;
 use std::path::{Path, PathBuf};
 use std::{fs, io};
 
-const MAGIC: &[u8; 4] = b"VWC1";
-const NUMBERS: usize = 31;
+const MAGIC: &[u8; 4] = b"VWC2";
+const NUMBERS: usize = 34;
+const OLDER_MAGIC: &[u8; 4] = b"VWC1";
+const OLDER_NUMBERS: usize = 31;
 /// No lent list of a corpus file is longer: a plan's most bytes and some.
 const MOST_LENGTH: u32 = 8_000_000;
 
@@ -33,6 +38,7 @@ pub fn to_bytes(input: &Input) -> Vec<u8> {
     counts.extend(lengths.open_tables);
     counts.extend(lengths.pack_tables);
     counts.extend([input.network.len(), input.plan.len()]);
+    counts.extend([lengths.make.work, lengths.make.out, lengths.make_answer]);
     numbers.extend(counts.iter().map(|&count| count as u32));
     let mut bytes = MAGIC.to_vec();
     bytes.extend(numbers.iter().flat_map(|number| number.to_le_bytes()));
@@ -42,36 +48,10 @@ pub fn to_bytes(input: &Input) -> Vec<u8> {
 }
 
 pub fn from_bytes(bytes: &[u8]) -> Option<Input> {
-    let rest = bytes.strip_prefix(MAGIC)?;
-    let (head, files) = rest.split_at_checked(4 * NUMBERS)?;
-    let numbers: Vec<u32> =
-        head.chunks_exact(4).map(|word| u32::from_le_bytes([word[0], word[1], word[2], word[3]])).collect();
-    let count = |place: usize| (numbers[place] <= MOST_LENGTH).then_some(numbers[place] as usize);
-    let six = |first: usize| -> Option<[usize; 6]> {
-        Some([
-            count(first)?,
-            count(first + 1)?,
-            count(first + 2)?,
-            count(first + 3)?,
-            count(first + 4)?,
-            count(first + 5)?,
-        ])
-    };
-    let lengths = Lengths {
-        arrivals: count(9)?,
-        roads: count(10)?,
-        trip_answer: count(11)?,
-        lists_answer: count(12)?,
-        check_answer: count(13)?,
-        open_answer: count(14)?,
-        pack_answer: count(15)?,
-        pack_out: count(16)?,
-        open_tables: six(17)?,
-        pack_tables: six(23)?,
-    };
-    let (network, plan) = files.split_at_checked(count(29)?)?;
-    (plan.len() == count(30)?).then_some(())?;
-    Some(Input {
+    let (numbers, files) = read_numbers(bytes)?;
+    let (network, plan) = files.split_at_checked(count(&numbers, 29)?)?;
+    (plan.len() == count(&numbers, 30)?).then_some(())?;
+    let mut input = Input {
         network: network.to_vec(),
         plan: plan.to_vec(),
         call: TripCall { from: numbers[0], to: numbers[1], departure: numbers[2] },
@@ -83,7 +63,52 @@ pub fn from_bytes(bytes: &[u8]) -> Option<Input> {
             cells: numbers[7],
             points: numbers[8],
         },
-        lengths,
+        lengths: lengths_of(&numbers)?,
+    };
+    if numbers.len() == OLDER_NUMBERS {
+        input.plan_what_the_network_says(NO_LISTS, 1);
+    } else {
+        input.lengths.make = MakeLengths { work: count(&numbers, 31)?, out: count(&numbers, 32)? };
+        input.lengths.make_answer = count(&numbers, 33)?;
+    }
+    Some(input)
+}
+
+/// The numbers at a file's head, and the bytes after them.
+fn read_numbers(bytes: &[u8]) -> Option<(Vec<u32>, &[u8])> {
+    let (rest, numbers) = match bytes.strip_prefix(MAGIC) {
+        Some(rest) => (rest, NUMBERS),
+        None => (bytes.strip_prefix(OLDER_MAGIC)?, OLDER_NUMBERS),
+    };
+    let (head, files) = rest.split_at_checked(4 * numbers)?;
+    let words = head.chunks_exact(4);
+    Some((words.map(|word| u32::from_le_bytes([word[0], word[1], word[2], word[3]])).collect(), files))
+}
+
+fn count(numbers: &[u32], place: usize) -> Option<usize> {
+    (numbers[place] <= MOST_LENGTH).then_some(numbers[place] as usize)
+}
+
+/// All lengths but the planner's.
+fn lengths_of(numbers: &[u32]) -> Option<Lengths> {
+    let one = |place: usize| count(numbers, place);
+    let six = |first: usize| -> Option<[usize; 6]> {
+        let six: Option<Vec<usize>> = (first..first + 6).map(one).collect();
+        six?.try_into().ok()
+    };
+    Some(Lengths {
+        arrivals: one(9)?,
+        roads: one(10)?,
+        trip_answer: one(11)?,
+        lists_answer: one(12)?,
+        check_answer: one(13)?,
+        open_answer: one(14)?,
+        pack_answer: one(15)?,
+        pack_out: one(16)?,
+        open_tables: six(17)?,
+        pack_tables: six(23)?,
+        make: NO_LISTS,
+        make_answer: MAKE_ANSWER + 1,
     })
 }
 
@@ -118,7 +143,7 @@ pub fn replay(folder: &Path) -> io::Result<u64> {
     Ok(differences)
 }
 
-/// The seven operations' refusals, in order.
+/// The eight operations' refusals, in order.
 fn refusals(verdict: &Verdict) -> String {
     (0..OPERATIONS.len()).map(|operation| verdict.refusal(operation).to_string()).collect::<Vec<_>>().join(" ")
 }

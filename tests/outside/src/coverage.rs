@@ -1,12 +1,20 @@
 //! Which refusals occurred: for each operation and number, by a fault alone and beside a second one.
-//! At the end every refusal that document 01 lets an operation give must have occurred both ways.
+//! At the end every refusal that documents 01 and 02 let an operation give must have occurred both ways.
 
 use crate::library::*;
 
-#[derive(Default)]
+/// Refusals up to 34; 32 is the run sheet's.
+const NUMBERS: usize = 35;
+
 pub struct Coverage {
-    alone: [[u64; 32]; 7],
-    second: [[u64; 32]; 7],
+    alone: [[u64; NUMBERS]; COUNT],
+    second: [[u64; NUMBERS]; COUNT],
+}
+
+impl Default for Coverage {
+    fn default() -> Coverage {
+        Coverage { alone: [[0; NUMBERS]; COUNT], second: [[0; NUMBERS]; COUNT] }
+    }
 }
 
 impl Coverage {
@@ -20,8 +28,8 @@ impl Coverage {
 
     /// Counts what another run met as well.
     pub fn add(&mut self, other: &Coverage) {
-        for operation in 0..7 {
-            for refusal in 0..32 {
+        for operation in 0..COUNT {
+            for refusal in 0..NUMBERS {
                 self.alone[operation][refusal] += other.alone[operation][refusal];
                 self.second[operation][refusal] += other.second[operation][refusal];
             }
@@ -35,9 +43,9 @@ impl Coverage {
             print!(" {name:>18}");
         }
         println!();
-        for refusal in 0..32usize {
+        for refusal in (0..NUMBERS).filter(|&refusal| refusal != 32) {
             print!("{refusal:>4}");
-            for operation in 0..7 {
+            for operation in 0..COUNT {
                 let (alone, second) = (self.alone[operation][refusal], self.second[operation][refusal]);
                 let text = if alone + second == 0 { "-".to_string() } else { format!("{alone} / {second}") };
                 print!(" {text:>18}");
@@ -65,7 +73,7 @@ impl Coverage {
 
 /// The refusals an operation can give. The trips called from C have a fresh list of 512 arrivals, never
 /// shorter than N (no 27), and 1,032 answer bytes hold the 511 roads of the longest way there can be (no 29).
-/// 31 is an answer list that is too short, for pack also the out-bytes.
+/// 31 is an answer list that is too short, for pack and the planner also the out-bytes.
 fn possible(operation: usize) -> Vec<u32> {
     let network = 1..=10;
     let plan = 11..=19;
@@ -76,7 +84,8 @@ fn possible(operation: usize) -> Vec<u32> {
         PLAIN => network.chain([25, 26, 28, 31]).collect(),
         FLAGGED => network.chain(plan).chain([25, 26, 28, 31]).collect(),
         PLAIN_LISTS => network.chain(25..=29).chain([31]).collect(),
-        _ => network.chain(plan).chain(25..=29).chain([31]).collect(),
+        FLAGGED_LISTS => network.chain(plan).chain(25..=29).chain([31]).collect(),
+        _ => network.chain([31, 33, 34]).collect(),
     }
 }
 

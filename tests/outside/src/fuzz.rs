@@ -13,6 +13,7 @@ use crate::quay;
 use crate::reference::blocks::BLOCK;
 use crate::reference::trips::TripCall;
 use crate::rng::Rng;
+use crate::runner::{CaseName, Series};
 use crate::watch;
 use std::collections::HashMap;
 use std::path::{Path, PathBuf};
@@ -20,7 +21,7 @@ use std::time::{Duration, Instant};
 use std::{fs, io};
 
 /// The folder's files stay below this in all.
-const MOST_BYTES: usize = 280_000;
+const MOST_BYTES: usize = 300_000;
 /// Inputs are kept only if their files have at most this many blocks together.
 const MOST_BLOCKS: usize = 8;
 
@@ -56,7 +57,7 @@ pub fn fuzz(seed: u64, folder: &Path, seconds: Option<u64>) -> io::Result<u64> {
     let started = Instant::now();
     let mut rounds = 0u64;
     while seconds.is_none_or(|seconds| started.elapsed() < Duration::from_secs(seconds)) {
-        watch::case(0, false, rounds);
+        watch::case(0, CaseName { series: Series::Small, number: rounds });
         let input = fuzzer.next_input();
         fuzzer.try_input(input)?;
         rounds += 1;
@@ -179,6 +180,7 @@ fn mutate(rng: &mut Rng, input: &mut Input) {
             }
             if rng.once_in(2) {
                 input.pack_what_the_network_says(1);
+                input.plan_what_the_network_says(input.lengths.make, 1);
             }
         }
     }
@@ -249,7 +251,7 @@ fn mutate_call(rng: &mut Rng, input: &mut Input) {
 fn mutate_lengths(rng: &mut Rng, input: &mut Input) {
     let lengths = &mut input.lengths;
     let table = rng.below(6);
-    let length = match rng.below(10) {
+    let length = match rng.below(13) {
         0 => &mut lengths.arrivals,
         1 => &mut lengths.roads,
         2 => &mut lengths.trip_answer,
@@ -259,6 +261,9 @@ fn mutate_lengths(rng: &mut Rng, input: &mut Input) {
         6 => &mut lengths.pack_answer,
         7 => &mut lengths.pack_out,
         8 => &mut lengths.open_tables[table],
+        9 => &mut lengths.make.work,
+        10 => &mut lengths.make.out,
+        11 => &mut lengths.make_answer,
         _ => &mut lengths.pack_tables[table],
     };
     *length = match rng.below(3) {

@@ -1,7 +1,9 @@
-//! One input for all seven functions: two files, the numbers of a call, and how long each lent list is.
+//! One input for all eight functions: two files, the numbers of a call, and how long each lent list is.
 //! What pack gets is read out of the network file without judging it, so that every damage reaches pack too.
 
-use crate::library::{CHECK_ANSWER, LISTS_ANSWER, OPEN_ANSWER, PACK_ANSWER, TRIP_ANSWER_BYTES};
+use crate::library::{CHECK_ANSWER, LISTS_ANSWER, MAKE_ANSWER, OPEN_ANSWER, PACK_ANSWER, TRIP_ANSWER_BYTES};
+use crate::made;
+use crate::reference::make_plan::MakeLengths;
 use crate::reference::network::{read_header, read_tables, Header, Tables};
 use crate::reference::trips::TripCall;
 
@@ -18,6 +20,9 @@ pub struct Lengths {
     pub pack_out: usize,
     pub open_tables: [usize; 6],
     pub pack_tables: [usize; 6],
+    /// The planner's work list and out-bytes.
+    pub make: MakeLengths,
+    pub make_answer: usize,
 }
 
 #[derive(Clone, PartialEq, Eq)]
@@ -50,6 +55,13 @@ impl Input {
         self.lengths.pack_out = self.network.len() + spare;
     }
 
+    /// Makes the planner's lists as long as the network file as it stands now needs them, and `spare` entries
+    /// longer. What does not open needs none: then they are as long as `otherwise` says.
+    pub fn plan_what_the_network_says(&mut self, otherwise: MakeLengths, spare: usize) {
+        let needs = made::needs(&self.network).unwrap_or(otherwise);
+        self.lengths.make = MakeLengths { work: needs.work + spare, out: needs.out + spare };
+    }
+
     /// An input whose lists are all long enough for any town, `spare` entries beyond what is named.
     pub fn roomy(network: Vec<u8>, plan: Vec<u8>, call: TripCall, open_tables: [usize; 6], spare: usize) -> Input {
         let mut input = Input {
@@ -68,11 +80,15 @@ impl Input {
                 pack_out: 0,
                 open_tables: open_tables.map(|length| length + spare),
                 pack_tables: [0; 6],
+                make: NO_LISTS,
+                make_answer: MAKE_ANSWER + spare,
             },
         };
         input.pack_what_the_network_says(spare);
+        input.plan_what_the_network_says(NO_LISTS, spare);
         input
     }
 }
 
 const NO_HEADER: Header = Header { number: 0, period: 0, nodes: 0, arcs: 0, cells: 0, points: 0 };
+pub const NO_LISTS: MakeLengths = MakeLengths { work: 0, out: 0 };

@@ -62,10 +62,18 @@ extern "C" {
         roads: *mut u16, roads_length: usize,
         answer: *mut u32, answer_length: usize,
     ) -> u32;
+
+    pub fn varnwalnut_make_plan(
+        network: *const u8, network_length: usize,
+        work: *mut u32, work_length: usize,
+        out: *mut u8, out_length: usize,
+        answer: *mut u32, answer_length: usize,
+    ) -> u32;
 }
 
 /// The operations in the order of the tables printed at the end.
-pub const OPERATIONS: [&str; 7] = [
+pub const COUNT: usize = 8;
+pub const OPERATIONS: [&str; COUNT] = [
     "open_network",
     "pack_network",
     "check_plan",
@@ -73,6 +81,7 @@ pub const OPERATIONS: [&str; 7] = [
     "flagged_trip",
     "plain_trip_lists",
     "flagged_trip_lists",
+    "make_plan",
 ];
 pub const OPEN: usize = 0;
 pub const PACK: usize = 1;
@@ -81,6 +90,7 @@ pub const PLAIN: usize = 3;
 pub const FLAGGED: usize = 4;
 pub const PLAIN_LISTS: usize = 5;
 pub const FLAGGED_LISTS: usize = 6;
+pub const MAKE: usize = 7;
 
 /// "Below 1,032 bytes it gives 31 before all else".
 pub const TRIP_ANSWER_BYTES: usize = 1_032;
@@ -89,3 +99,4 @@ pub const OPEN_ANSWER: usize = 9;
 pub const PACK_ANSWER: usize = 4;
 pub const CHECK_ANSWER: usize = 3;
 pub const LISTS_ANSWER: usize = 5;
+pub const MAKE_ANSWER: usize = 4;

@@ -1,5 +1,5 @@
-//! Tests of the engine's C functions from outside: document 01 written down a second time, and every answer and
-//! all lent memory compared with it. `README.md` has the commands.
+//! Tests of the engine's C functions from outside: documents 01 and 02 written down a second time, and every
+//! answer and all lent memory compared with them. `README.md` has the commands.
 
 mod case;
 mod compare;
@@ -11,6 +11,7 @@ mod fuzz;
 mod generate;
 mod input;
 mod library;
+mod made;
 mod marked;
 mod oracle;
 mod planner;
@@ -18,9 +19,10 @@ mod quay;
 mod reference;
 mod rng;
 mod runner;
+mod towns;
 mod watch;
 
-use runner::{CaseName, Runner};
+use runner::{CaseName, Runner, Series};
 use std::path::PathBuf;
 use std::process::ExitCode;
 use std::sync::atomic::{AtomicU64, Ordering};
@@ -114,12 +116,15 @@ fn run_quay_town() -> u64 {
 fn run_cases(seed: u64, cases: u64, large: u64) -> u64 {
     let mut differences = run_quay_town();
     let mut runner = runner(seed);
-    for (is_large, count) in [(false, cases), (true, large)] {
+    let parts = [
+        (Series::Towns, towns::COUNT, "towns made on purpose"),
+        (Series::Small, cases, "small cases"),
+        (Series::Large, large, "large cases"),
+    ];
+    for (series, count, what) in parts {
         let started = Instant::now();
-        run_in_threads(&mut runner, is_large, count);
-        let seconds = started.elapsed().as_secs_f64();
-        let size = if is_large { "large" } else { "small" };
-        println!("{count} {size} cases in {seconds:.1} s");
+        run_in_threads(&mut runner, series, count);
+        println!("{count} {what} in {:.1} s", started.elapsed().as_secs_f64());
     }
     runner.coverage.print();
     differences += runner.differences;
@@ -131,19 +136,19 @@ fn run_cases(seed: u64, cases: u64, large: u64) -> u64 {
     } else {
         println!("fewer than {CASES_THAT_MEET_ALL} small cases: not held to meeting every refusal");
     }
-    println!("outside: {} cases, {differences} differences", cases + large);
+    println!("outside: {} cases, {differences} differences", towns::COUNT + cases + large);
     differences
 }
 
 /// The cases from 0 on, dealt out one by one to as many threads as there are cores. A case depends on its name and the
 /// seed alone, so the outcome is the same for any number of threads.
-fn run_in_threads(whole: &mut Runner, large: bool, count: u64) {
+fn run_in_threads(whole: &mut Runner, series: Series, count: u64) {
     let seed = whole.seed;
     let next = &AtomicU64::new(0);
     let threads = std::thread::available_parallelism().map_or(1, |cores| cores.get().min(watch::MOST_THREADS));
     std::thread::scope(|scope| {
-        let parts: Vec<_> =
-            (0..threads).map(|thread| scope.spawn(move || run_dealt(seed, thread, large, next, count))).collect();
+        let start = |thread| scope.spawn(move || run_dealt(seed, thread, series, next, count));
+        let parts: Vec<_> = (0..threads).map(start).collect();
         for part in parts {
             let part = part.join().expect("a case that panicked has said so");
             whole.coverage.add(&part.coverage);
@@ -153,7 +158,7 @@ fn run_in_threads(whole: &mut Runner, large: bool, count: u64) {
 }
 
 /// One thread's cases: the next one that no thread has taken, again and again.
-fn run_dealt(seed: u64, thread: usize, large: bool, next: &AtomicU64, count: u64) -> Runner {
+fn run_dealt(seed: u64, thread: usize, series: Series, next: &AtomicU64, count: u64) -> Runner {
     let mut part = runner(seed);
     loop {
         let number = next.fetch_add(1, Ordering::Relaxed);
@@ -161,14 +166,15 @@ fn run_dealt(seed: u64, thread: usize, large: bool, next: &AtomicU64, count: u64
             watch::rest(thread);
             return part;
         }
-        watch::case(thread, large, number);
-        part.run(CaseName { large, number });
+        let name = CaseName { series, number };
+        watch::case(thread, name);
+        part.run(name);
     }
 }
 
 fn run_only(seed: u64, name: CaseName) -> u64 {
     let mut runner = runner(seed);
-    watch::case(0, name.large, name.number);
+    watch::case(0, name);
     runner.run(name);
     println!("outside: 1 cases, {} differences", runner.differences);
     runner.differences

@@ -75,6 +75,11 @@ impl<T: Entry> Lent<T> {
         self.length
     }
 
+    /// The list's first entries as they are now, at most `count`.
+    pub fn first(&self, count: usize) -> &[T] {
+        &self.whole[self.start..][..count.min(self.length)]
+    }
+
     /// The first entry of the whole allocation that is not what it should be, if `written` are the list's
     /// first entries now and all else is as it was. Places are counted from the list's first entry.
     pub fn unlike(&self, written: &[T]) -> Option<String> {

@@ -2,10 +2,14 @@
 //! naive search, flags enough by document 01's (a) and (b), and on tiny towns all ways with all waits.
 //! Each function returns a line of text for a demand that the reference itself does not meet.
 
+mod made_plan;
+
 use crate::reference::check::check;
 use crate::reference::network::Network;
 use crate::reference::plan::{profile_at, Plan};
 use crate::reference::trips::{drive, flagged_trip, least_arrivals, ListLengths, TripCall};
+
+pub use made_plan::{judge_flags_by_ways, judge_made_plan, trips_are_plain};
 
 /// Least arrivals over all arcs, by starting node, tick below P, and node.
 type Least = Vec<Vec<Vec<Option<u64>>>>;

@@ -19,7 +19,8 @@ pub fn work(network: &Network) -> usize {
     borders(network).len() * (network.arcs.len() + network.nodes()) * network.header.period as usize
 }
 
-/// An exact plan, or none if its profiles would need more points than a plan may have.
+/// An exact plan, or none if its profiles would need more points than a plan may have, be it these or be it
+/// those that the engine's planner has to write.
 pub fn exact_plan(rng: &mut Rng, network: &Network) -> Option<PlanDraft> {
     let arc_travels = arc_travels(network);
     let least: Vec<LeastTravels> =
@@ -42,7 +43,18 @@ pub fn exact_plan(rng: &mut Rng, network: &Network) -> Option<PlanDraft> {
         travels: Vec::new(),
     };
     add_profiles(rng, network, &least, &mut plan);
-    (plan.ticks.len() <= MOST_POINTS as usize).then_some(plan)
+    (plan.ticks.len() <= MOST_POINTS as usize && even_runs_fit(network, &least)).then_some(plan)
+}
+
+fn even_runs_fit(network: &Network, least: &[LeastTravels]) -> bool {
+    let period = network.header.period as usize;
+    let room = MOST_POINTS as usize;
+    if least.len() * network.nodes() * period <= room {
+        return true;
+    }
+    let profiles = least.iter().flat_map(|to_border| to_border.travels.chunks(period));
+    let numbers = profiles.filter(|travels| travels[0] != NEVER);
+    numbers.map(|travels| even_runs(travels).len()).sum::<usize>() <= room
 }
 
 fn arc_travels(network: &Network) -> Vec<Vec<u32>> {

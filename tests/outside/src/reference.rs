@@ -1,10 +1,11 @@
-//! Document 01, written down a second time and as naively as it reads: files become plain lists, every rule
-//! stands in the document's order, and nothing here was taken from the proved crates.
-//! The document's place is a node here and its road an arc, as the field calls them.
+//! Document 01 and wish 1 of document 02, written down a second time and as naively as they read: files are
+//! plain lists, every rule stands in the document's order, and nothing here was taken from the proved crates.
+//! The documents' place is a node here and their road an arc, as the field calls them.
 
 pub mod blocks;
 pub mod check;
 pub mod line;
+pub mod make_plan;
 pub mod network;
 pub mod plan;
 pub mod trips;

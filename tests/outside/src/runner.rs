@@ -1,5 +1,7 @@
 //! Goes through the cases of a run: the valid case, one fault, another, and both at once, each through all
-//! functions and, where the town is small enough, past the oracles.
+//! functions and, where the town is small enough, past the oracles. Towns made on purpose are cases too.
+
+mod town;
 
 use crate::case::{generate, Case};
 use crate::compare::{compare, compare_all_trips, Verdict};
@@ -8,46 +10,66 @@ use crate::damage::{damaged, Fault, Intended, Kind};
 use crate::generate::Size;
 use crate::input::Input;
 use crate::library::OPERATIONS;
-use crate::oracle::{judge_plan, judge_ways_with_waits};
+use crate::made::Written;
+use crate::oracle::{judge_flags_by_ways, judge_made_plan, judge_plan, judge_ways_with_waits, trips_are_plain};
 use crate::reference::network;
 use crate::rng::Rng;
+use crate::towns;
 
-/// A case's name: small or large, and its number. With the seed it repeats the case.
+#[derive(Clone, Copy, PartialEq, Eq)]
+pub enum Series {
+    Small,
+    Large,
+    /// Towns made on purpose, whatever the seed.
+    Towns,
+}
+
+impl Series {
+    pub const ALL: [Series; 3] = [Series::Small, Series::Large, Series::Towns];
+
+    pub fn letter(self) -> char {
+        match self {
+            Series::Small => 's',
+            Series::Large => 'l',
+            Series::Towns => 't',
+        }
+    }
+}
+
+/// A case's name: its series and its number there. With the seed it repeats the case.
 #[derive(Clone, Copy)]
 pub struct CaseName {
-    pub large: bool,
+    pub series: Series,
     pub number: u64,
 }
 
 impl std::fmt::Display for CaseName {
     fn fmt(&self, out: &mut std::fmt::Formatter<'_>) -> std::fmt::Result {
-        write!(out, "{}{}", if self.large { 'l' } else { 's' }, self.number)
+        write!(out, "{}{}", self.series.letter(), self.number)
     }
 }
 
 impl CaseName {
     pub fn parse(text: &str) -> Option<CaseName> {
-        let large = match text.get(..1)? {
-            "l" => true,
-            "s" => false,
-            _ => return None,
-        };
-        Some(CaseName { large, number: text[1..].parse().ok()? })
+        let letter = text.chars().next()?;
+        let series = Series::ALL.into_iter().find(|series| series.letter() == letter)?;
+        let number = text[1..].parse().ok()?;
+        (series != Series::Towns || number < towns::COUNT).then_some(CaseName { series, number })
     }
 
     fn size(self) -> Size {
-        match (self.large, self.number) {
-            (true, number) if number % 400 == 1 => Size::Full,
-            (true, number) if number % 3 == 0 => Size::Medium,
-            (true, _) => Size::Large,
-            (false, number) if number % 16 == 0 => Size::Tiny,
-            (false, number) if number % 128 == 5 => Size::Medium,
-            (false, _) => Size::Small,
+        match (self.series, self.number) {
+            (Series::Large, number) if number % 400 == 1 => Size::Full,
+            (Series::Large, number) if number % 3 == 0 => Size::Medium,
+            (Series::Large, _) => Size::Large,
+            (_, number) if number % 16 == 0 => Size::Tiny,
+            (_, number) if number % 128 == 5 => Size::Medium,
+            _ => Size::Small,
         }
     }
 
     fn stream(self) -> u64 {
-        self.number << 1 | u64::from(self.large)
+        self.number << 1 | u64::from(self.series == Series::Large)
     }
 }
 
@@ -88,12 +110,50 @@ impl Trial<'_> {
                 self.differ(&text);
             }
         }
+        if let Some(Err(refusal)) = written_by(&verdict).map(|written| written.checked) {
+            self.differ(&format!("the reference's check refuses the plan it made: {refusal:?}"));
+        }
         verdict
     }
+
+    /// What wish 1 says of the plan made, if there is one; all ways are listed only if the town is `tiny`.
+    fn judge_made_plan(&mut self, verdict: &Verdict, tiny: bool) {
+        if let (Ok(network), Some(written)) = (&verdict.opened, written_by(verdict)) {
+            let by_ways = if tiny { judge_flags_by_ways(network, &written.plan) } else { None };
+            for text in by_ways.into_iter().chain(judge_made_plan(network, &written.plan)) {
+                self.differ(&text);
+            }
+        }
+    }
+
+    /// All trips under the input's plan.
+    fn compare_all_trips(&mut self, input: &Input, verdict: &Verdict) {
+        for text in compare_all_trips(input, verdict) {
+            self.differ(&text);
+        }
+    }
+
+    /// All trips under the plan made: they are the plain ones, and the library's are the reference's.
+    fn judge_trips(&mut self, input: &Input, verdict: &Verdict) {
+        let (Ok(network), Some(written)) = (&verdict.opened, written_by(verdict)) else { return };
+        if let Some(text) = trips_are_plain(network, &written.plan) {
+            self.differ(&text);
+        }
+        let input = Input { plan: written.file.clone(), ..input.clone() };
+        let verdict = self.compare(&input, false);
+        self.compare_all_trips(&input, &verdict);
+    }
+}
+
+fn written_by(verdict: &Verdict) -> Option<&Written> {
+    verdict.made.as_ref()?.written.as_ref()
 }
 
 impl Runner {
     pub fn run(&mut self, name: CaseName) {
+        if name.series == Series::Towns {
+            return self.run_town(name);
+        }
         let mut rng = Rng::new(self.seed, name.stream());
         let case = generate(&mut rng, name.size());
         let town = case.network.nodes() * case.network.header.period as usize;
@@ -164,6 +224,9 @@ impl Runner {
                 trial.differ(&text);
             }
         }
+        if oracles {
+            trial.judge_made_plan(&verdict, name.size() == Size::Tiny);
+        }
         for operation in 0..OPERATIONS.len() {
             self.coverage.alone(operation, verdict.refusal(operation));
         }
@@ -173,9 +236,8 @@ impl Runner {
     fn all_trips(&mut self, name: CaseName, case: &Case, valid: &Verdict) {
         let input = case.input(&case.drafts);
         let mut trial = self.trial(name, "all trips".to_string());
-        for text in compare_all_trips(&input, valid) {
-            trial.differ(&text);
-        }
+        trial.compare_all_trips(&input, valid);
+        trial.judge_trips(&input, valid);
     }
 
     fn single(&mut self, name: CaseName, case: &Case, kind: usize, fault: &Fault, oracles: bool) -> (Input, Verdict) {

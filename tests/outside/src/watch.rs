@@ -1,14 +1,16 @@
 //! Names the case when a call does not come back: a signal that ends the program, a panic, or a call that does
 //! not end. Without it none of them would say which seed and case to repeat.
 
+use crate::runner::{CaseName, Series};
 use std::cell::Cell;
+use std::io::Write;
 use std::sync::atomic::{AtomicU64, Ordering};
 use std::time::Duration;
 
 pub const MOST_THREADS: usize = 64;
 
 static SEED: AtomicU64 = AtomicU64::new(0);
-/// What each thread is at: 0 for nothing, else the case's number times two, plus one for a large case, plus one.
+/// What each thread is at: 0 for nothing, else a case as `number_of` tells it.
 static CASES: [AtomicU64; MOST_THREADS] = [const { AtomicU64::new(0) }; MOST_THREADS];
 
 thread_local! {
@@ -39,9 +41,19 @@ pub fn start(seed: u64) {
     std::thread::spawn(watch);
 }
 
+/// A case as one number that is not 0; `name_of` is the way back.
+fn number_of(name: CaseName) -> u64 {
+    1 + name.number * Series::ALL.len() as u64 + name.series as u64
+}
+
+fn name_of(case: u64) -> CaseName {
+    let series = Series::ALL.len() as u64;
+    CaseName { series: Series::ALL[((case - 1) % series) as usize], number: (case - 1) / series }
+}
+
 /// A thread turns to a case.
-pub fn case(thread: usize, large: bool, number: u64) {
-    let case = (number << 1 | u64::from(large)) + 1;
+pub fn case(thread: usize, name: CaseName) {
+    let case = number_of(name);
     HERE.set(case);
     CASES[thread].store(case, Ordering::Relaxed);
 }
@@ -52,14 +64,14 @@ pub fn rest(thread: usize) {
     CASES[thread].store(0, Ordering::Relaxed);
 }
 
+/// Also where nobody reads any more: a panic in here would be reported without end.
 fn report(case: u64, what: &str) {
     let seed = SEED.load(Ordering::Relaxed);
-    if case == 0 {
-        println!("DIFFERENCE --seed {seed}, outside of the cases: {what}");
-        return;
-    }
-    let series = if (case - 1) & 1 == 1 { 'l' } else { 's' };
-    println!("DIFFERENCE --seed {seed} --only {series}{}: {what}", (case - 1) >> 1);
+    let place = match case {
+        0 => ", outside of the cases".to_string(),
+        _ => format!(" --only {}", name_of(case)),
+    };
+    let _ = writeln!(std::io::stdout(), "DIFFERENCE --seed {seed}{place}: {what}");
 }
 
 extern "C" fn ended(number: i32) {

@@ -1,4 +1,4 @@
-//! Faults in a call's numbers and in the lengths of lent lists: refusals 25 to 31 and pack's 4.
+//! Faults in a call's numbers and in the lengths of lent lists: refusals 25 to 31 and 34, and pack's 4.
 
 use super::Intended::{Any, Gives};
 use super::{call, Fault, Kind};
@@ -27,6 +27,10 @@ pub fn kinds() -> Vec<Kind> {
         Kind { name: "check's answer too short", intended: Gives(CHECK, &[31]), make: check_answer_short },
         Kind { name: "open's answer too short", intended: Gives(OPEN, &[31]), make: open_answer_short },
         Kind { name: "pack's answer too short", intended: Gives(PACK, &[31]), make: pack_answer_short },
+        Kind { name: "work list too short", intended: Gives(MAKE, &[34]), make: work_short },
+        Kind { name: "planner's out-bytes too short", intended: Gives(MAKE, &[31]), make: make_out_short },
+        Kind { name: "planner's lists just enough", intended: Gives(MAKE, &[0]), make: make_just_enough },
+        Kind { name: "planner's answer too short", intended: Gives(MAKE, &[31]), make: make_answer_short },
     ]
 }
 
@@ -174,4 +178,24 @@ fn open_answer_short(rng: &mut Rng, _case: &Case) -> Option<Fault> {
 fn pack_answer_short(rng: &mut Rng, _case: &Case) -> Option<Fault> {
     let length = rng.below(PACK_ANSWER);
     call(move |input| input.lengths.pack_answer = length)
+}
+
+fn work_short(rng: &mut Rng, case: &Case) -> Option<Fault> {
+    let length = too_few(rng, case.make_needs.work);
+    call(move |input| input.lengths.make.work = length)
+}
+
+fn make_out_short(rng: &mut Rng, case: &Case) -> Option<Fault> {
+    let length = too_few(rng, case.make_needs.out);
+    call(move |input| input.lengths.make.out = length)
+}
+
+fn make_just_enough(_rng: &mut Rng, case: &Case) -> Option<Fault> {
+    let needs = case.make_needs;
+    call(move |input| input.lengths.make = needs)
+}
+
+fn make_answer_short(rng: &mut Rng, _case: &Case) -> Option<Fault> {
+    let length = rng.below(MAKE_ANSWER);
+    call(move |input| input.lengths.make_answer = length)
 }

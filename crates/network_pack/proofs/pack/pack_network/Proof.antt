@@ -16,8 +16,8 @@ pack-within-requires c κs = (search inside-within, search inside-number)
 enum-told : tie.Need-enum-told
 enum-told c = search needs
 
-refused-requires : tie.Need-refused-requires
-refused-requires c κs = search needs
+unwritten-requires : tie.Need-unwritten-requires
+unwritten-requires c κs = search needs
 
 same-length : tie.Need-same-length
 same-length c = search needs
@@ -36,7 +36,7 @@ pack-network-spec =
     enum-known-h
     pack-within-requires
     enum-told
-    refused-requires
+    unwritten-requires
     same-length
     returns
     returns-2)

@@ -9,8 +9,8 @@ use Rattle.network_pack.proofs.pack.pack_within.Tie as tie
 is-short-requires : tie.Need-is-short-requires
 is-short-requires c κs = search needs
 
-refused-requires : tie.Need-refused-requires
-refused-requires c κs = search needs
+unwritten-requires : tie.Need-unwritten-requires
+unwritten-requires c κs = search needs
 
 returns : tie.Need-returns
 returns c = search tables-short
@@ -41,7 +41,7 @@ pack-within-spec =
     tie.close
     (tie.spec
     is-short-requires
-    refused-requires
+    unwritten-requires
     returns
     layout-requires
     pack-tables-requires

@@ -1,11 +1,11 @@
 -- `network_pack::pack::write_out` meets its contract.
-use Rattle.network_pack.specs.Pack.{into-short, into-whole}
+use Rattle.file_refusals.specs.Writing.{into-short, into-whole}
 use borrow.Author.Needs.{needs}
 use Rattle.network_pack.proofs.pack.write_out.Statement.{statement}
 use Rattle.network_pack.proofs.pack.write_out.Tie as tie
 
-refused-requires : tie.Need-refused-requires
-refused-requires c κs = search needs
+unwritten-requires : tie.Need-unwritten-requires
+unwritten-requires c κs = search needs
 
 returns : tie.Need-returns
 returns c = search into-short
@@ -24,4 +24,4 @@ returns-2 c = search into-whole
 
 pub write-out-spec : {M : Type 1} → statement M
 write-out-spec =
-    tie.close (tie.spec refused-requires returns copy-requires cast-t9 same-length returns-2)
+    tie.close (tie.spec unwritten-requires returns copy-requires cast-t9 same-length returns-2)

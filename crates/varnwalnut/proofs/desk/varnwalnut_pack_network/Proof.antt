@@ -11,8 +11,8 @@ returns c = pack-short _ _ _ _ _ (c .if1 .taken) refl
 pack-network-requires : tie.Need-pack-network-requires
 pack-network-requires c κs = search needs
 
-write-packing-requires : tie.Need-write-packing-requires
-write-packing-requires c κs = search needs
+write-writing-requires : tie.Need-write-writing-requires
+write-writing-requires c κs = search needs
 
 same-length : tie.Need-same-length
 same-length c = search needs
@@ -29,7 +29,7 @@ varnwalnut-pack-network-spec =
     (tie.spec
     returns
     pack-network-requires
-    write-packing-requires
+    write-writing-requires
     same-length
     same-length-2
     returns-2)

@@ -76,15 +76,15 @@ module _ (cells : ℕ) (G : Partition) where
   period = G .graph .period
 
   -- ITS ENTRIES
-  made-count : (k : ℕ) → k < madeProfiles G → pointCount made k ≡ madeCount G k
+  pub made-count : (k : ℕ) → k < madeProfiles G → pointCount made k ≡ madeCount G k
   unfolding planOf
   made-count k l = getD-tab (madeProfiles G) (madeCount G) k l
 
-  start-is : (k : ℕ) → k ≤ madeProfiles G → pointStart made k ≡ total k (madeCount G)
+  pub start-is : (k : ℕ) → k ≤ madeProfiles G → pointStart made k ≡ total k (madeCount G)
   unfolding pointStart
   start-is k l = total-same (pointCount made) (madeCount G) k (λ i m. made-count i (omega arith))
 
-  part-is : (f : ℕ → ℕ → ℕ) (k : ℕ) → partStart (λ i. tab (madeCount G i) (f i)) k ≡ total k (madeCount G)
+  pub part-is : (f : ℕ → ℕ → ℕ) (k : ℕ) → partStart (λ i. tab (madeCount G i) (f i)) k ≡ total k (madeCount G)
   part-is f k =
       total-same (λ i. length (tab (madeCount G i) (f i))) (madeCount G) k
       (λ i m. length-tab (madeCount G i) (f i))
@@ -98,32 +98,32 @@ module _ (cells : ℕ) (G : Partition) where
       (rw (length-tab (madeCount G k) (f k)) m)
       ∙ getD-tab (madeCount G k) (f k) i m)
 
-  made-tick : (k i : ℕ) → k < madeProfiles G → i < madeCount G k
+  pub made-tick : (k i : ℕ) → k < madeProfiles G → i < madeCount G k
       → pointTicks made k i ≡ turnTick (madeTravel G k) period i
   unfolding entryAt planOf
   made-tick k i l m = part-at (λ j. turnTick (madeTravel G j) period) k i l m
 
-  made-travel : (k i : ℕ) → k < madeProfiles G → i < madeCount G k
+  pub made-travel : (k i : ℕ) → k < madeProfiles G → i < madeCount G k
       → pointTravels made k i ≡ turnValue (madeTravel G k) period i
   unfolding entryAt planOf
   made-travel k i l m = part-at (λ j. turnValue (madeTravel G j) period) k i l m
 
-  made-word : (a : ℕ) → a < G .graph .arcs → flagWord made a ≡ wordOf cells (madeFlag G a)
+  pub made-word : (a : ℕ) → a < G .graph .arcs → flagWord made a ≡ wordOf cells (madeFlag G a)
   unfolding planOf
   made-word a l = getD-tab (G .graph .arcs) (λ a. wordOf cells (madeFlag G a)) a l
 
-  made-total : pointTotal made ≡ total (madeProfiles G) (madeCount G)
+  pub made-total : pointTotal made ≡ total (madeProfiles G) (madeCount G)
   unfolding planOf
   made-total =
       joined-length (madeTicks G) (madeProfiles G)
       ∙ part-is (λ j. turnTick (madeTravel G j) period) (madeProfiles G)
 
   -- a profile has no points, or those at which its travels turn
-  count-none : (k : ℕ) → madeTravel G k 0 ≡ never → madeCount G k ≡ 0
+  pub count-none : (k : ℕ) → madeTravel G k 0 ≡ never → madeCount G k ≡ 0
   unfolding madeCount
   count-none k e = rw (eq-eqb (madeTravel G k 0) never e)
 
-  count-some : (k : ℕ) → madeTravel G k 0 ≢ never → madeCount G k ≡ turnCount (madeTravel G k) period
+  pub count-some : (k : ℕ) → madeTravel G k 0 ≢ never → madeCount G k ≡ turnCount (madeTravel G k) period
   unfolding madeCount
   count-some k e = rw (ne-eqb (madeTravel G k 0) never e)
 
@@ -184,11 +184,11 @@ module _ (cells : ℕ) (G : Partition) where
     made-value = elim (ℕ-discrete (madeTravel G k 0) never) [ yes e ↦ made-never e | no e ↦ made-ticks e ]
 
 -- profile number i × nodes + u is that of border number i and node u
-number-border : (nodes i u : ℕ) → u < nodes → (i * nodes + u) / nodes ≡ i
+pub number-border : (nodes i u : ℕ) → u < nodes → (i * nodes + u) / nodes ≡ i
 number-border nodes i u h =
     mul-add-div-right (omega arith) i u ∙ (ap (λ (k : ℕ). i + k) (div-eq-of-lt h) ∙ add-zero i)
 
-number-node : (nodes i u : ℕ) → u < nodes → (i * nodes + u) % nodes ≡ u
+pub number-node : (nodes i u : ℕ) → u < nodes → (i * nodes + u) % nodes ≡ u
 number-node nodes i u h = mul-add-mod-self-right i nodes u ∙ mod-eq-of-lt h
 
 module _ (cells : ℕ) (G : Partition) (m : Modest (G .graph)) where
@@ -206,7 +206,7 @@ module _ (cells : ℕ) (G : Partition) (m : Modest (G .graph)) where
       (λ i l. least-exactly m (borderAt G i) .1 (λ u x h k. made-profile i u x l h k))
 
   -- FLAGS
-  made-borders : Borders (G .graph) (G .cell) (borderCount G) (borderAt G)
+  pub made-borders : Borders (G .graph) (G .cell) (borderCount G) (borderAt G)
   made-borders = record {
     is = λ i l. border-exactly G (borderAt G i) .0 (at-border G i l);
     number = λ b r.

@@ -1,5 +1,5 @@
 -- The plan that is made of a network is accepted: every file that is formed as a plan file for the network
--- and decodes to it (`made-accepted`).
+-- and decodes to it (`made-accepted`), and so its own (`file-accepted`).
 use mathlib.Core.Path.{_≡_}
 use mathlib.Core.List.{List}
 use Prim.Native.Nat.{ℕ, _≤_}
@@ -12,12 +12,15 @@ use Rattle.network.specs.Decode.{decode}
 use Rattle.network.specs.Valid.{ValidFile}
 use Rattle.network.specs.Town.{graphOf, partitionOf, town-lawful, town-bounded}
 use Rattle.plan.specs.declared.header.PlanHeader.{PlanHeader}
-use Rattle.plan.specs.PlanDecode.{decodePlan}
+use Rattle.plan.specs.PlanDecode.{decodePlan, pointTotal}
 use Rattle.plan.specs.PlanMatch.{valid-headed}
 use Rattle.plan.specs.PlanValid.{ValidPlan}
 use Rattle.plan_check.specs.declared.answer.Checking.the-variants.{Accepted}
 use Rattle.plan_check.specs.CheckPlan.{checking, accepts-exactly}
-use Rattle.plan_make.specs.Made.{planOf, made-true, made-enough}
+use Rattle.file_fields.specs.Fields.{Bytes}
+use Rattle.plan.specs.PlanLimits.{mostProfilePoints}
+use Rattle.plan_made.specs.Made.{planOf, made-true, made-enough}
+use Rattle.plan_made.specs.File.{madePlan, madeFile, made-decodes, made-valid}
 
 -- what the theory of least travels asks of a graph holds of every network that opens
 pub valid-modest : {network : List ℕ} {h : Header} → ValidFile network h → Modest (graphOf (decode network))
@@ -43,3 +46,11 @@ made-accepted {network} v w e =
     let m = valid-modest v in
     accepts-exactly v w .1
     (rw e (made-true (n .cells) G m), rw e (made-enough (n .cells) G m (v .sound .cells-below)))
+
+-- the file that is made
+pub file-accepted : {network : List ℕ} {h : Header} → ValidFile network h → Bytes network
+    → pointTotal (madePlan (decode network)) ≤ mostProfilePoints
+    → checking network (madeFile (decode network)) ≡ Accepted
+file-accepted v b few =
+    let m = valid-modest v in
+    made-accepted v (made-valid v m b few) (made-decodes v m b few)

@@ -1,9 +1,9 @@
--- `c_replies::numbers::write_packing` meets its contract.
+-- `c_replies::numbers::write_writing` meets its contract.
 use Rattle.c_replies.specs.Writing.{case-number, case-numbers}
-use Rattle.network_pack.specs.Answer.{packingSays}
+use Rattle.file_refusals.specs.Writing.{writingSays}
 use borrow.Author.Needs.{needs}
-use Rattle.c_replies.proofs.numbers.write_packing.Statement.{statement}
-use Rattle.c_replies.proofs.numbers.write_packing.Tie as tie
+use Rattle.c_replies.proofs.numbers.write_writing.Statement.{statement}
+use Rattle.c_replies.proofs.numbers.write_writing.Tie as tie
 
 enum-known-packing : tie.Need-enum-known-packing
 enum-known-packing c = search needs
@@ -27,16 +27,16 @@ same-length : tie.Need-same-length
 same-length c = search needs
 
 returns : tie.Need-returns
-returns c = (search (case-number packingSays), search (case-numbers packingSays))
+returns c = (search (case-number writingSays), search (case-numbers writingSays))
 
 same-length-2 : tie.Need-same-length-2
 same-length-2 c = search needs
 
 returns-2 : tie.Need-returns-2
-returns-2 c = (search (case-number packingSays), search (case-numbers packingSays))
+returns-2 c = (search (case-number writingSays), search (case-numbers writingSays))
 
-pub write-packing-spec : {M : Type 1} → statement M
-write-packing-spec =
+pub write-writing-spec : {M : Type 1} → statement M
+write-writing-spec =
     tie.close
     (tie.spec
     enum-known-packing

@@ -1,0 +1,106 @@
+-- `plan_flags::flag_border` meets its contract: the arcs passed have their words with the border counted.
+use mathlib.Core.Path.{_≡_, refl, _∙_}
+use Prim.Native.Nat.{_-_, _≤_}
+use native.Mathlib.Omega.{arith}
+use lib.ListN.{length}
+use Rattle.theory_loops.specs.Fill.{Filled, fill-none, fill-up, fill-end}
+use Rattle.network.specs.Network.{cell}
+use Rattle.network.specs.Decode.{decode}
+use Rattle.plan_flags.specs.Words.{wordAfter, cell-below, cell-few, word-next, flags-more}
+use Rattle.plan_flags.specs.Bounds.{Bounds}
+use borrow.Author.Needs.{needs}
+use Rattle.plan_flags.proofs.flag_border.Statement.{statement}
+use Rattle.plan_flags.proofs.flag_border.Tie as tie
+
+abbrev Inv-loop : tie.InvT-loop
+Inv-loop file l starts least b work words₀ c near room a₀ a-end words a =
+    (a ≤ a-end)
+    × (a-end ≡ l .arcs)
+    × (a-end ≤ length words₀)
+    × (c ≡ cell (decode file) b)
+    × Bounds l (l .nodes) work near room
+    × Filled 0 a (wordAfter (decode file) b words₀) words₀ words
+
+abbrev μ-loop : tie.MeasureT-loop
+μ-loop file l starts least b work words₀ c near room a₀ a-end words a = a-end - a
+
+cell-requires : tie.Need-cell-requires Inv-loop μ-loop
+cell-requires c κs = search needs
+
+bound-rows-requires : tie.Need-bound-rows-requires Inv-loop μ-loop
+bound-rows-requires c κs = search needs
+
+loop-holds : tie.Need-loop-holds Inv-loop μ-loop
+loop-holds c = (
+  search needs,
+  search needs,
+  search needs,
+  c .before .before .before .cell .ensures .0,
+  c .bound-rows .ensures,
+  fill-none _ _ _,
+)
+
+mul-flag-arc : tie.Need-mul-flag-arc Inv-loop μ-loop
+mul-flag-arc c = search needs
+
+element-copy-out-flag-arc : tie.Need-element-copy-out-flag-arc Inv-loop μ-loop
+element-copy-out-flag-arc c = search needs
+
+flag-arc-requires : tie.Need-flag-arc-requires Inv-loop μ-loop
+flag-arc-requires c κs =
+    let s = c .before .before .before .before .before .before .before .before .before .before .before in
+    let i = c .before .before .before .before .loop .inv in
+    let h = s .pre .1 .0 in (
+      s .pre .0,
+      ((omega arith, h .0, cell-few (s .pre .0 .0 .town) (h .0) (i .3), h .1), (s .pre .1 .1, i .4)),
+    )
+
+mul-words : tie.Need-mul-words Inv-loop μ-loop
+mul-words c = search needs
+
+element-write-words : tie.Need-element-write-words Inv-loop μ-loop
+element-write-words c = search needs
+
+add-a : tie.Need-add-a Inv-loop μ-loop
+add-a c = search needs
+
+loop-less : tie.Need-loop-less Inv-loop μ-loop
+loop-less c = search needs
+
+loop-again : tie.Need-loop-again Inv-loop μ-loop
+loop-again c = let i = c .before .before .before .before .before .loop .inv in (
+  search needs,
+  i .1,
+  i .2,
+  i .3,
+  i .4,
+  fill-up _ _ _ _ _ _ (i .5) (omega arith) (omega arith)
+      (word-next _ _ _ _ _ _ _ (i .5) (i .3) (c .flag-arc .ensures)),
+)
+
+returns : tie.Need-returns Inv-loop μ-loop
+returns c =
+    let s = c .before .before .before .before .before .before .before .before in
+    let i = c .before .loop .inv in
+    let t = s .pre .0 .0 .town in
+    flags-more _ _ _ _ _ (i .1 ∙ t .sizes .arcs) (cell-below t (s .pre .1 .0 .0) refl)
+    (fill-end _ _ _ _ _ _ (i .5) (i .0) (c .loop-test .left))
+
+pub flag-border-spec : {M : Type 1} → statement M
+flag-border-spec =
+    tie.close
+    (tie.spec
+    Inv-loop
+    μ-loop
+    cell-requires
+    bound-rows-requires
+    loop-holds
+    mul-flag-arc
+    element-copy-out-flag-arc
+    flag-arc-requires
+    mul-words
+    element-write-words
+    add-a
+    loop-less
+    loop-again
+    returns)

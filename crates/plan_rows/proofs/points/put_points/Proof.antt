@@ -1,0 +1,106 @@
+use mathlib.Core.Path.{_≡_, refl}
+use Prim.Native.Nat.{_+_, _-_, _≤_}
+use native.Mathlib.Omega.{arith}
+use denote.Ref.{now}
+use lib.ListN.{length}
+use Rattle.plan_rows.specs.Points.{all-room, first-room, first-put, put-join, put-end, room-kept}
+use Rattle.plan_rows.specs.Points.{part-room}
+use borrow.Author.Needs.{needs}
+use Rattle.plan_rows.proofs.points.put_points.Statement.{statement}
+use Rattle.plan_rows.proofs.points.put_points.Tie as tie
+
+shared-slice-read-put-point : tie.Need-shared-slice-read-put-point
+shared-slice-read-put-point c = search needs
+
+put-point-requires : tie.Need-put-point-requires
+put-point-requires c κs =
+    let s = c .before .before .before .before in
+    (s .pre .0 .1, first-room (s .args .k) (now (s .args .row)) (s .args .q) (s .pre .0 .0 .some) (s .pre .1))
+
+sub-last : tie.Need-sub-last
+sub-last c = search needs
+
+add-result : tie.Need-add-result
+add-result c = search needs
+
+same-length : tie.Need-same-length
+same-length c = search needs
+
+returns : tie.Need-returns
+returns c =
+    let s = c .before .before .before .before .before .before .before .before in
+    let row = now (s .args .row) in
+    put-end
+    (first-put (s .args .k) row (s .args .q) (s .pre .0 .0 .some) (s .pre .1) refl (omega arith)
+    (c .before .before .before .put-point .ensures)) (omega (arith, s .pre .0 .0 .some)) (omega arith)
+
+add-put-parts : tie.Need-add-put-parts
+add-put-parts c = search needs
+
+put-parts-requires : tie.Need-put-parts-requires
+put-parts-requires c κs =
+    let s = c .before .before .before .before .before .before .before .before .before in
+    let row = now (s .args .row) in
+    let first = first-put (s .args .k) row (s .args .q) (s .pre .0 .0 .some) (s .pre .1) refl (omega arith)
+    (c .before .before .before .before .put-point .ensures) in
+    let last : 1 ≤ length row - 1 = omega arith in
+    let below : length row - 1 ≤ length row = omega arith in (
+      (s .pre .0 .0, room-kept (s .pre .0 .1) first),
+      (
+        last,
+        omega (arith, s .pre .0 .0 .some),
+        part-room (length row - 1) (length row) first (omega arith) last below
+            (all-room (s .args .k) row (s .args .q) (s .pre .0 .0 .some) (s .pre .1)),
+      ),
+    )
+
+put-last-requires : tie.Need-put-last-requires
+put-last-requires c κs =
+    let s = c .before .before .before .before .before .before .before .before .before .before .before .before
+    .before in
+    let row = now (s .args .row) in
+    let first = first-put (s .args .k) row (s .args .q) (s .pre .0 .0 .some) (s .pre .1) refl (omega arith)
+    (c .before .before .before .before .before .before .before .before .put-point .ensures) in
+    let parts = put-join first (c .before .before .before .put-parts .ensures) in
+    let e : length row - 1 + 1 ≡ length row = omega (arith, s .pre .0 .0 .some) in
+    let up : length row - 1 ≤ length row - 1 + 1 = omega arith in
+    let to : length row - 1 + 1 ≤ length row = omega arith in (
+      (s .pre .0 .0, room-kept (s .pre .0 .1) parts),
+      (
+        omega arith,
+        e,
+        part-room (length row - 1 + 1) (length row) parts (omega arith) up to
+            (all-room (s .args .k) row (s .args .q) (s .pre .0 .0 .some) (s .pre .1)),
+      ),
+    )
+
+same-length-2 : tie.Need-same-length-2
+same-length-2 c = search needs
+
+returns-2 : tie.Need-returns-2
+returns-2 c =
+    let s = c .before .before .before .before .before .before .before .before .before .before .before .before
+    .before .before .before .before in
+    let row = now (s .args .row) in
+    let first = first-put (s .args .k) row (s .args .q) (s .pre .0 .0 .some) (s .pre .1) refl (omega arith)
+    (c .before .before .before .before .before .before .before .before .before .before .before .put-point
+    .ensures) in
+    let parts = put-join first (c .before .before .before .before .before .before .put-parts .ensures) in
+    put-end (put-join parts (c .before .before .put-last .ensures)) (omega (arith, s .pre .0 .0 .some))
+    (omega (arith, s .pre .0 .0 .some))
+
+pub put-points-spec : {M : Type 1} → statement M
+put-points-spec =
+    tie.close
+    (tie.spec
+    shared-slice-read-put-point
+    put-point-requires
+    sub-last
+    add-result
+    same-length
+    returns
+    add-put-parts
+    put-parts-requires
+    put-last-requires
+    same-length-2
+    returns-2)
