@@ -7,30 +7,54 @@ use Prim.Native.Nat.{ℕ, zero, suc, _+_, _≤_, _<_}
 use native.Mathlib.Nat.{le-trans}
 use native.Mathlib.Decide.{decLt}
 use native.Mathlib.Omega.{arith}
-use lib.ListN.{length, getD, set, replicate, length-set, length-replicate, List·getD-eq-default}
+use lib.ListN.{
+  length,
+  getD,
+  set,
+  replicate,
+  length-set,
+  length-replicate,
+  getD-replicate,
+  List·getD-eq-default,
+}
 use lib.Seq.{getD-set-same, getD-set-other}
 use Rattle.theory_loops.specs.Fill.{Filled}
 use Rattle.theory_paths.specs.Graph.{Graph, Permit}
 use Rattle.theory_paths.specs.Drive.{path-takes}
 use Rattle.theory_paths.specs.Earliest.{never, Exact}
 use Rattle.theory_paths.specs.Labels.{label, label-at}
+use Rattle.theory_paths.specs.Hops.{Known, Counted}
+use Rattle.theory_paths.specs.Chosen.{arcInto}
 use Rattle.network.specs.Limits.{mostNodes}
 use Rattle.network.specs.declared.header.Layout.{Layout}
 use Rattle.network.specs.Decode.{decode}
 use Rattle.network.specs.Town.{graphOf}
 use Rattle.search_labels.specs.Walk.{Spread}
+use Rattle.search_labels.specs.Notes.{hopsIn, arcIn}
+use Rattle.search_labels.specs.Tally.{
+  Tallied,
+  tally-start,
+  tally-counted,
+  tally-arc,
+  tally-few,
+  tally-settle,
+}
 use Rattle.search_labels.specs.Settle.{Search, Nearest, start, settle, nearest-exact}
-use Rattle.search_labels.specs.Frontier.{Held, Frontier, unknown}
+use Rattle.search_labels.specs.Frontier.{Held, Frontier, unknown, known-in}
 use Rattle.search_labels.specs.Nearest.{Picked}
 use Rattle.search_arcs.specs.Town.{Town, lastTick}
 use Rattle.search_labels.specs.Ready.{Ready, Leaving, Early, leaving}
 
--- The labels are exact up to the target's.
-pub record Reached (g : Graph) (p : Permit) (s t : ℕ) (L : List ℕ) : Type 0 where
+-- The labels L are exact up to the target's, the notes K have the hops of these nodes, and the arcs by which
+-- the chosen path comes to them.
+pub record Reached (g : Graph) (p : Permit) (s t : ℕ) (L K : List ℕ) : Type 0 where
   pub size : length L ≡ g .nodes
   pub capped : (v : ℕ) → label L v ≤ never
   pub early : Early L
   pub exact : Exact g p s (label L s) (label L) (label L t)
+  pub long : length K ≡ mostNodes
+  pub counted : Counted g p s L (hopsIn K) (label L t)
+  pub arcs : (v : ℕ) → v ≢ s → Known g L (label L t) v → arcIn K v ≡ arcInto g p L (hopsIn K) v
 
 -- Before the search: the source alone has a label.
 pub record Started (nodes s x : ℕ) (L : List ℕ) : Type 0 where
@@ -39,9 +63,11 @@ pub record Started (nodes s x : ℕ) (L : List ℕ) : Type 0 where
   pub others : (v : ℕ) → v ≢ s → label L v ≡ never
 
 -- In the loop.
-pub record Searching (g : Graph) (p : Permit) (s x : ℕ) (L F : List ℕ) (n : ℕ) : Type 0 where
+pub record Searching (g : Graph) (p : Permit) (s x : ℕ) (L K F : List ℕ) (n : ℕ) : Type 0 where
   pub left : Leaving g s x
   pub kept : Search g (left .most) p s x L (Held F n)
+  pub tallied : Tallied g p s L K (Held F n)
+  pub long : length K ≡ mostNodes
   pub front : Frontier L F n
 
 pub started : (nodes s x : ℕ) (old new : List ℕ) → length old ≡ nodes → s < nodes
@@ -84,10 +110,11 @@ module _ {g : Graph} {s x : ℕ} (d : Leaving g s x) where
       known : label L s < never
       known = omega (arith, a .source, small)
 
-pub search-start : {file L : List ℕ} {l : Layout} {p : Permit} {s x : ℕ} → Town file l → s < l .nodes
+pub search-start : {file L K : List ℕ} {l : Layout} {p : Permit} {s x : ℕ} → Town file l → s < l .nodes
     → x < l .period
-    → Started (l .nodes) s x L → Searching (graphOf (decode file)) p s x L (set (replicate mostNodes 0) 0 s) 1
-search-start t h k a =
+    → Started (l .nodes) s x L → K ≡ replicate mostNodes 0
+    → Searching (graphOf (decode file)) p s x L K (set (replicate mostNodes 0) 0 s) 1
+search-start {s = s} t h k a e =
     let d = leaving t h k in
     let b = rw (t .sizes .nodes) at a in
     record {
@@ -95,12 +122,18 @@ search-start t h k a =
       kept =
           start (d .ok) (d .bounded) (d .node) (small d) (b .size) (b .source) (b .others)
           (record { place = 0; inside = omega arith; is = refl });
+      tallied = tally-start (b .others) (record {
+        place = 0;
+        inside = omega arith;
+        is = refl;
+      }) (rw e (getD-replicate {A = ℕ} mostNodes s 0 0 (omega (arith, d .node, d .few))));
+      long = rw e (length-replicate {A = ℕ} mostNodes 0);
       front = one-entry d b;
     }
 
 module _ {g : Graph} {p : Permit} {s x : ℕ} where
-  module _ {L F : List ℕ} {n : ℕ} (c : Searching g p s x L F n) where
-    reached : (t : ℕ) → Nearest L (Held F n) t → Reached g p s t L
+  module _ {L K F : List ℕ} {n : ℕ} (c : Searching g p s x L K F n) where
+    reached : (t : ℕ) → Nearest L (Held F n) t → Reached g p s t L K
     reached t m =
         let d = c .left in
         let e = nearest-exact (d .ok) (d .bounded) (d .node) (small d) (c .kept) t m in
@@ -109,6 +142,9 @@ module _ {g : Graph} {p : Permit} {s x : ℕ} where
           capped = c .kept .capped;
           early = record { upto = λ v l. le-trans (c .kept .early v l) (d .early) };
           exact = rw (e .source) e;
+          long = c .long;
+          counted = tally-counted (d .ok) (d .few-arcs) (c .tallied) t m;
+          arcs = tally-arc (d .ok) (d .few-arcs) (c .tallied) t m;
         }
 
     -- the source keeps its label
@@ -119,12 +155,12 @@ module _ {g : Graph} {p : Permit} {s x : ℕ} where
         omega (arith, c .kept .source, path-takes (d .ok) x (r .leads), r .at)
 
     -- the frontier has run dry
-    pub search-dry : (t : ℕ) → n ≤ 0 → Reached g p s t L
+    pub search-dry : (t : ℕ) → n ≤ 0 → Reached g p s t L K
     search-dry t h = reached t (λ v w. absurd (omega (arith, w .inside)))
 
     module _ {i : ℕ} (k : Picked L F n i) where
       -- the target is the nearest
-      pub search-stop : {t u : ℕ} → u ≡ getD F i 0 → u ≡ t → Reached g p s t L
+      pub search-stop : {t u : ℕ} → u ≡ getD F i 0 → u ≡ t → Reached g p s t L K
       search-stop {t} e q = reached t (λ v w. rw (← q, e) (k .nearest v w))
 
       known : label L (getD F i 0) < never
@@ -133,16 +169,36 @@ module _ {g : Graph} {p : Permit} {s x : ℕ} where
       pub turn-early : label L (getD F i 0) ≤ lastTick
       turn-early = le-trans (c .kept .early (getD F i 0) known) (c .left .early)
 
-      pub turn : {M G : List ℕ} {m : ℕ} → Spread g p (getD F i 0) L M F G n m → Searching g p s x M G m
+      -- one hop more than the nearest node has is a small number
+      pub turn-few : hopsIn K (getD F i 0) < mostNodes
+      turn-few =
+          let d = c .left in
+          let l = known-in L (getD F i 0) known in
+          let o = tally-few (d .ok) (d .few-arcs) (c .tallied) (getD F i 0) (k .nearest)
+          (omega (arith, c .kept .size)) known in
+          omega (arith, d .few)
+
+      pub turn : {M J G : List ℕ} {m : ℕ} → Spread g p (getD F i 0) L M K J F G n m
+          → Searching g p s x M J G m
       turn w =
           let d = c .left in
           let o : Held F n (getD F i 0) = record { place = i; inside = k .within; is = refl } in
           let s = settle (d .ok) (d .bounded) (d .node) (small d) (c .kept) o known (k .nearest) in
-          record { left = d; kept = s (w .relaxed) (w .moved); front = w .front }
+          record {
+            left = d;
+            kept = s (w .relaxed) (w .moved);
+            tallied =
+                tally-settle (d .ok) (d .few-arcs) (d .bounded) (d .node) (small d) (c .kept) o known
+                (k .nearest)
+                (w .relaxed) (w .moved) (c .tallied) (w .noted);
+            long = w .noted .size ∙ c .long;
+            front = w .front;
+          }
 
 -- the labels are as many as the nodes, and as they were
-module _ {file mask starts L F : List ℕ} {l : Layout} {p : Permit} {s x n : ℕ} (w : Ready file l mask starts)
-    (c : Searching (graphOf (decode file)) p s x L F n) where
+module _ {file mask starts L K F : List ℕ} {l : Layout} {p : Permit} {s x n : ℕ}
+    (w : Ready file l mask starts)
+    (c : Searching (graphOf (decode file)) p s x L K F n) where
   pub search-size : length L ≡ l .nodes
   search-size = c .kept .size ∙ sym (w .town .sizes .nodes)
 
@@ -150,5 +206,14 @@ module _ {file mask starts L F : List ℕ} {l : Layout} {p : Permit} {s x n : �
   search-same a = search-size ∙ sym (a .size)
 
 -- for `search turns` at the needs of the loop
-pub ruleset turns =
-    (search-start, search-source, search-dry, search-stop, search-size, search-same, turn-early, turn)
+pub ruleset turns = (
+  search-start,
+  search-source,
+  search-dry,
+  search-stop,
+  search-size,
+  search-same,
+  turn-early,
+  turn-few,
+  turn,
+)

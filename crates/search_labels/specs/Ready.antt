@@ -13,7 +13,7 @@ use Rattle.theory_paths.specs.Graph.{Graph, Lawful, Bounded, Permit}
 use Rattle.theory_paths.specs.Earliest.{never}
 use Rattle.theory_paths.specs.Labels.{label, label-at}
 use Rattle.network.specs.declared.header.Layout.{Layout}
-use Rattle.network.specs.Limits.{mostPeriod, mostNodes}
+use Rattle.network.specs.Limits.{mostPeriod, mostNodes, mostArcs}
 use Rattle.network.specs.Network.{start}
 use Rattle.network.specs.Decode.{decode}
 use Rattle.network.specs.Town.{graphOf, town-bounded}
@@ -34,13 +34,14 @@ pub record Ready (file : List ℕ) (l : Layout) (mask starts : List ℕ) : Type 
 pub record Early (L : List ℕ) : Type 0 where
   pub upto : (v : ℕ) → label L v < never → label L v ≤ lastTick
 
--- s is left at tick x, in a lawful graph with few nodes, and early enough for its longest travel that no
--- label is late.
+-- s is left at tick x, in a lawful graph with few nodes and arcs, and early enough for its longest travel
+-- that no label is late.
 pub record Leaving (g : Graph) (s x : ℕ) : Type 0 where
   pub ok : Lawful g
   pub most : ℕ
   pub bounded : Bounded g most
   pub few : g .nodes ≤ mostNodes
+  pub few-arcs : g .arcs ≤ mostArcs
   pub node : s < g .nodes
   pub early : latest g most x ≤ lastTick
 
@@ -55,6 +56,7 @@ leaving {file} t h k = record {
   most = decode file .period;
   bounded = town-bounded (t .sound);
   few = omega (arith, t .sizes .nodes, t .small .nodes-most);
+  few-arcs = omega (arith, t .sizes .arcs, t .small .arcs-most);
   node = omega (arith, t .sizes .nodes);
   early =
       let n : graphOf (decode file) .nodes ≤ mostNodes =

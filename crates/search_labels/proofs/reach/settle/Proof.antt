@@ -15,11 +15,14 @@ use Rattle.search_labels.proofs.reach.settle.Statement.{statement}
 use Rattle.search_labels.proofs.reach.settle.Tie as tie
 
 abbrev Inv-loop : tie.InvT-loop
-Inv-loop file l mask starts first next i labels₀ frontier₀ size u last tick held₀ a₀ labels frontier held a =
-    Walking file l mask starts first next u tick a labels₀ labels frontier₀ frontier last held
+Inv-loop file l mask starts first next i labels₀ notes₀ frontier₀ size u last tick base held₀ a₀ labels notes
+    frontier held a =
+    Walking file l mask starts first next u tick base a labels₀ labels notes₀ notes frontier₀ frontier last
+    held
 
 abbrev μ-loop : tie.MeasureT-loop
-μ-loop file l mask starts first next i labels₀ frontier₀ size u last tick held₀ a₀ labels frontier held a =
+μ-loop file l mask starts first next i labels₀ notes₀ frontier₀ size u last tick base held₀ a₀ labels notes
+    frontier held a =
     l .arcs - a
 
 mul-wide : tie.Need-mul-wide Inv-loop μ-loop
@@ -52,6 +55,15 @@ mul-tick c = search needs
 slice-read-tick : tie.Need-slice-read-tick Inv-loop μ-loop
 slice-read-tick c = search entry-in
 
+mul-longer : tie.Need-mul-longer Inv-loop μ-loop
+mul-longer c = search needs
+
+element-copy-out-longer : tie.Need-element-copy-out-longer Inv-loop μ-loop
+element-copy-out-longer c = search walks
+
+longer-requires : tie.Need-longer-requires Inv-loop μ-loop
+longer-requires c κs = search walks
+
 mul-wide-2 : tie.Need-mul-wide-2 Inv-loop μ-loop
 mul-wide-2 c = search needs
 
@@ -62,18 +74,10 @@ wide-requires-2 : tie.Need-wide-requires-2 Inv-loop μ-loop
 wide-requires-2 c κs = search needs
 
 loop-holds : tie.Need-loop-holds Inv-loop μ-loop
-loop-holds c =
-    let u = c .before .before .before .before in
-    let s = u .before .before .before .before .before .pre in
-    let f = s .1 .1 in
-    walking-start (s .0) (f .1) (f .0 .1) (f .0 .0) (u .wide .ensures .0) _ (s .1 .0) (f .0 .2)
-    (c .wide2 .ensures .0)
+loop-holds c = search walks
 
 relax-requires : tie.Need-relax-requires Inv-loop μ-loop
-relax-requires c κs =
-    let a = c .before .before in
-    let k = a .before .before .loop .inv in
-    (k .ready, ((a .if1 .taken, k .early, k .size), k .front))
+relax-requires c κs = (search needs, (search needs, search needs))
 
 mul-wide-3 : tie.Need-mul-wide-3 Inv-loop μ-loop
 mul-wide-3 c = search walks
@@ -85,25 +89,16 @@ wide-requires-3 : tie.Need-wide-requires-3 Inv-loop μ-loop
 wide-requires-3 c κs = search needs
 
 loop-less : tie.Need-loop-less Inv-loop μ-loop
-loop-less c =
-    let t = c .before .before .before .before .before .before .before in
-    walking-less (t .before .before .loop .inv) (t .if1 .taken) _ (c .wide3 .ensures .0)
+loop-less c = search walks
 
 loop-again : tie.Need-loop-again Inv-loop μ-loop
-loop-again c =
-    let r = c .before .before .before .before in
-    let t = r .before .before .before in
-    walking-next (t .before .before .loop .inv) (t .if1 .taken) _ (c .wide3 .ensures .0) (r .relax .ensures)
+loop-again c = search walks
 
 same-length : tie.Need-same-length Inv-loop μ-loop
 same-length c = c .before .before .loop .inv .walked .done .size
 
 returns : tie.Need-returns Inv-loop μ-loop
-returns c =
-    let k = c .before .before in
-    let u = k .before .before .before .before .before in
-    let f = u .before .before .before .before .before .pre .1 .1 in
-    walking-end (f .1) (f .0 .0) (u .wide .ensures .0) (k .loop .inv) (c .if1 .left)
+returns c = search walks
 
 pub settle-spec : {M : Type 1} → statement M
 settle-spec =
@@ -121,6 +116,9 @@ settle-spec =
     element-write-frontier
     mul-tick
     slice-read-tick
+    mul-longer
+    element-copy-out-longer
+    longer-requires
     mul-wide-2
     element-copy-out-wide-2
     wide-requires-2

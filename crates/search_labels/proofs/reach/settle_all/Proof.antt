@@ -13,11 +13,12 @@ use Rattle.search_labels.proofs.reach.settle_all.Statement.{statement}
 use Rattle.search_labels.proofs.reach.settle_all.Tie as tie
 
 abbrev Inv-loop : tie.InvT-loop
-Inv-loop file l mask starts first next q labels₀ frontier₀ size₀ labels frontier size =
-    Searching (graphOf (decode file)) (permitOf mask) (q .source) (q .departure) labels frontier size
+Inv-loop file l mask starts first next q labels₀ notes₀ frontier₀ size₀ labels notes frontier size =
+    Searching (graphOf (decode file)) (permitOf mask) (q .source) (q .departure) labels notes frontier size
 
 abbrev μ-loop : tie.MeasureT-loop
-μ-loop file l mask starts first next q labels₀ frontier₀ size₀ labels frontier size = size + unknown labels
+μ-loop file l mask starts first next q labels₀ notes₀ frontier₀ size₀ labels notes frontier size =
+    size + unknown labels
 
 cast-frontier : tie.Need-cast-frontier Inv-loop μ-loop
 cast-frontier c = search needs
@@ -50,8 +51,16 @@ returns : tie.Need-returns Inv-loop μ-loop
 returns c = (search turns, search turns)
 
 settle-requires : tie.Need-settle-requires Inv-loop μ-loop
-settle-requires c κs =
-    (search needs, (search needs, ((search needs, search turns, search turns), search needs)))
+settle-requires c κs = (
+  search needs,
+  (
+    search needs,
+    (
+      (search needs, search turns, search turns),
+      ((search turns, search needs), search needs),
+    ),
+  ),
+)
 
 loop-less : tie.Need-loop-less Inv-loop μ-loop
 loop-less c = c .before .before .settle .ensures .sum
