@@ -14,7 +14,8 @@ use Rattle.theory_paths.specs.Graph.{Graph, Permit, IsPath, driven, Reachable, 
 use Rattle.theory_paths.specs.Drive.{arrival-reach}
 use Rattle.theory_paths.specs.Earliest.{never, earliest-unique, exact-bound, exact-never}
 use Rattle.theory_paths.specs.Labels.{label, labels}
-use Rattle.theory_paths.specs.Chosen.{Known, chosen-path, chosen-empty}
+use Rattle.theory_paths.specs.Hops.{Known}
+use Rattle.theory_paths.specs.Chosen.{chosen-path, chosen-empty}
 use Rattle.file_refusals.specs.Refusal.{refusal}
 use Rattle.search_labels.specs.Ready.{Leaving}
 use Rattle.search_arcs.specs.Town.{lastTick}

@@ -1,14 +1,13 @@
--- The chosen path (document 02's chosen way): back from the target, at each node by the lowest arc that is
--- tight and comes from a node with one hop less. From exact labels it is a permitted path that, driven from x,
--- ends at the target's label (`chosen-path`); it reaches each of its nodes at its earliest arrival
--- (`chosen-tight`), with the fewest arcs of all paths that do (`chosen-fewest`), and by the lowest at each step
--- back (`chosen-lowest`). It is empty exactly where source and target are the same (`chosen-empty`).
+-- The chosen path: back from the target, at each node by the lowest arc that is tight and comes from a node
+-- with one hop less. From exact labels it is the way of document 02 (`IsChosen`, `chosen-is`), of which there
+-- is one (`chosen-unique`); driven from x it ends at the target's label, with fewer arcs than there are nodes
+-- (`chosen-path`), and it is empty exactly where source and target are the same (`chosen-empty`).
 use mathlib.Core.Path.{_≡_, refl, sym, _∙_, ap}
 use mathlib.Core.Logic.{_≢_, _⊎_, inl, inr, _↔_}
 use mathlib.Core.Bool.{Bool, true, false, cond, _&&_, and-eq-true-iff, true≢false}
-use mathlib.Core.List.{List, [], _∷_, _++_}
+use mathlib.Core.List.{List, [], _∷_, _++_, append-assoc, append-nil}
 use Prim.Native.Nat.{ℕ, zero, suc, _+_, _-_, _≤_, _<_}
-use native.Mathlib.Nat.{le-refl, eq-or-lt-of-le}
+use native.Mathlib.Nat.{le-refl, le-antisymm, eq-or-lt-of-le}
 use native.Mathlib.Decide.{decLt}
 use native.Mathlib.Omega.{arith}
 use lib.Dec.{eqb}
@@ -89,6 +88,16 @@ EachLowest g p L H (a ∷ w) = ((b : ℕ) → b < a → explains g p L H (g .hea
 -- The path comes by arc a to its end w.
 abbrev pub EndsWith : ℕ → List ℕ → List ℕ → Type 0
 EndsWith a w path = (v : List ℕ) × (path ≡ v ++ a ∷ w)
+
+-- The way of document 02 from s to t, leaving at tick x: a permitted path that reaches each of its nodes at
+-- its earliest arrival; with the fewest arcs of all that do; and of these, back from the target, by the
+-- lowest arc: none that ends alike comes to that end by a lower one.
+pub record IsChosen (g : Graph) (p : Permit) (s x t : ℕ) (path : List ℕ) : Type 0 where
+  pub leads : IsPath g p s t path
+  pub tight : TightPath g p s x s x path
+  pub fewest : (w : List ℕ) → IsPath g p s t w → TightPath g p s x s x w → length path ≤ length w
+  pub lowest : (w : List ℕ) → IsPath g p s t w → TightPath g p s x s x w → length w ≡ length path
+      → (a b : ℕ) (end : List ℕ) → EndsWith a end path → EndsWith b end w → a ≤ b
 
 -- the lowest passes, if any does, and none below it does
 pub lowest-passes : (test : ℕ → Bool) (k i a : ℕ) → i ≤ a → a < i + k → test a ≡ true
@@ -331,18 +340,11 @@ module _ {g : Graph} (ok : Lawful g) {p : Permit} {s x : ℕ} (L : List ℕ) {B 
   )
   each-tight (step f i) r = let (z, j) = each-tight i (r .1) in each-step f (r .0) z j
 
-  pub chosen-tight : TightPath g p s x s x (chosen g p s L t)
-  chosen-tight = rw (e .source) at (tight-each (chosen-few .leads))
-
-  pub chosen-fewest : (w : List ℕ) → IsPath g p s t w → TightPath g p s x s x w
-      → length (chosen g p s L t) ≤ length w
-  chosen-fewest w i r = omega (arith, chosen-few .count, chosen-few .least w (each-tight i r .1))
-
-  -- of the paths that do with as few arcs and end alike, none comes to that end by a lower arc
-  pub chosen-lowest : (w : List ℕ) (a b : ℕ) (v : List ℕ) → EndsWith a w (chosen g p s L t) → EndsWith b w v
-      → IsPath g p s t v → TightPath g p s x s x v → length v ≡ length (chosen g p s L t) → a ≤ b
+  chosen-lowest : (v : List ℕ) → IsPath g p s t v → TightPath g p s x s x v
+      → length v ≡ length (chosen g p s L t)
+      → (a b : ℕ) (w : List ℕ) → EndsWith a w (chosen g p s L t) → EndsWith b w v → a ≤ b
   unfolding chosen
-  chosen-lowest w a b v (v₁, q) (v₂, z) i r l =
+  chosen-lowest v i r l a b w (v₁, q) (v₂, z) =
       let H = label (hops g p s L) in
       let j = path-split v₁ (rw q at (chosen-few .leads)) in
       let o = path-split v₂ (rw z at (each-tight i r .1)) in
@@ -350,9 +352,47 @@ module _ {g : Graph} (ok : Lawful g) {p : Permit} {s x : ℕ} (L : List ℕ) {B 
       ∙ chosen-few .count in
       let d : Last g p L H (g .head a) b = rw (same-head (j .2) (o .2))
       (last-of ok L H chosen-counted k (o .1) (o .2) n) in
+      let m = each-at g p L H v₁ a w (rw q at (traced-lowest ok L H chosen-counted k)) in
       elim (decLt b a) [
-        | yes m ↦ absurd
-            (true≢false (sym (explaining g p L H (g .head a) b d)
-            ∙ each-at g p L H v₁ a w (rw q at (traced-lowest ok L H chosen-counted k)) b m))
-        | no m ↦ omega arith
+        | yes c ↦ absurd (true≢false (sym (explaining g p L H (g .head a) b d) ∙ m b c))
+        | no c ↦ omega arith
       ]
+
+  pub chosen-is : IsChosen g p s x t (chosen g p s L t)
+  chosen-is = record {
+    leads = chosen-path .leads;
+    tight = rw (e .source) at (tight-each (chosen-few .leads));
+    fewest = λ w i r. omega (arith, chosen-few .count, chosen-few .least w (each-tight i r .1));
+    lowest = chosen-lowest;
+  }
+
+-- there is one such path
+last-off : (v : List ℕ) (k : ℕ) → length v ≡ suc k
+    → (a : ℕ) × (w : List ℕ) × (v ≡ w ++ a ∷ []) × (length w ≡ k)
+last-off [] k l = absurd (omega arith)
+last-off (a ∷ []) k l = (a, [], refl, omega arith)
+last-off (a ∷ b ∷ v) zero l = absurd (omega arith)
+last-off (a ∷ b ∷ v) (suc k) l = let (c, w, e, q) =
+    last-off (b ∷ v) k (omega arith) in (c, a ∷ w, ap (λ y. a ∷ y) e, omega arith)
+
+pub chosen-unique : {g : Graph} {p : Permit} {s x t : ℕ} {v w : List ℕ} → IsChosen g p s x t v
+    → IsChosen g p s x t w → v ≡ w
+chosen-unique {v = v} {w = w} c d = go (length v) v w [] refl (sym same) (sym (append-nil v))
+    (sym (append-nil w))
+  where
+    same : length v ≡ length w
+    same = le-antisymm (c .fewest w (d .leads) (d .tight)) (d .fewest v (c .leads) (c .tight))
+
+    go : (k : ℕ) (v₁ w₁ end : List ℕ) → length v₁ ≡ k → length w₁ ≡ k → v ≡ v₁ ++ end → w ≡ w₁ ++ end → v ≡ w
+    go zero [] [] end l m q z = q ∙ sym z
+    go zero (a ∷ v₁) w₁ end l m q z = absurd (omega arith)
+    go zero [] (b ∷ w₁) end l m q z = absurd (omega arith)
+    go (suc k) v₁ w₁ end l m q z =
+        let (a, v₂, e, i) = last-off v₁ k l in
+        let (b, w₂, f, j) = last-off w₁ k m in
+        let y : v ≡ v₂ ++ a ∷ end = q ∙ ap (λ n. n ++ end) e ∙ append-assoc v₂ (a ∷ []) end in
+        let o : w ≡ w₂ ++ b ∷ end = z ∙ ap (λ n. n ++ end) f ∙ append-assoc w₂ (b ∷ []) end in
+        let h = c .lowest w (d .leads) (d .tight) (sym same) a b end (v₂, y) (w₂, o) in
+        let n = d .lowest v (c .leads) (c .tight) same b a end (w₂, o) (v₂, y) in
+        let r : b ≡ a = le-antisymm n h in
+        go k v₂ w₂ (a ∷ end) i j y (o ∙ ap (λ u. w₂ ++ u ∷ end) r)
