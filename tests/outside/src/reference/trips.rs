@@ -1,4 +1,4 @@
-//! Both trips of document 01: refusals 25 to 29, least arrivals, and the chosen way.
+//! Both trips of document 01: refusals 25 to 29, least arrivals, and the chosen way, by document 02's wish 2.
 
 use super::network::Network;
 use super::plan::Plan;
@@ -113,15 +113,24 @@ fn shown_arrivals(labels: &[Option<u64>], to: usize, arrival: u64) -> Vec<u32> {
         .collect()
 }
 
-/// "back from the target to the source, take the lowest-numbered permitted road that, taken at its start's
-/// least arrival over permitted roads, ends exactly at this place's."
+/// "fewest roads first, over permitted ways that reach each of their places at its least arrival, then the lowest
+/// number at each step back": back from the target, the lowest permitted road that ends exactly at this place's least
+/// arrival, out of a place with one road less.
 fn chosen_way(network: &Network, permitted: &[bool], labels: &[Option<u64>], from: usize, to: usize) -> Vec<u16> {
+    let tight: Vec<bool> = (0..network.arcs.len())
+        .map(|arc| {
+            let end = ends_at(network, labels, arc);
+            permitted[arc] && end.is_some() && end == labels[network.arcs[arc].to]
+        })
+        .collect();
+    let counts = fewest_roads(network, &tight, from);
     let mut roads = Vec::new();
     let mut node = to;
     while node != from {
         let arc = (0..network.arcs.len())
             .find(|&arc| {
-                permitted[arc] && network.arcs[arc].to == node && ends_at(network, labels, arc) == labels[node]
+                let tail = network.arcs[arc].from;
+                tight[arc] && network.arcs[arc].to == node && counts[tail].map(|count| count + 1) == counts[node]
             })
             .expect("a least arrival is some arc's end");
         roads.push(arc as u16);
@@ -129,6 +138,20 @@ fn chosen_way(network: &Network, permitted: &[bool], labels: &[Option<u64>], fro
     }
     roads.reverse();
     roads
+}
+
+/// The fewest of these arcs that lead from a place to each, a layer at a time.
+fn fewest_roads(network: &Network, usable: &[bool], from: usize) -> Vec<Option<usize>> {
+    let mut counts = vec![None; network.nodes()];
+    counts[from] = Some(0);
+    for layer in 0..network.nodes() {
+        for (number, arc) in network.arcs.iter().enumerate() {
+            if usable[number] && counts[arc.from] == Some(layer) && counts[arc.to].is_none() {
+                counts[arc.to] = Some(layer + 1);
+            }
+        }
+    }
+    counts
 }
 
 fn ends_at(network: &Network, labels: &[Option<u64>], arc: usize) -> Option<u64> {
