@@ -43,14 +43,13 @@ use Rattle.search_labels.specs.Settle.{Search, Nearest, start, settle, n
 use Rattle.search_labels.specs.Frontier.{Held, Frontier, unknown, known-in}
 use Rattle.search_labels.specs.Nearest.{Picked}
 use Rattle.search_arcs.specs.Town.{Town, lastTick}
-use Rattle.search_labels.specs.Ready.{Ready, Leaving, Early, leaving}
+use Rattle.search_labels.specs.Ready.{Ready, Leaving, leaving}
 
 -- The labels L are exact up to the target's, the notes K have the hops of these nodes, and the arcs by which
 -- the chosen path comes to them.
 pub record Reached (g : Graph) (p : Permit) (s t : ℕ) (L K : List ℕ) : Type 0 where
   pub size : length L ≡ g .nodes
   pub capped : (v : ℕ) → label L v ≤ never
-  pub early : Early L
   pub exact : Exact g p s (label L s) (label L) (label L t)
   pub long : length K ≡ mostNodes
   pub counted : Counted g p s L (hopsIn K) (label L t)
@@ -140,7 +139,6 @@ module _ {g : Graph} {p : Permit} {s x : ℕ} where
         record {
           size = c .kept .size;
           capped = c .kept .capped;
-          early = record { upto = λ v l. le-trans (c .kept .early v l) (d .early) };
           exact = rw (e .source) e;
           long = c .long;
           counted = tally-counted (d .ok) (d .few-arcs) (c .tallied) t m;

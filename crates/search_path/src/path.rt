@@ -1,6 +1,6 @@
-// The chosen path, from the notes that a search left: back from the target, from each node by the arc of its note
-// to that arc's tail. The target's note counts the arcs, so they are written from the last to the first, and the
-// list holds the path from its start.
+// The chosen path, from the notes that a search left: back from the target, from each node by the arc of its
+// note to that arc's tail. The target's note counts the arcs, so they are written from the last to the first,
+// and the list holds the path from its start.
 use network::header::Layout;
 use network::limits::MOST_NODES;
 use network::read;
@@ -28,7 +28,8 @@ fn write(
     requires { ⌜ Town (now file) l ⌝ }
     requires { ⌜ Trail (graphOf (decode (now file))) (now notes) target ⌝ }
     requires { ⌜ (count ≡ hopsIn (now notes) target) × (count ≤ length (now roads)) ⌝ }
-    ensures { λ _. ⌜ Filled 0 count (roadTo (graphOf (decode (now (file .entry)))) (now (notes .entry)) target)
+    ensures { λ _. ⌜ Filled 0 count
+        (roadTo (graphOf (decode (now (file .entry)))) (now (notes .entry)) target)
         (now (roads .entry)) (now (roads .exit)) ⌝ }
 {
     let mut v = target;

@@ -1,5 +1,5 @@
--- `search_path::search_nodes` meets its contract: what is told by the labels and notes that the search left is
--- told by the true labels.
+-- `search_path::search_nodes` meets its contract: what is told by the labels and notes that the search left
+-- is told by the true labels.
 use Rattle.search_path.specs.Answering.{tellable, answered}
 use Rattle.search_labels.specs.Ready.{ready-of}
 use borrow.Author.Needs.{needs}
