@@ -15,8 +15,9 @@ use Rattle.network.specs.Limits.{mostPeriod, mostNodes, mostArcs}
 use Rattle.network.specs.Network.{start}
 use Rattle.network.specs.Decode.{decode}
 use Rattle.network.specs.Town.{graphOf, town-bounded}
-use Rattle.search_arcs.specs.Town.{Town, lastTick, lawful, tail-node, head-node}
+use Rattle.search_arcs.specs.Town.{Town, lawful, tail-node, head-node}
 use Rattle.search_labels.specs.Settle.{latest}
+use Rattle.search_labels.specs.Frontier.{lastLabel}
 
 -- Arc a is permitted: its entry in the mask is 1.
 abbrev pub permitOf : List ℕ → Permit
@@ -37,7 +38,7 @@ pub record Leaving (g : Graph) (s x : ℕ) : Type 0 where
   pub few : g .nodes ≤ mostNodes
   pub few-arcs : g .arcs ≤ mostArcs
   pub node : s < g .nodes
-  pub early : latest g most x ≤ lastTick
+  pub early : latest g most x ≤ lastLabel
 
 pub ready-of : {file : List ℕ} {l : Layout} {mask old starts : List ℕ} → Town file l → l .arcs ≤ length mask
     → Filled 0 (l .arcs) (start (decode file)) old starts → Ready file l mask starts

@@ -15,16 +15,15 @@ use search_arcs::times;
 use search_arcs::wide;
 ghost use mathlib.Core.Path.{_≡_};
 ghost use Prim.Native.Nat.{_≤_, _<_};
-ghost use lib.ListN.{length, getD, replicate};
+ghost use lib.ListN.{length, replicate};
 ghost use Rattle.theory_paths.specs.Labels.{label};
 ghost use Rattle.network.specs.Limits.{mostNodes};
 ghost use Rattle.network.specs.Network.{tail};
 ghost use Rattle.network.specs.Decode.{decode};
 ghost use Rattle.network.specs.Town.{graphOf};
 ghost use Rattle.search_labels.specs.Ready.{Ready, permitOf};
-ghost use Rattle.search_arcs.specs.Town.{lastTick};
 ghost use Rattle.search_arcs.specs.Chain.{Chained};
-ghost use Rattle.search_labels.specs.Frontier.{Frontier};
+ghost use Rattle.search_labels.specs.Frontier.{lastLabel, Held, Frontier, Open};
 ghost use Rattle.search_labels.specs.Notes.{hopsIn, mostNote};
 ghost use Rattle.search_labels.specs.Walk.{Stepped, Spread};
 ghost use Rattle.search_labels.specs.Reach.{Started, Reached};
@@ -41,16 +40,18 @@ fn relax(
     base: u32,
     labels: &mut [u32],
     notes: &mut [u32; MOST_NODES],
-    frontier: &mut [u16; MOST_NODES],
+    keys: &mut [u32; MOST_NODES],
+    places: &mut [u16; MOST_NODES],
     size: usize,
 ) -> usize
     requires { ⌜ Ready (now file) l (now mask) (now starts) ⌝ }
-    requires { ⌜ (arc < l .arcs) × (tick ≤ lastTick) × (base ≤ mostNote) ×
+    requires { ⌜ (arc < l .arcs) × (tick ≤ lastLabel) × (base ≤ mostNote) ×
         (length (now labels) ≡ l .nodes) ⌝ }
-    requires { ⌜ Frontier (now labels) (now frontier) size ⌝ }
+    requires { ⌜ Frontier (now labels) (now keys) (now places) size ×
+        Open (now labels) (now keys) size tick ⌝ }
     ensures { λ r. ⌜ Stepped (graphOf (decode (now (file .entry)))) (permitOf (now (mask .entry))) tick base
         arc (now (labels .entry)) (now (labels .exit)) (now (notes .entry)) (now (notes .exit))
-        (now (frontier .entry)) (now (frontier .exit)) size r ⌝ }
+        (now (keys .entry)) (now (keys .exit)) (now (places .exit)) size r ⌝ }
 {
     if mask[arc] != 1 {
         return size;
@@ -76,14 +77,16 @@ fn relax(
     labels[v] = end;
     notes[v] = note;
     if old < NEVER {
+        let at = wide(places[v]);
+        frontier::put(keys, places, at, v, end);
         return size;
     }
-    frontier[size] = v as u16;
+    frontier::put(keys, places, size, v, end);
     size + 1
 }
 
-// Takes entry i, a nearest node, out of the frontier, and relaxes the permitted arcs out of it, taken at its
-// label. Answers the frontier's size.
+// Takes a nearest node out of the frontier, and relaxes the permitted arcs out of it, taken at its label.
+// Answers the frontier's size.
 fn settle(
     file: &[u8],
     l: Layout,
@@ -91,29 +94,27 @@ fn settle(
     starts: &[u16; MOST_ARCS],
     first: &[u16; MOST_NODES],
     next: &[u16; MOST_ARCS],
-    i: usize,
+    u: usize,
     labels: &mut [u32],
     notes: &mut [u32; MOST_NODES],
-    frontier: &mut [u16; MOST_NODES],
+    keys: &mut [u32; MOST_NODES],
+    places: &mut [u16; MOST_NODES],
     size: usize,
 ) -> usize
     requires { ⌜ Ready (now file) l (now mask) (now starts) ⌝ }
     requires { ⌜ Chained (tail (decode (now file))) (l .nodes) (l .arcs) 0 (now first) (now next) ⌝ }
-    requires { ⌜ (i < size) × (length (now labels) ≡ l .nodes) ×
-        (label (now labels) (getD (now frontier) i 0) ≤ lastTick) ⌝ }
-    requires { ⌜ (hopsIn (now notes) (getD (now frontier) i 0) < mostNodes) ×
-        (length (now notes) ≡ mostNodes) ⌝ }
-    requires { ⌜ Frontier (now labels) (now frontier) size ⌝ }
-    ensures { λ r. ⌜ Spread (graphOf (decode (now (file .entry)))) (permitOf (now (mask .entry)))
-        (getD (now (frontier .entry)) i 0) (now (labels .entry)) (now (labels .exit))
-        (now (notes .entry)) (now (notes .exit)) (now (frontier .entry)) (now (frontier .exit)) size r ⌝ }
+    requires { ⌜ (length (now labels) ≡ l .nodes) × (label (now labels) u ≤ lastLabel) ⌝ }
+    requires { ⌜ (hopsIn (now notes) u < mostNodes) × (length (now notes) ≡ mostNodes) ⌝ }
+    requires { ⌜ Frontier (now labels) (now keys) (now places) size × Held (now keys) size u ×
+        Open (now labels) (now keys) size (label (now labels) u) ⌝ }
+    ensures { λ r. ⌜ Spread (graphOf (decode (now (file .entry)))) (permitOf (now (mask .entry))) u
+        (now (labels .entry)) (now (labels .exit)) (now (notes .entry)) (now (notes .exit))
+        (now (keys .entry)) (now (keys .exit)) (now (places .exit)) size r ⌝ }
 {
-    let u = wide(frontier[i]);
-    let last = size - 1;
-    frontier[i] = frontier[last];
+    frontier::take(keys, places, u, size);
     let tick = labels[u];
     let base = notes::longer(notes[u]);
-    let mut held = last;
+    let mut held = size - 1;
     let mut a = wide(first[u]);
     while a < l.arcs {
         held = relax(
@@ -126,7 +127,8 @@ fn settle(
             base,
             labels,
             notes,
-            frontier,
+            keys,
+            places,
             held,
         );
         a = wide(next[a]);
@@ -167,12 +169,13 @@ fn settle_all(
         (permitOf (now (mask .entry))) (q .source) (q .target) (now (labels .exit)) (now (notes .exit)) ×
         (label (now (labels .exit)) (q .source) ≡ q .departure) ⌝ }
 {
-    let mut frontier = [0u16; MOST_NODES];
-    frontier[0] = q.source as u16;
+    let mut keys = [0u32; MOST_NODES];
+    let mut places = [0u16; MOST_NODES];
+    frontier::put(&mut keys, &mut places, 0, q.source as usize, q.departure);
     let mut size = 1;
     while 0 < size {
-        let i = frontier::nearest(labels, &frontier, size);
-        if wide(frontier[i]) == q.target as usize {
+        let u = frontier::node(frontier::nearest(&keys, size));
+        if u == q.target as usize {
             return;
         }
         size = settle(
@@ -182,10 +185,11 @@ fn settle_all(
             starts,
             first,
             next,
-            i,
+            u,
             labels,
             notes,
-            &mut frontier,
+            &mut keys,
+            &mut places,
             size,
         );
     }

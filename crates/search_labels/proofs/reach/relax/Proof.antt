@@ -2,10 +2,17 @@
 -- of `notesAt`, and of what becomes of the frontier.
 use native.Mathlib.Nat.{le-of-lt}
 use Rattle.search_labels.specs.Ready.{ready-reads}
-use Rattle.search_labels.specs.Frontier.{pushes}
+use Rattle.search_labels.specs.Frontier.{front-new, pushes}
 use Rattle.search_labels.specs.Relax.{relax-less, relax-same, relax-late, relax-not}
 use Rattle.search_labels.specs.Notes.{note-less, note-fewer, note-same, note-late, note-not}
-use Rattle.search_labels.specs.Walk.{arc-place, node-place, note-fits, notes-before}
+use Rattle.search_labels.specs.Walk.{
+  arc-place,
+  node-place,
+  note-fits,
+  tick-early,
+  end-small,
+  notes-before,
+}
 use borrow.Author.Tests.{eq-eqb, ne-eqb}
 use borrow.Author.Needs.{needs}
 use Rattle.search_labels.proofs.reach.relax.Statement.{statement}
@@ -40,7 +47,7 @@ returns-2 c = record {
 }
 
 ends-at-requires : tie.Need-ends-at-requires
-ends-at-requires c κs = (search needs, (search needs, search ready-reads))
+ends-at-requires c κs = (search needs, ((search needs, search tick-early), search ready-reads))
 
 returns-3 : tie.Need-returns-3
 returns-3 c = record {
@@ -96,6 +103,19 @@ mul-notes-2 c = search needs
 element-write-notes-2 : tie.Need-element-write-notes-2
 element-write-notes-2 c = search (node-place, ready-reads)
 
+mul-wide : tie.Need-mul-wide
+mul-wide c = search needs
+
+element-copy-out-wide : tie.Need-element-copy-out-wide
+element-copy-out-wide c = search (node-place, ready-reads)
+
+wide-requires : tie.Need-wide-requires
+wide-requires c κs = search needs
+
+put-requires : tie.Need-put-requires
+put-requires c κs =
+    (search (pushes, ready-reads), search (node-place, ready-reads), search (end-small, eq-eqb))
+
 same-length : tie.Need-same-length
 same-length c = search needs
 
@@ -107,14 +127,9 @@ returns-6 c = record {
   front = search (pushes, ready-reads);
 }
 
-cast-frontier : tie.Need-cast-frontier
-cast-frontier c = search needs
-
-mul-frontier : tie.Need-mul-frontier
-mul-frontier c = search needs
-
-element-write-frontier : tie.Need-element-write-frontier
-element-write-frontier c = search (pushes, ready-reads)
+put-requires-2 : tie.Need-put-requires-2
+put-requires-2 c κs =
+    (search (pushes, ready-reads), search (node-place, ready-reads), search (end-small, eq-eqb))
 
 add-result : tie.Need-add-result
 add-result c = search needs
@@ -127,7 +142,7 @@ returns-7 c = record {
   labels = search (relax-less, eq-eqb, ready-reads);
   notes = search (note-less, eq-eqb, ready-reads);
   grown = search (pushes, ready-reads);
-  front = search (pushes, ready-reads);
+  front = search (front-new, ready-reads);
 }
 
 pub relax-spec : {M : Type 1} → statement M
@@ -154,11 +169,13 @@ relax-spec =
     slice-write-labels
     mul-notes-2
     element-write-notes-2
+    mul-wide
+    element-copy-out-wide
+    wide-requires
+    put-requires
     same-length
     returns-6
-    cast-frontier
-    mul-frontier
-    element-write-frontier
+    put-requires-2
     add-result
     same-length-2
     returns-7)
