@@ -5,7 +5,7 @@
 use mathlib.Core.Path.{_≡_, refl, sym, _∙_, ap}
 use mathlib.Core.Logic.{_≢_, _⊎_, inl, inr, ⊎-elim}
 use mathlib.Core.List.{List, [], _∷_}
-use Prim.Native.Nat.{ℕ, zero, suc, _+_, _-_, _*_, _/_, _%_, _^_, _≤_, _<_}
+use Prim.Native.Nat.{ℕ, zero, suc, _+_, _-_, _*_, _%_, _^_, _≤_, _<_}
 use native.Mathlib.Nat.{le-refl, le-trans}
 use native.Mathlib.Decide.{ℕ-discrete, decLt}
 use native.Mathlib.Omega.{arith}
@@ -16,15 +16,12 @@ use Rattle.theory_paths.specs.Labels.{label, label-at}
 use Rattle.network.specs.Limits.{mostNodes}
 use Rattle.search_labels.specs.Settle.{Moved}
 
--- A key, its node, and its label.
+-- A key, and its node.
 abbrev pub keyOf : ℕ → ℕ → ℕ
 keyOf e v = e * mostNodes + v
 
 abbrev pub nodeOf : ℕ → ℕ
 nodeOf key = key % mostNodes
-
-abbrev pub labelOf : ℕ → ℕ
-labelOf key = key / mostNodes
 
 -- No label of a search is higher, and no arc that is taken then ends later: round numbers, above all that
 -- nodes and periods within the limits come to, and their keys are below 32 bits.
@@ -73,12 +70,8 @@ pub record Grown (L M Q R : List ℕ) (n m : ℕ) : Type 0 where
   pub no-more : (v : ℕ) → Held R m v → Held Q n v ⊎ (never ≤ label L v)
   pub sum : m + unknown M ≡ n + unknown L
 
--- keys
 pub key-node : (e v : ℕ) → v < mostNodes → nodeOf (keyOf e v) ≡ v
 key-node e v l = omega arith
-
-key-whole : (x : ℕ) → keyOf (labelOf x) (nodeOf x) ≡ x
-key-whole x = omega arith
 
 -- a node with a label has a place among the labels
 pub known-in : (L : List ℕ) (v : ℕ) → label L v < never → v < length L

@@ -15,7 +15,7 @@ use Rattle.network.specs.Limits.{mostPeriod, mostNodes, mostArcs}
 use Rattle.network.specs.Network.{start}
 use Rattle.network.specs.Decode.{decode}
 use Rattle.network.specs.Town.{graphOf, town-bounded}
-use Rattle.search_arcs.specs.Town.{Town, lawful, tail-node, head-node}
+use Rattle.search_arcs.specs.Town.{Town, lawful, head-node}
 use Rattle.search_labels.specs.Settle.{latest}
 use Rattle.search_labels.specs.Frontier.{lastLabel}
 
@@ -70,4 +70,4 @@ pub node-label : (l : Layout) (L : List ℕ) (v : ℕ) → length L ≡ l .nodes
 node-label l L v e h = omega arith
 
 -- for `search (ready-reads, needs)` where code has read the file
-pub ruleset ready-reads = (tail-node, head-node, first-read, node-label)
+pub ruleset ready-reads = (head-node, first-read, node-label)

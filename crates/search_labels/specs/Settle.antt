@@ -81,7 +81,7 @@ module _ {g : Graph} (ok : Lawful g) {most : ℕ} (b : Bounded g most) {p : Perm
     }) h
 
     -- so the nearest node's label is one that a path of fewer arcs than nodes has
-    pub nearest-early : (u : ℕ) → Nearest L In u → label L u < never → label L u ≤ x + (g .nodes - 1) * most
+    nearest-early : (u : ℕ) → Nearest L In u → label L u < never → label L u ≤ x + (g .nodes - 1) * most
     nearest-early u m l =
         let e = nearest-exact u m .earliest u (le-refl _) l in
         let q = arrive-bound ok b x n (e .arrival .leads) in
