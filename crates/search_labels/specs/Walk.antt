@@ -36,7 +36,6 @@ use Rattle.search_labels.specs.Frontier.{
   Frontier,
   Open,
   Grown,
-  Taken,
   lastLabel,
   lastEnd,
   unknown,
@@ -45,10 +44,8 @@ use Rattle.search_labels.specs.Frontier.{
   grown-same,
   grown-open,
   grown-then,
-  taken-front,
-  taken-open,
-  taken-moved,
 }
+use Rattle.search_labels.specs.Take.{Taken, taken-front, taken-open, taken-moved}
 use Rattle.search_labels.specs.Ready.{Ready, permitOf}
 use Rattle.search_arcs.specs.Town.{lastTick, lawful, head-node}
 

@@ -1,5 +1,5 @@
 -- `search_labels::frontier::take` meets its contract: its two writes are the two equations of `Taken`.
-use Rattle.search_labels.specs.Frontier.{taken}
+use Rattle.search_labels.specs.Take.{taken}
 use borrow.Author.Needs.{needs}
 use Rattle.search_labels.proofs.frontier.take.Statement.{statement}
 use Rattle.search_labels.proofs.frontier.take.Tie as tie
