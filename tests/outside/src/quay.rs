@@ -85,7 +85,10 @@ fn trip(failures: &mut Vec<String>, call: TripCall, wanted: Result<Arrived, Refu
 fn trips(failures: &mut Vec<String>) {
     let arrives = |tick, roads: &[u16]| Ok(Arrived { tick, roads: roads.to_vec() });
     let no_way = Err(Refusal { number: 28, places: [0; 3] });
+    trip(failures, TripCall { from: 0, to: 2, departure: 0 }, arrives(6, &[2]));
+    trip(failures, TripCall { from: 0, to: 2, departure: 6 }, arrives(12, &[2]));
     trip(failures, TripCall { from: 0, to: 3, departure: 0 }, arrives(7, &[2, 3]));
+    trip(failures, TripCall { from: 0, to: 3, departure: 6 }, arrives(13, &[2, 3]));
     trip(failures, TripCall { from: 0, to: 3, departure: 1 }, arrives(8, &[2, 3]));
     trip(failures, TripCall { from: 0, to: 3, departure: 8 }, arrives(14, &[0, 1, 3]));
     trip(failures, TripCall { from: 0, to: 3, departure: 7 }, arrives(13, &[0, 1, 3]));
