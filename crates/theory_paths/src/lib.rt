@@ -10,8 +10,8 @@
 //             it
 //   Labels    `labels-earliest`, `labels-never`: labels that compute, round by round
 //   Hops      `hops-counted`: the fewest arcs that lead to a node and reach each of their nodes in time
-//   Chosen    `chosen-path`, `chosen-tight`, `chosen-fewest`, `chosen-lowest`: the path that is told, of the
-//             fewest arcs, back from the target by the lowest
+//   Chosen    `chosen-is`, `chosen-unique`, `chosen-path`: the path that is told, of the fewest arcs, back
+//             from the target by the lowest
 //   Ties      `ties`: two graphs where other rules for ties would tell another path
 //   Same      `chosen-same`, `chosen-traced`: the path is the same by any exact labels and hops
 //   Agree     `earliest-agree`, `labels-agree`, `chosen-agree`: only the permitted arcs matter
