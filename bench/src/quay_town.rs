@@ -40,7 +40,7 @@ fn trips_are_those_of_the_document() {
     let files = files::make(&quay_town());
     assert_eq!(files.network.len(), 2048);
     assert_eq!(files.plan.len(), 2048);
-    assert_eq!(trip(&files, &ask(0, 3, 0)), Ok((7, vec![0, 1, 3])));
+    assert_eq!(trip(&files, &ask(0, 3, 0)), Ok((7, vec![2, 3])));
     assert_eq!(trip(&files, &ask(0, 3, 1)), Ok((8, vec![2, 3])));
     assert_eq!(trip(&files, &ask(0, 3, 7)), Ok((13, vec![0, 1, 3])));
     assert_eq!(trip(&files, &ask(0, 3, 8)), Ok((14, vec![0, 1, 3])));

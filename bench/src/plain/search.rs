@@ -1,5 +1,6 @@
 //! The earliest arrival over permitted arcs, stopped at the target, and the chosen path. The tables of arcs are filled in one pass over the
-//! validated file. The lowest arc that explains a label is noted while arcs are relaxed, so the path needs no second look at them.
+//! validated file. The fewest arcs by which a label came, and the lowest last of them, are noted while arcs are relaxed, so the path needs
+//! no second look at them.
 use super::network::Network;
 use super::points::travel_at;
 use super::queue::Queue;
@@ -60,11 +61,14 @@ impl Streets {
     }
 }
 
-/// Labels, and for each labelled node but the source the lowest arc that ends there at its label.
+/// Labels, and for each labelled node the number of arcs by which its label came and the last of them, in one number: the lesser is kept.
 pub struct Labels {
     pub ticks: [u32; 512],
-    arcs: [u16; 512],
+    notes: [u32; 512],
 }
+
+/// More than an arc's number.
+const ARCS: u32 = 2048;
 
 /// Labels up to the target's, by settling the nearest node first.
 pub fn reach(
@@ -75,7 +79,7 @@ pub fn reach(
     target: usize,
     departure: u32,
 ) -> Labels {
-    let mut labels = Labels { ticks: [NEVER; 512], arcs: [NONE; 512] };
+    let mut labels = Labels { ticks: [NEVER; 512], notes: [0; 512] };
     let mut queue = Queue::new(departure);
     labels.ticks[source] = departure;
     queue.push(source, departure);
@@ -85,6 +89,7 @@ pub fn reach(
         }
         let tick = labels.ticks[u];
         queue.remove(u, tick);
+        let base = (labels.notes[u] / ARCS + 1) * ARCS;
         for arc in streets.out_of(u) {
             let v = streets.head(arc);
             let old = labels.ticks[v];
@@ -99,9 +104,9 @@ pub fn reach(
                 }
                 queue.push(v, end);
                 labels.ticks[v] = end;
-                labels.arcs[v] = arc as u16;
-            } else if end == old && (arc as u16) < labels.arcs[v] {
-                labels.arcs[v] = arc as u16;
+                labels.notes[v] = base + arc as u32;
+            } else if end == old {
+                labels.notes[v] = labels.notes[v].min(base + arc as u32);
             }
         }
     }
@@ -110,22 +115,16 @@ pub fn reach(
 
 impl Labels {
     /// How many arcs the chosen path to the target has.
-    pub fn count(&self, streets: &Streets, source: usize, target: usize) -> usize {
-        let mut v = target;
-        let mut count = 0;
-        while v != source {
-            v = streets.tails[self.arcs[v] as usize] as usize;
-            count += 1;
-        }
-        count
+    pub fn count(&self, target: usize) -> usize {
+        (self.notes[target] / ARCS) as usize
     }
 
     /// Hands over the arcs of the chosen path from the last to the first.
     pub fn walk_back(&self, streets: &Streets, source: usize, target: usize, mut take: impl FnMut(u16)) {
         let mut v = target;
         while v != source {
-            let arc = self.arcs[v];
-            take(arc);
+            let arc = self.notes[v] % ARCS;
+            take(arc as u16);
             v = streets.tails[arc as usize] as usize;
         }
     }

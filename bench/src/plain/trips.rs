@@ -80,7 +80,7 @@ fn tell(searched: &Searched, ask: &Ask, arrivals: &mut [u32], roads: &mut [u16])
     if tick == NEVER {
         return Err(refuse(28, 0));
     }
-    let count = searched.labels.count(&searched.streets, source, target);
+    let count = searched.labels.count(target);
     if roads.len() < count {
         return Err(refuse(29, 0));
     }

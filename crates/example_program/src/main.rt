@@ -118,8 +118,11 @@ fn print_check(file: &[u8; 2048], name: &[u8]) {
 }
 
 fn print_trips(file: &[u8; 2048]) {
+    print_plain(file, 0, 2, 0);
+    print_plain(file, 0, 2, 6);
     print_plain(file, 0, 3, 0);
     print_plain(file, 0, 3, 1);
+    print_plain(file, 0, 3, 6);
     print_plain(file, 0, 3, 8);
     print_plain(file, 3, 0, 0);
     print_plain(file, 3, 3, 4);

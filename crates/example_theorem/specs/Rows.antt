@@ -105,11 +105,14 @@ rows =
     ∷ (travel network 1 7 yields 5 ∷ [])
     ∷ (travel network 1 8 yields 4 ∷ [])
     ∷ (travel network 1 9 yields 3 ∷ [])
-    -- plain trips; the first is a tie of two ways
+    -- plain trips; leaving at 0 and at 6 two ways tie, and the one with fewer roads is taken
     ∷ (drives network (0 ∷ 1 ∷ 3 ∷ []) 0 yields 7 ∷ [])
     ∷ (drives network (2 ∷ 3 ∷ []) 0 yields 7 ∷ [])
-    ∷ (plain network 0 3 0 yields arrived 7 (0 ∷ 1 ∷ 3 ∷ []))
+    ∷ (plain network 0 2 0 yields arrived 6 (2 ∷ []))
+    ∷ (plain network 0 2 6 yields arrived 12 (2 ∷ []))
+    ∷ (plain network 0 3 0 yields arrived 7 (2 ∷ 3 ∷ []))
     ∷ (plain network 0 3 1 yields arrived 8 (2 ∷ 3 ∷ []))
+    ∷ (plain network 0 3 6 yields arrived 13 (2 ∷ 3 ∷ []))
     ∷ (plain network 0 3 8 yields arrived 14 (0 ∷ 1 ∷ 3 ∷ []))
     ∷ (plain network 3 3 4 yields arrived 4 [])
     -- there is no way from 3 to 0, whenever one leaves
@@ -137,7 +140,8 @@ rows =
     yields refused 0 23 0 0 0)
     ∷ (checks network (planFile 3 2 (21 ∷ 0 ∷ 124 ∷ 20 ∷ []) 7 (79 ∷ 0 ∷ 130 ∷ 75 ∷ []))
     yields refused 0 22 0 0 0)
-    -- the run sheet, and its two flagged trips
+    -- flagged trips, and the run sheet of two of them
+    ∷ (flagged network plan 0 3 6 yields arrived 13 (2 ∷ 3 ∷ []))
     ∷ (flagged network plan 0 3 7 yields arrived 13 (0 ∷ 1 ∷ 3 ∷ []))
     ∷ (flagged network plan 3 0 7 yields refused 2 28 0 0 0)
     ∷ (prints network plan (ascii "0 3 7\n3 0 7\n")

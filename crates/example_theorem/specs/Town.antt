@@ -16,7 +16,8 @@ use Rattle.theory_loops.specs.Total.{total}
 use Rattle.theory_loops.specs.Fill.{tab}
 use Rattle.theory_paths.specs.Graph.{all, ends}
 use Rattle.theory_paths.specs.Labels.{relaxed, rounds, labels}
-use Rattle.theory_paths.specs.Chosen.{lowest, back, chosen}
+use Rattle.theory_paths.specs.Hops.{hops}
+use Rattle.theory_paths.specs.Chosen.{lowest, back, traced, chosen}
 use Rattle.theory_travel.specs.Line.{line}
 use Rattle.theory_travel.specs.Points.{segment, value}
 use Rattle.theory_travel.specs.Day.{closed, dayValue}
@@ -191,8 +192,8 @@ allAgree (r ∷ l) = agrees r && allAgree l
 
 rows-agree : allAgree rows ≡ true
 unfolding allAgree agrees same rows first firstRung select total tab offset line segment value closed
-    dayValue entryAt ends relaxed rounds labels lowest back chosen made start decode judged judgedArcs
-    judgedSum judgedPoints badEnds firstPoint badPoint badTick overtaken badLength tooShortBy
+    dayValue entryAt ends relaxed rounds labels hops lowest back traced chosen made start decode
+    judged judgedArcs judgedSum judgedPoints badEnds firstPoint badPoint badTick overtaken badLength tooShortBy
     travelAt borders isBorder pointStart profileValue decodePlan rules.badProfile
     rules.firstBadPoint rules.judgedTicks rules.judgedSum rules.judgedCounts rules.judgedFlags
     matching fails fails22 given checked tripleRung firstTripleRung asked networkFile planFile summed

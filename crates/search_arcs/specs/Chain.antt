@@ -3,7 +3,7 @@
 -- a node, and its head for the arcs into it.
 use mathlib.Core.Path.{_≡_, sym}
 use mathlib.Core.Logic.{_≢_}
-use mathlib.Core.Bool.{Bool, true, false}
+use mathlib.Core.Bool.{Bool, false}
 use mathlib.Core.List.{List}
 use Prim.Native.Nat.{ℕ, _+_, _-_, _≤_, _<_}
 use native.Mathlib.Decide.{ℕ-discrete, decLe}
@@ -165,9 +165,6 @@ module _ {end : ℕ → ℕ} {nodes arcs : ℕ} {first next : List ℕ} {test : 
           ]
         ];
       }
-
-    pub walk-found : k < arcs → test k ≡ true → First arcs test k
-    walk-found h t = record { within = omega arith; before = λ a m. w .passed a m (omega arith); at = λ _. t }
 
     pub walk-none : arcs ≤ k → First arcs test arcs
     walk-none h = record {

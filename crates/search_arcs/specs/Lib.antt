@@ -1,4 +1,6 @@
--- The arcs of a file: their chains (Chain), what their readers rest on (Town), and when they end (Times).
+-- The arcs of a file: their chains (Chain), what their readers rest on (Town), the search among their points
+-- (Halves), and when they end (Times).
 pub mod Chain
 pub mod Town
+pub mod Halves
 pub mod Times

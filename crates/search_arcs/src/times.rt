@@ -34,7 +34,8 @@ pub fn first_points(file: &[u8], l: Layout, starts: &mut [u16; MOST_ARCS])
     }
 }
 
-// The last of `count` points from `from` on that is at or before x, counted from `from`.
+// The last of `count` points from `from` on that is at or before x, counted from `from`. A step changes one
+// number by what it reads, so that no jump depends on it.
 fn segment(file: &[u8], l: Layout, from: usize, count: usize, x: usize) -> usize
     requires { ⌜ Laid (now file) l ⌝ }
     requires { ⌜ from + count ≤ l .points ⌝ }
@@ -42,14 +43,14 @@ fn segment(file: &[u8], l: Layout, from: usize, count: usize, x: usize) -> usize
     ensures { λ r. ⌜ Last (entryAt (decode (now (file .entry)) .ticks) from) count x r ⌝ }
 {
     let mut a = 0;
-    let mut b = count;
-    while a + 1 < b {
-        let m = a + (b - a) / 2;
+    let mut left = count;
+    while 1 < left {
+        let half = left / 2;
+        let m = a + half;
         if read::tick(file, l, from + m) <= x {
             a = m;
-        } else {
-            b = m;
         }
+        left -= half;
     }
     a
 }

@@ -1,61 +1,68 @@
--- The nearest node of the frontier, found by one pass over its entries: the invariant of the pass (`Least`),
--- and what it has found (`Picked`). Of nodes that are equally near, any will do.
-use mathlib.Core.Path.{_≡_, _∙_, ap}
+-- The nearest node of the frontier: that of the least key, found by one pass over the keys. The invariant of
+-- the pass is what it has found (`Least`) at the keys passed. Of nodes that are equally near, any will do.
+use mathlib.Core.Path.{_≡_, refl, sym, _∙_}
 use mathlib.Core.List.{List}
-use Prim.Native.Nat.{ℕ, _+_, _≤_, _<_}
+use Prim.Native.Nat.{ℕ, _+_, _*_, _≤_, _<_}
+use native.Mathlib.Nat.{le-refl, le-trans, le-of-lt}
 use native.Mathlib.Decide.{ℕ-discrete}
 use native.Mathlib.Omega.{arith}
 use lib.ListN.{getD}
-use Rattle.theory_paths.specs.Labels.{label, label-at}
+use Rattle.theory_paths.specs.Labels.{label}
+use Rattle.network.specs.Limits.{mostNodes}
 use Rattle.search_labels.specs.Settle.{Nearest}
-use Rattle.search_labels.specs.Frontier.{Held, Frontier, entry-in}
+use Rattle.search_labels.specs.Frontier.{nodeOf, nodeAt, Held, Frontier}
 
--- Entry r of n is a nearest node.
-pub record Picked (L F : List ℕ) (n r : ℕ) : Type 0 where
-  pub within : r < n
-  pub nearest : Nearest L (Held F n) (getD F r 0)
+-- r is the least of the first k keys.
+pub record Least (Q : List ℕ) (k r : ℕ) : Type 0 where
+  pub place : ℕ
+  pub inside : place < k
+  pub is : r ≡ getD Q place 0
+  pub least : (j : ℕ) → j < k → r ≤ getD Q j 0
 
--- Of the first k entries, entry r has the least label, m.
-pub record Least (L F : List ℕ) (k r m : ℕ) : Type 0 where
-  pub within : r < k
-  pub is : m ≡ label L (getD F r 0)
-  pub least : (j : ℕ) → j < k → m ≤ label L (getD F j 0)
-
--- v is the entry that is read, and its label is read after it
-module _ {L F : List ℕ} {n : ℕ} (f : Frontier L F n) where
-  read : (k v : ℕ) → k < n → v ≡ getD F k 0 → getD L v 0 ≡ label L (getD F k 0)
-  read k v l e = label-at L v (entry-in f k v l e) ∙ ap (label L) e
-
-  pub least-one : (v : ℕ) → 0 < n → v ≡ getD F 0 0 → Least L F 1 0 (getD L v 0)
-  least-one v l e = record {
-    within = omega arith;
-    is = read 0 v l e;
-    least = λ j m. let z : j ≡ 0 = omega arith in rw z (omega (arith, read 0 v l e));
-  }
-
-  -- the next entry's label is less, or not
-  pub least-less : (k r m v : ℕ) → Least L F k r m → k < n → v ≡ getD F k 0 → getD L v 0 < m
-      → Least L F (k + 1) k (getD L v 0)
-  least-less k r m v h l e c = record {
-    within = omega arith;
-    is = read k v l e;
-    least = λ j d. elim
-        (ℕ-discrete j k)
-        [ yes q ↦ rw q (omega (arith, read k v l e)) | no q ↦ omega (arith, h .least j (omega arith)) ];
-  }
-
-  pub least-more : (k r m v : ℕ) → Least L F k r m → k < n → v ≡ getD F k 0 → m ≤ getD L v 0
-      → Least L F (k + 1) r m
-  least-more k r m v h l e c = record {
-    within = omega (arith, h .within);
-    is = h .is;
-    least = λ j d. elim
-        (ℕ-discrete j k) [ yes q ↦ rw q (omega (arith, read k v l e)) | no q ↦ h .least j (omega arith) ];
-  }
-
--- after the last entry
-pub least-picked : (L F : List ℕ) (n k r m : ℕ) → Least L F k r m → k ≤ n → n ≤ k → Picked L F n r
-least-picked L F n k r m h a b = record {
-  within = omega (arith, h .within);
-  nearest = λ v w. rw (← (w .is)) (omega (arith, h .is, h .least (w .place) (omega (arith, w .inside))));
+pub least-one : (Q : List ℕ) → Least Q 1 (getD Q 0 0)
+least-one Q = record {
+  place = 0;
+  inside = omega arith;
+  is = refl;
+  least = λ j m. let z : j ≡ 0 = omega arith in rw z (le-refl _);
 }
+
+-- the next key is less, or not
+pub least-less : (Q : List ℕ) (k r x : ℕ) → Least Q k r → x ≡ getD Q k 0 → x < r → Least Q (k + 1) x
+least-less Q k r x h e l = record {
+  place = k;
+  inside = omega arith;
+  is = e;
+  least = λ j m. elim (ℕ-discrete j k) [
+    | yes q ↦ rw (q, e) (le-refl _)
+    | no q ↦ le-trans (le-of-lt l)
+        (h .least j (omega arith))
+  ];
+}
+
+pub least-more : (Q : List ℕ) (k r x : ℕ) → Least Q k r → x ≡ getD Q k 0 → r ≤ x → Least Q (k + 1) r
+least-more Q k r x h e l = record {
+  place = h .place;
+  inside = omega (arith, h .inside);
+  is = h .is;
+  least = λ j m. elim (ℕ-discrete j k) [ yes q ↦ rw (q, ← e) l | no q ↦ h .least j (omega arith) ];
+}
+
+pub least-end : (Q : List ℕ) (k n r : ℕ) → Least Q k r → k ≤ n → n ≤ k → Least Q n r
+least-end Q k n r h a b = let e : k ≡ n = omega arith in rw e at h
+
+-- its node is in the frontier, and none is nearer
+module _ {L Q P : List ℕ} {n r u : ℕ} (f : Frontier L Q P n) (h : Least Q n r) (e : u ≡ nodeOf r) where
+  own : nodeAt Q (h .place) ≡ u
+  own = rw (← (h .is)) (sym e)
+
+  pub least-held : Held Q n u
+  least-held = record { place = h .place; inside = h .inside; is = own }
+
+  pub least-nearest : Nearest L (Held Q n) u
+  least-nearest v w =
+      let a : r ≡ label L u * mostNodes + u = h .is ∙ rw own at (f .keyed (h .place) (h .inside)) in
+      let b = rw (w .is) at (f .keyed (w .place) (w .inside)) in
+      let m = h .least (w .place) (w .inside) in
+      let c : v < mostNodes = omega (arith, w .is) in
+      omega arith

@@ -1,6 +1,6 @@
 -- What every function of a search rests on: a town, the mask of permitted arcs and the table of the arcs'
--- first points (`Ready`). From it: no label is late (`Early`), in a graph that is left within the first
--- period (`Leaving`).
+-- first points (`Ready`); and a graph that is left within the first period, so that no label is late
+-- (`Leaving`).
 use mathlib.Core.Path.{_≡_}
 use mathlib.Core.List.{List}
 use Prim.Native.Nat.{ℕ, _≤_, _<_}
@@ -10,15 +10,14 @@ use lib.ListN.{length, getD}
 use lib.Dec.{eqb}
 use Rattle.theory_loops.specs.Fill.{Filled}
 use Rattle.theory_paths.specs.Graph.{Graph, Lawful, Bounded, Permit}
-use Rattle.theory_paths.specs.Earliest.{never}
-use Rattle.theory_paths.specs.Labels.{label, label-at}
 use Rattle.network.specs.declared.header.Layout.{Layout}
-use Rattle.network.specs.Limits.{mostPeriod, mostNodes}
+use Rattle.network.specs.Limits.{mostPeriod, mostNodes, mostArcs}
 use Rattle.network.specs.Network.{start}
 use Rattle.network.specs.Decode.{decode}
 use Rattle.network.specs.Town.{graphOf, town-bounded}
-use Rattle.search_arcs.specs.Town.{Town, lastTick, lawful, tail-node, head-node}
+use Rattle.search_arcs.specs.Town.{Town, lawful, head-node}
 use Rattle.search_labels.specs.Settle.{latest}
+use Rattle.search_labels.specs.Frontier.{lastLabel}
 
 -- Arc a is permitted: its entry in the mask is 1.
 abbrev pub permitOf : List ℕ → Permit
@@ -30,19 +29,16 @@ pub record Ready (file : List ℕ) (l : Layout) (mask starts : List ℕ) : Type 
   pub masked : l .arcs ≤ length mask
   pub first : (a : ℕ) → a < l .arcs → getD starts a 0 ≡ start (decode file) a
 
--- No label but never is late.
-pub record Early (L : List ℕ) : Type 0 where
-  pub upto : (v : ℕ) → label L v < never → label L v ≤ lastTick
-
--- s is left at tick x, in a lawful graph with few nodes, and early enough for its longest travel that no
--- label is late.
+-- s is left at tick x, in a lawful graph with few nodes and arcs, and early enough for its longest travel
+-- that no label is late.
 pub record Leaving (g : Graph) (s x : ℕ) : Type 0 where
   pub ok : Lawful g
   pub most : ℕ
   pub bounded : Bounded g most
   pub few : g .nodes ≤ mostNodes
+  pub few-arcs : g .arcs ≤ mostArcs
   pub node : s < g .nodes
-  pub early : latest g most x ≤ lastTick
+  pub early : latest g most x ≤ lastLabel
 
 pub ready-of : {file : List ℕ} {l : Layout} {mask old starts : List ℕ} → Town file l → l .arcs ≤ length mask
     → Filled 0 (l .arcs) (start (decode file)) old starts → Ready file l mask starts
@@ -55,6 +51,7 @@ leaving {file} t h k = record {
   most = decode file .period;
   bounded = town-bounded (t .sound);
   few = omega (arith, t .sizes .nodes, t .small .nodes-most);
+  few-arcs = omega (arith, t .sizes .arcs, t .small .arcs-most);
   node = omega (arith, t .sizes .nodes);
   early =
       let n : graphOf (decode file) .nodes ≤ mostNodes =
@@ -72,9 +69,5 @@ first-read w = w .first
 pub node-label : (l : Layout) (L : List ℕ) (v : ℕ) → length L ≡ l .nodes → v < l .nodes → v < length L
 node-label l L v e h = omega arith
 
--- a label that is read is early, where it is not never
-pub read-early : (L : List ℕ) (v : ℕ) → v < length L → Early L → getD L v 0 < never → getD L v 0 ≤ lastTick
-read-early L v l h m = let e = label-at L v l in omega (arith, h .upto v (rw e at m))
-
 -- for `search (ready-reads, needs)` where code has read the file
-pub ruleset ready-reads = (tail-node, head-node, first-read, node-label, read-early)
+pub ruleset ready-reads = (head-node, first-read, node-label)

@@ -58,14 +58,14 @@ module _ (g : Graph) (p : Permit) (y a : ℕ) (N : List ℕ) where
   relax-not h = rw h
 
 -- No permitted arc out of u is numbered from i up to j.
-abbrev NoArc : Graph → Permit → ℕ → ℕ → ℕ → Type 0
+abbrev pub NoArc : Graph → Permit → ℕ → ℕ → ℕ → Type 0
 NoArc g p u i j = (a : ℕ) → ArcFrom g p u a → i ≤ a → a < j → ⊥
 
-no-arc : {g : Graph} {p : Permit} {u : ℕ} (i j : ℕ) → NextArc (g .tail) (g .arcs) u i j → NoArc g p u i j
+pub no-arc : {g : Graph} {p : Permit} {u : ℕ} (i j : ℕ) → NextArc (g .tail) (g .arcs) u i j → NoArc g p u i j
 no-arc i j n a f l m = n .none a l m (f .listed) (f .leaves)
 
 -- what holds of the arcs out of u below i holds of those below j, if there is none between
-extended : {g : Graph} {p : Permit} {u : ℕ} (Q : ℕ → Type 0) (i j : ℕ)
+pub extended : {g : Graph} {p : Permit} {u : ℕ} (Q : ℕ → Type 0) (i j : ℕ)
     → ((a : ℕ) → ArcFrom g p u a → a < i → Q a) → NoArc g p u i j
     → (a : ℕ) → ArcFrom g p u a → a < j → Q a
 extended Q i j h n a f l = elim (decLe i a) [ yes m ↦ absurd (n a f m l) | no m ↦ h a f (omega arith) ]

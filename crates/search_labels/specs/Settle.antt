@@ -105,7 +105,7 @@ module _ {g : Graph} (ok : Lawful g) {most : ℕ} (b : Bounded g most) {p : Perm
       above-out v o = above v (⊎-elim (λ w. m v (w .0)) (λ w. omega arith) (f .no-more v o))
 
       -- what is settled now: u, or what was settled before
-      was : (v : ℕ) → Settled M Out v → (v ≡ u) ⊎ Settled L In v
+      pub was : (v : ℕ) → Settled M Out v → (v ≡ u) ⊎ Settled L In v
       was v d = elim (ℕ-discrete v u) [
         | yes q ↦ inl q
         | no q ↦ elim (decLt (label L v) never) [

@@ -45,18 +45,19 @@ abbrev pub written : Answer → ℕ
 written (Arrived a) = a .count
 written (Refused r) = 0
 
--- The answer r and the list of roads, before and after, by the labels L: the first roads become the chosen
--- path where it is written, the others stay.
-pub record Told (g : Graph) (p : Permit) (s t : ℕ) (L roads₀ roads : List ℕ) (r : Answer) : Type 0 where
-  pub answer : r ≡ answerOf (label L t) (length (chosen g p s L t)) (length roads₀)
-  pub writes : Filled 0 (written r) (entryOf (chosen g p s L t)) roads₀ roads
+-- The answer r and the list of roads, before and after, where the target's label is `tick` and the path has
+-- `count` arcs, each of them a `road`: the first roads become the path where it is written, the others stay.
+pub record Told (tick count : ℕ) (road : ℕ → ℕ) (roads₀ roads : List ℕ) (r : Answer) : Type 0 where
+  pub answer : r ≡ answerOf tick count (length roads₀)
+  pub writes : Filled 0 (written r) road roads₀ roads
 
--- The same by the true labels, with the list of arrivals: its first entries, one for each node, become what
--- is shown of the labels, the others stay.
+-- This by the true labels and the chosen path, with the list of arrivals: its first entries, one for each
+-- node, become what is shown of the labels, the others stay.
 pub record Answered (g : Graph) (p : Permit) (s x t : ℕ) (arrivals₀ arrivals roads₀ roads : List ℕ)
     (r : Answer) : Type 0 where
   pub shows : Filled 0 (g .nodes) (shown (labels g p s x) t) arrivals₀ arrivals
-  pub told : Told g p s t (labels g p s x) roads₀ roads r
+  pub told : Told (label (labels g p s x) t) (length (pathOf g p s t x)) (entryOf (pathOf g p s t x)) roads₀
+      roads r
 
 -- WHICH CASE an answer is
 pub data Case (tick count room : ℕ) (a : Answer) : Type 0 where

@@ -1,7 +1,7 @@
 -- The laws by which the search comes to its answer, from the labels that it left: exact up to the target's,
 -- they tell and show what the true labels do. In the shape of the needs of `tell`, `search_nodes` and
 -- `search`.
-use mathlib.Core.Path.{_≡_, sym, _∙_}
+use mathlib.Core.Path.{_≡_, sym, _∙_, ap}
 use mathlib.Core.Logic.{_≢_}
 use mathlib.Core.List.{List, _++_}
 use Prim.Native.Nat.{ℕ, _+_, _-_, _≤_, _<_}
@@ -16,16 +16,21 @@ use Rattle.theory_paths.specs.Graph.{Graph, Permit}
 use Rattle.theory_paths.specs.Earliest.{never, Exact}
 use Rattle.theory_paths.specs.Labels.{label, label-at, labels, labels-exact, labels-capped}
 use Rattle.search_path.specs.Trim.{shown, target-same, shown-same}
-use Rattle.theory_paths.specs.Chosen.{chosen, chosen-same}
+use Rattle.theory_paths.specs.Hops.{Known}
+use Rattle.theory_paths.specs.Same.{chosen-same}
 use Rattle.search_arcs.specs.Town.{Town}
-use Rattle.search_labels.specs.Ready.{Ready, Leaving, leaving, permitOf}
+use Rattle.search_labels.specs.Ready.{Leaving, leaving, permitOf}
 use Rattle.network.specs.declared.header.Layout.{Layout}
 use Rattle.network.specs.Decode.{decode}
 use Rattle.network.specs.Town.{graphOf}
-use Rattle.search_labels.specs.declared.query.Query.{Query}
 use Rattle.search_labels.specs.Reach.{Reached, small}
-use Rattle.search_path.specs.Path.{Found, Listed}
-use Rattle.search_path.specs.Answer.{Answered, Told, entryOf}
+use Rattle.search_labels.specs.Notes.{hopsIn}
+use Rattle.search_path.specs.Trail.{roadTo, Trail, Listed}
+use Rattle.search_path.specs.Back.{trail, trail-count, trail-road}
+use Rattle.search_path.specs.Answer.{Answered, Told, entryOf, pathOf, answerOf, written}
+use Rattle.network.specs.Limits.{mostNodes}
+use mathlib.Core.Bool.{Bool, true, false, cond}
+use lib.Dec.{eqb, ltb}
 use Rattle.file_refusals.specs.declared.Refusal.{Refusal}
 use Rattle.file_refusals.specs.Refusal.{refusal}
 use Rattle.search_path.specs.declared.answer.Answer.{Answer}
@@ -75,53 +80,46 @@ answered-front g p s x t n old part roads₀ roads r e l a =
       told = a .told;
     }
 
--- FOR `tell`: the target has a place among the labels, and a path where its label is not never
-pub in-labels : {file L : List ℕ} {l : Layout} {p : Permit} {s t : ℕ} → Town file l
-    → Reached (graphOf (decode file)) p s t L
-    → t < l .nodes → t < length L
-in-labels w r h = omega (arith, r .size, w .sizes .nodes)
+-- FOR `tell`: the target has a place among the labels, and its notes lead back where its label is not never
+pub record Tellable (g : Graph) (L K : List ℕ) (t : ℕ) : Type 0 where
+  pub inside : t < length L
+  pub few : t < mostNodes
+  pub leads : getD L t 0 ≢ never → Trail g K t
 
-pub found : {file L mask starts : List ℕ} {l : Layout} {q : Query} → Ready file l mask starts
-    → Reached (graphOf (decode file)) (permitOf mask) (q .source) (q .target) L
-    → q .target < l .nodes → getD L (q .target) 0 ≢ never → Found file l mask starts q L
-found {L = L} {q = q} w r h ne = record {
-  ready = w;
-  reached = r;
-  node = h;
-  known = let e = label-at L (q .target) (in-labels (w .town) r h) in omega (arith, r .capped (q .target));
-}
+pub tell-trail : {g : Graph} {L K : List ℕ} {t : ℕ} → Tellable g L K t → getD L t 0 ≢ never → Trail g K t
+tell-trail h = h .leads
 
 -- where nothing is written, it does not matter what
 nothing-filled : (f h : ℕ → ℕ) {old new : List ℕ} → Filled 0 0 f old new → Filled 0 0 h old new
 nothing-filled f h a =
     record { long = a .long; written = λ k l m. absurd (omega arith); before = a .before; after = a .after }
 
--- the three answers, from the labels
-module _ {g : Graph} {p : Permit} {s : ℕ} (t : ℕ) {L roads₀ : List ℕ} (l : t < length L) where
+-- the three answers, by the target's label
+module _ {total : ℕ} {road : ℕ → ℕ} (t : ℕ) (L : List ℕ) {roads₀ : List ℕ} (l : t < length L) where
   pub told-none : (r : Refusal) → getD L t 0 ≡ never → r ≡ refusal 28 0
-      → Told g p s t L roads₀ roads₀ (Refused r)
+      → Told (label L t) total road roads₀ roads₀ (Refused r)
   told-none r e f =
       record { answer = rw (← (label-at L t l), eq-eqb _ never e, f); writes = fill-none _ roads₀ 0 }
 
-  module _ (count : ℕ) {roads : List ℕ} (ne : getD L t 0 ≢ never)
-      (h : Listed (chosen g p s L t) roads₀ roads count) where
-    pub told-short : (r : Refusal) → length roads < count → r ≡ refusal 29 0
-        → Told g p s t L roads₀ roads (Refused r)
-    told-short r m f =
-        let o = lt-ltb (length roads₀) count (omega (arith, h .writes .long)) in
-        record {
-          answer = rw (← (label-at L t l), ne-eqb _ never ne, ← (h .total), o, f);
-          writes = nothing-filled _ _ (rw o at (h .writes));
-        }
+  module _ (count : ℕ) {roads : List ℕ} (ne : getD L t 0 ≢ never) (h : Listed total road roads₀ roads count)
+    where
+      pub told-short : (r : Refusal) → length roads < count → r ≡ refusal 29 0
+          → Told (label L t) total road roads₀ roads (Refused r)
+      told-short r m f =
+          let o = lt-ltb (length roads₀) count (omega (arith, h .writes .long)) in
+          record {
+            answer = rw (← (label-at L t l), ne-eqb _ never ne, ← (h .counts), o, f);
+            writes = rw o at (h .writes);
+          }
 
-    pub told-way : count ≤ length roads
-        → Told g p s t L roads₀ roads (Arrived (record { tick = getD L t 0; count = count }))
-    told-way m =
-        let o = le-ltb (length roads₀) count (omega (arith, h .writes .long)) in
-        record {
-          answer = rw (← (label-at L t l), ne-eqb _ never ne, ← (h .total), o);
-          writes = rw o at (h .writes);
-        }
+      pub told-way : count ≤ length roads
+          → Told (label L t) total road roads₀ roads (Arrived (record { tick = getD L t 0; count = count }))
+      told-way m =
+          let o = le-ltb (length roads₀) count (omega (arith, h .writes .long)) in
+          record {
+            answer = rw (← (label-at L t l), ne-eqb _ never ne, ← (h .counts), o);
+            writes = rw o at (h .writes);
+          }
 
 -- FOR `answer`: from the labels L that the search left to the true labels
 module _ {g : Graph} {s x : ℕ} (d : Leaving g s x) (p : Permit) where
@@ -131,16 +129,37 @@ module _ {g : Graph} {s x : ℕ} (d : Leaving g s x) (p : Permit) where
   pub true-capped : (v : ℕ) → label (labels g p s x) v ≤ never
   true-capped = labels-capped (d .ok) p s x (d .node) (le-of-lt (small d))
 
-told-never : {g : Graph} {p : Permit} {s t : ℕ} (L M : List ℕ) {roads₀ roads : List ℕ} (r : Answer)
-    → label L t ≡ never → label M t ≡ never
-    → Told g p s t L roads₀ roads r → Told g p s t M roads₀ roads r
-told-never {g} {p} {s} {t} L M r e f q =
-    let z : r ≡ Refused (refusal 28 0) = rw e at (q .answer) in
-    let w = nothing-filled (entryOf (chosen g p s L t)) (entryOf (chosen g p s M t)) (rw z at (q .writes)) in
-    record { answer = rw f z; writes = rw z w }
+told-never : (c d : ℕ) (f h : ℕ → ℕ) {roads₀ roads : List ℕ} (r : Answer) → Told never c f roads₀ roads r
+    → Told never d h roads₀ roads r
+told-never c d f h r q =
+    let z : r ≡ Refused (refusal 28 0) = q .answer in
+    record { answer = z; writes = rw z (nothing-filled f h (rw z at (q .writes))) }
 
-module _ {g : Graph} {p : Permit} {s x t : ℕ} (d : Leaving g s x) (l : t < g .nodes) {L : List ℕ}
-    (r : Reached g p s t L) (q : label L s ≡ x) where
+-- no more is written than there are roads
+filled-same : {f h : ℕ → ℕ} (n c : ℕ) {old new : List ℕ} → n ≤ c → ((k : ℕ) → k < c → f k ≡ h k)
+    → Filled 0 n f old new → Filled 0 n h old new
+filled-same n c l e a =
+    record {
+      long = a .long;
+      written = λ k b d. a .written k b d ∙ e k (omega arith);
+      before = a .before;
+      after = a .after;
+    }
+
+written-most : (tick count room : ℕ) → written (answerOf tick count room) ≤ count
+written-most tick count room = go (eqb tick never) (ltb room count)
+  where
+    go : (b d : Bool)
+        → written (cond b (Refused (refusal 28 0)) (cond d (Refused (refusal 29 0)) (Arrived (record {
+          tick = tick;
+          count = count;
+        })))) ≤ count
+    go true d = omega arith
+    go false true = omega arith
+    go false false = le-refl count
+
+module _ {g : Graph} {p : Permit} {s x t : ℕ} (d : Leaving g s x) (l : t < g .nodes) {L K : List ℕ}
+    (r : Reached g p s t L K) (q : label L s ≡ x) where
   abbrev true-labels : List ℕ
   true-labels = labels g p s x
 
@@ -157,23 +176,60 @@ module _ {g : Graph} {p : Permit} {s x t : ℕ} (d : Leaving g s x) (l : t < g .
       (λ v b. f .written v (omega arith) (omega (arith, r .size))
       ∙ shown-same L true-labels t exact (true-exact d p) (r .capped) (true-capped d p) v)
 
-  told-same : {roads₀ roads : List ℕ} {o : Answer} → Told g p s t L roads₀ roads o
-      → Told g p s t true-labels roads₀ roads o
-  told-same {o = o} h = elim (decLt (label L t) never) [
+  known : label L t < never → Known g L (label L t) t
+  known m = record { node = l; upto = le-refl _; known = m }
+
+  road-same : label L t < never → (i : ℕ) → i < length (pathOf g p s t x)
+      → roadTo g K t i ≡ entryOf (pathOf g p s t x) i
+  road-same m i h =
+      let e = chosen-same (d .ok) L true-labels exact (true-exact d p) (known m) m in
+      trail-road (d .ok) (d .few) r (known m) i (rw e h) ∙ ap (λ (w : List ℕ). entryOf w i) e
+
+  count-same : label L t < never → hopsIn K t ≡ length (pathOf g p s t x)
+  count-same m =
+      trail-count (d .ok) (d .few) r (known m) ∙ ap length
+      (chosen-same (d .ok) L true-labels exact (true-exact d p) (known m) m)
+
+  told-same : {roads₀ roads : List ℕ} {o : Answer}
+      → Told (label L t) (hopsIn K t) (roadTo g K t) roads₀ roads o
+      → Told (label true-labels t) (length (pathOf g p s t x)) (entryOf (pathOf g p s t x)) roads₀ roads o
+  told-same {roads₀} {roads} {o} h = elim (decLt (label L t) never) [
     | yes m ↦
-        let e = chosen-same (d .ok) L true-labels exact (true-exact d p)
-        (record { node = l; upto = le-refl _; known = m }) m in
-        record { answer = rw (tick-same, ← e) (h .answer); writes = rw (← e) (h .writes) }
+        let c = count-same m in
+        let n : written o ≤ length (pathOf g p s t x) =
+        rw (h .answer, ← c) (written-most (label L t) (hopsIn K t) (length roads₀)) in
+        record {
+          answer = rw (tick-same, ← c) (h .answer);
+          writes = filled-same (written o) (length (pathOf g p s t x)) n (road-same m) (h .writes);
+        }
     | no m ↦
         let e : label L t ≡ never = omega (arith, r .capped t) in
-        told-never L true-labels o e (tick-same ∙ e) h
+        rw (tick-same, e) (told-never (hopsIn K t) (length (pathOf g p s t x)) (roadTo g K t)
+        (entryOf (pathOf g p s t x)) o (rw e at h))
   ]
 
-pub answered : (mask : List ℕ) {file old L new roads₀ roads : List ℕ} {l : Layout} {s x t : ℕ} {o : Answer}
+-- FOR `search_nodes`
+pub tellable : {file L K : List ℕ} {l : Layout} {p : Permit} {s t x : ℕ} → Town file l → s < l .nodes
+    → t < l .nodes → x < l .period
+    → Reached (graphOf (decode file)) p s t L K → Tellable (graphOf (decode file)) L K t
+tellable {L = L} {t = t} w a h b r = record {
+  inside = omega (arith, r .size, w .sizes .nodes);
+  few = omega (arith, w .small .nodes-most);
+  leads = λ ne.
+      let d = leaving w a b in
+      let e = label-at L t (omega (arith, r .size, w .sizes .nodes)) in
+      trail (d .ok) (d .few) r (record {
+        node = omega (arith, w .sizes .nodes);
+        upto = le-refl _;
+        known = omega (arith, r .capped t);
+      });
+}
+
+pub answered : (mask : List ℕ) {file old L K new roads₀ roads : List ℕ} {l : Layout} {s x t : ℕ} {o : Answer}
     → Town file l
     → s < l .nodes → t < l .nodes → x < l .period → length old ≡ l .nodes
-    → Reached (graphOf (decode file)) (permitOf mask) s t L × (label L s ≡ x)
-    → Told (graphOf (decode file)) (permitOf mask) s t L roads₀ roads o
+    → Reached (graphOf (decode file)) (permitOf mask) s t L K × (label L s ≡ x)
+    → Told (label L t) (hopsIn K t) (roadTo (graphOf (decode file)) K t) roads₀ roads o
     → Filled 0 (length L) (shown L t) L new
     → Answered (graphOf (decode file)) (permitOf mask) s x t old new roads₀ roads o
 answered mask w a b c k r h f =
@@ -185,4 +241,4 @@ answered mask w a b c k r h f =
     }
 
 -- for `search tells` at the needs of `tell`
-pub ruleset tells = (told-none, told-short, told-way, found, in-labels)
+pub ruleset tells = (told-none, told-short, told-way, tell-trail)

@@ -3,9 +3,8 @@
 pub mod Says
 pub mod Trim
 pub mod Answer
-pub mod Into
+pub mod Trail
 pub mod Back
-pub mod Path
 pub mod Answering
 pub mod Promise
 pub mod Shows

@@ -10,11 +10,12 @@ use native.Mathlib.Nat.{sub-le, mul-le-mul-right}
 use native.Mathlib.Omega.{arith}
 use lib.ListN.{length}
 use borrow.Author.Tests.{ne-eqb, le-ltb}
-use Rattle.theory_paths.specs.Graph.{Graph, Permit, IsPath, driven, Reachable, EarliestArrival}
+use Rattle.theory_paths.specs.Graph.{Graph, Permit, driven, Reachable, EarliestArrival}
 use Rattle.theory_paths.specs.Drive.{arrival-reach}
 use Rattle.theory_paths.specs.Earliest.{never, earliest-unique, exact-bound, exact-never}
 use Rattle.theory_paths.specs.Labels.{label, labels}
-use Rattle.theory_paths.specs.Chosen.{Known, chosen-path, chosen-empty}
+use Rattle.theory_paths.specs.Hops.{Known}
+use Rattle.theory_paths.specs.Chosen.{IsChosen, chosen-path, chosen-is, chosen-empty}
 use Rattle.file_refusals.specs.Refusal.{refusal}
 use Rattle.search_labels.specs.Ready.{Leaving}
 use Rattle.search_arcs.specs.Town.{lastTick}
@@ -24,10 +25,10 @@ use Rattle.search_path.specs.declared.answer.Arrival.{Arrival}
 use Rattle.search_path.specs.declared.answer.Answer.{Answer}
 use Rattle.search_path.specs.declared.answer.Answer.the-variants.{Arrived, Refused}
 
--- The path is a permitted one from s to t that, driven from tick x, ends at the tick; no permitted path ends
--- before; and it has fewer arcs than there are nodes.
+-- The path is the way of document 02 from s to t; driven from tick x, it ends at the tick; no permitted path
+-- ends before; and it has fewer arcs than there are nodes.
 pub record Way (g : Graph) (p : Permit) (s x t : ℕ) (path : List ℕ) (tick : ℕ) : Type 0 where
-  pub leads : IsPath g p s t path
+  pub chosen : IsChosen g p s x t path
   pub drives : driven g path x ≡ tick
   pub earliest : EarliestArrival g p s x t tick
   pub few : length path ≤ g .nodes - 1
@@ -67,7 +68,7 @@ module _ {g : Graph} {s x : ℕ} (d : Leaving g s x) where
           let k = known ne in
           let f = chosen-path (d .ok) (labels g p s x) (true-exact d p) k in
           record {
-            leads = f .leads;
+            chosen = chosen-is (d .ok) (labels g p s x) (true-exact d p) k;
             drives = f .at;
             earliest = true-exact d p .earliest t (k .upto) (k .known);
             few = f .short;

@@ -2,8 +2,8 @@
 // read in place. It owns the answer of a search (28 and 29 among them) and its meaning (specs/Answer,
 // specs/Promise, specs/Shows).
 //   answer what a trip answers
-//   path   the chosen path, from the labels
-// It may call `search_labels` for the labels, `search_arcs` for the arcs at a node and their ends, `network`
+//   path   the chosen path, from the notes that the search left
+// It may call `search_labels` for the labels and notes, `search_arcs` for the arcs' first points, `network`
 // for the entries of the file and `file_refusals` to refuse; it cites `theory_loops` and `theory_paths`.
 use crate::answer::Answer;
 use crate::answer::Arrival;
@@ -12,6 +12,7 @@ use file_refusals::number::ROADS_SHORT;
 use file_refusals::refuse;
 use network::header::Layout;
 use network::limits::MOST_ARCS;
+use network::limits::MOST_NODES;
 use network::limits::NEVER;
 use search_arcs::times;
 use search_labels::query::Query;
@@ -28,10 +29,13 @@ ghost use Rattle.network.specs.Decode.{decode, Laid};
 ghost use Rattle.network.specs.Sound.{SoundNetwork};
 ghost use Rattle.network.specs.Town.{graphOf};
 ghost use Rattle.search_arcs.specs.Town.{Town};
-ghost use Rattle.search_labels.specs.Ready.{Ready, permitOf};
-ghost use Rattle.search_labels.specs.Reach.{Reached};
+ghost use Rattle.theory_paths.specs.Labels.{label};
+ghost use Rattle.search_labels.specs.Ready.{permitOf};
+ghost use Rattle.search_labels.specs.Notes.{hopsIn};
 ghost use Rattle.search_path.specs.Trim.{shown, shownOf};
+ghost use Rattle.search_path.specs.Trail.{roadTo};
 ghost use Rattle.search_path.specs.Answer.{Answered, Told};
+ghost use Rattle.search_path.specs.Answering.{Tellable};
 
 // What is shown of a node's label, where the target's is `limit`.
 fn shown_label(label: u32, limit: u32, v: usize, target: usize) -> u32
@@ -58,28 +62,26 @@ fn trim(labels: &mut [u32], target: usize)
     }
 }
 
-// The answer by the labels, with the chosen path where the list of roads has room for it.
+// The answer by the target's label and note, with the path where the list of roads has room for it.
 fn tell(
     file: &[u8],
     l: Layout,
-    mask: &[u8],
-    starts: &[u16; MOST_ARCS],
     labels: &[u32],
-    q: Query,
+    notes: &[u32; MOST_NODES],
+    target: usize,
     roads: &mut [u16],
 ) -> Answer
-    requires { ⌜ Ready (now file) l (now mask) (now starts) ⌝ }
-    requires { ⌜ Reached (graphOf (decode (now file))) (permitOf (now mask)) (q .source) (q .target)
-        (now labels) ⌝ }
-    requires { ⌜ q .target < l .nodes ⌝ }
-    ensures { λ r. ⌜ Told (graphOf (decode (now (file .entry)))) (permitOf (now (mask .entry))) (q .source)
-        (q .target) (now (labels .entry)) (now (roads .entry)) (now (roads .exit)) r ⌝ }
+    requires { ⌜ Town (now file) l ⌝ }
+    requires { ⌜ Tellable (graphOf (decode (now file))) (now labels) (now notes) target ⌝ }
+    ensures { λ r. ⌜ Told (label (now (labels .entry)) target) (hopsIn (now (notes .entry)) target)
+        (roadTo (graphOf (decode (now (file .entry)))) (now (notes .entry)) target)
+        (now (roads .entry)) (now (roads .exit)) r ⌝ }
 {
-    let tick = labels[q.target as usize];
+    let tick = labels[target];
     if tick == NEVER {
         return Answer::Refused(refuse(NO_WAY, 0));
     }
-    let count = path::path(file, l, mask, starts, labels, q, roads);
+    let count = path::path(file, l, notes, target, roads);
     if roads.len() < count {
         return Answer::Refused(refuse(ROADS_SHORT, 0));
     }
@@ -104,9 +106,11 @@ fn search_nodes(
 {
     let mut starts = [0u16; MOST_ARCS];
     times::first_points(file, l, &mut starts);
-    reach(file, l, mask, &starts, q, labels);
-    let answer = tell(file, l, mask, &starts, labels, q, roads);
-    trim(labels, q.target as usize);
+    let mut notes = [0u32; MOST_NODES];
+    reach(file, l, mask, &starts, q, labels, &mut notes);
+    let target = q.target as usize;
+    let answer = tell(file, l, labels, &notes, target, roads);
+    trim(labels, target);
     answer
 }
 

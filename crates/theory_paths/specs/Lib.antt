@@ -6,7 +6,10 @@ pub mod Drive
 pub mod Simple
 pub mod Earliest
 pub mod Labels
+pub mod Hops
 pub mod Chosen
+pub mod Ties
+pub mod Same
 pub mod Agree
 pub mod Profiles
 pub mod Flags

@@ -9,7 +9,11 @@
 //   Earliest  `earliest-unique`, `closed-exact`: labels closed below a bound are the earliest arrivals below
 //             it
 //   Labels    `labels-earliest`, `labels-never`: labels that compute, round by round
-//   Chosen    `chosen-path`, `chosen-empty`: the path that is told, back from the target by the lowest arcs
+//   Hops      `hops-counted`: the fewest arcs that lead to a node and reach each of their nodes in time
+//   Chosen    `chosen-is`, `chosen-unique`, `chosen-path`: the path that is told, of the fewest arcs, back
+//             from the target by the lowest
+//   Ties      `ties`: two graphs where other rules for ties would tell another path
+//   Same      `chosen-same`, `chosen-traced`: the path is the same by any exact labels and hops
 //   Agree     `earliest-agree`, `labels-agree`, `chosen-agree`: only the permitted arcs matter
 //   Profiles  `profile-exact`, `toward-exact`: a profile is true exactly where it is right arc by arc
 //   Flags     `arc-flags`, `arc-flags-reach`, `checked-exact`: flagged arcs are enough exactly where the

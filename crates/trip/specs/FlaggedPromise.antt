@@ -9,6 +9,7 @@ use Prim.Native.Nat.{ℕ, _≤_, _<_}
 use native.Mathlib.Omega.{arith}
 use lib.ListN.{length, take}
 use Rattle.theory_paths.specs.Graph.{Graph, Permit, all, Reachable}
+use Rattle.theory_paths.specs.Chosen.{IsChosen}
 use Rattle.theory_paths.specs.Drive.{path-all}
 use Rattle.network.specs.declared.answer.Opening.{Opening}
 use Rattle.network.specs.declared.header.Header.{Header}
@@ -83,6 +84,11 @@ module _ (network plan : List ℕ) {from to departure : ℕ} {arrivals₀ arriva
   pub flagged-arrives : (r : Arrival) → a ≡ answer.Arrived r
       → BestTrip g flagged from departure to (take (r .count) roads₁) r
   flagged-arrives = trip.trip-arrives begins c
+
+  -- they are the chosen way over flagged roads
+  pub flagged-chosen : (r : Arrival) → a ≡ answer.Arrived r
+      → IsChosen g flagged from departure to (take (r .count) roads₁)
+  flagged-chosen = trip.trip-chosen begins c
 
   -- from a place to itself the answer is the departure, with no road
   pub flagged-home : Passed before → from ≡ to → a ≡ answer.Arrived (record { tick = departure; count = 0 })

@@ -8,6 +8,7 @@ use Prim.Native.Nat.{ℕ, _≤_, _<_}
 use native.Mathlib.Omega.{arith}
 use lib.ListN.{length, take}
 use Rattle.theory_paths.specs.Graph.{Graph, all, Reachable}
+use Rattle.theory_paths.specs.Chosen.{IsChosen}
 use Rattle.network.specs.declared.answer.Opening.{Opening}
 use Rattle.network.specs.declared.answer.Opening.the-variants.{Opened}
 use Rattle.network.specs.declared.header.Header.{Header}
@@ -83,6 +84,11 @@ module _ (network : List ℕ) {from to departure : ℕ} {arrivals₀ arrivals₁
   pub plain-arrives : (r : Arrival) → a ≡ answer.Arrived r
       → BestTrip g all from departure to (take (r .count) roads₁) r
   plain-arrives = trip.trip-arrives begins c
+
+  -- they are the chosen way: in time at each of their places, of the fewest, the lowest at each step back
+  pub plain-chosen : (r : Arrival) → a ≡ answer.Arrived r
+      → IsChosen g all from departure to (take (r .count) roads₁)
+  plain-chosen = trip.trip-chosen begins c
 
   -- from a place to itself the answer is the departure, with no road
   pub plain-home : Passed before → from ≡ to → a ≡ answer.Arrived (record { tick = departure; count = 0 })

@@ -13,6 +13,7 @@ use Rattle.theory_paths.specs.Graph.{Graph, Permit, IsPath, driven, waited, Rea
 use Rattle.theory_paths.specs.Drive.{earliest-waiting}
 use Rattle.theory_paths.specs.Earliest.{never}
 use Rattle.theory_paths.specs.Labels.{labels}
+use Rattle.theory_paths.specs.Chosen.{IsChosen}
 use Rattle.file_refusals.specs.declared.Refusal.{Refusal}
 use Rattle.file_refusals.specs.Numbered.{Numbered}
 use Rattle.network.specs.declared.answer.Opening.{Opening}
@@ -71,12 +72,13 @@ pub record Begins (b : Opening) (g : Graph) (s t x room : ℕ) : Type 0 where
   pub opened : (h : Header) → b ≡ Opened h → Leaves g s t x room
 
 -- An arrival of a trip: nothing before the search was refused; the path is listed whole, and no longer than a
--- path of all nodes; and none beats it.
+-- path of all nodes; none beats it, and it is the way of document 02.
 pub record Arrives (b : Opening) (g : Graph) (p : Permit) (s t x free : ℕ) (r : Arrival) : Type 0 where
   pub passed : Passed b
   pub fits : r .count ≤ free
   pub few : r .count ≤ mostRoads
   pub best : BestTrip g p s x t (pathOf g p s t x) r
+  pub chosen : IsChosen g p s x t (pathOf g p s t x)
 
 -- how a trip ends
 data Ends (b : Opening) (g : Graph) (p : Permit) (s t x room free : ℕ) (a : Answer) : Type 0 where
@@ -121,9 +123,9 @@ module _ {b : Opening} {g : Graph} {s t x room : ℕ} (w : Begins b g s t x room
       back f n (refused r i l m z) = opened-refused f i
       back f n (searches h i k (no-way u z)) = number-is z
       back f n (searches h i k (too-short j y l z)) =
-          absurd (n (record { path = pathOf g p s t x; leads = y .leads }))
+          absurd (n (record { path = pathOf g p s t x; leads = y .chosen .leads }))
       back f n (searches h i k (arrives r z c l y)) =
-          absurd (n (record { path = pathOf g p s t x; leads = y .leads }))
+          absurd (n (record { path = pathOf g p s t x; leads = y .chosen .leads }))
 
   pub trip-short : (tripSays a .number ≡ 29) ↔
       (Passed b × Reachable g p s t × (free < length (pathOf g p s t x)))
@@ -134,7 +136,7 @@ module _ {b : Opening} {g : Graph} {s t x room : ℕ} (w : Begins b g s t x room
       there n (refused r f l m z) = absurd (omega (arith, number-is z))
       there n (searches h f k (no-way u z)) = absurd (omega (arith, number-is z))
       there n (searches h f k (too-short i y l z)) =
-          ((h, f), record { path = pathOf g p s t x; leads = y .leads }, l)
+          ((h, f), record { path = pathOf g p s t x; leads = y .chosen .leads }, l)
       there n (searches h f k (arrives r z c l y)) = absurd (omega (arith, number-is z))
 
       back : {h : Header} → b ≡ Opened h → Reachable g p s t → free < length (pathOf g p s t x)
@@ -170,13 +172,14 @@ module _ {b : Opening} {g : Graph} {s t x room : ℕ} (w : Begins b g s t x room
         fits = l;
         few = omega (arith, y .few, k .leaving .few);
         best = record {
-          leads = y .leads;
+          leads = y .chosen .leads;
           counted = c;
           drives = y .drives;
           earliest = y .earliest;
           waits = λ w ds j. earliest-waiting (k .leaving .ok) ds (y .earliest) j;
           early = omega (arith, before-never (k .leaving) (y .earliest));
         };
+        chosen = y .chosen;
       })
 
   -- where there is room for every path, 29 is not said
@@ -227,6 +230,9 @@ module _ {b : Opening} {g : Graph} {p : Permit} {s t x : ℕ} {arrivals₀ arriv
     (c : TripCall b g p s t x arrivals₀ arrivals₁ roads₀ roads₁ a) where
   pub trip-arrives : (r : Arrival) → a ≡ answer.Arrived r → BestTrip g p s x t (take (r .count) roads₁) r
   trip-arrives r q = rw (call-roads c r q) (trip-arrived w p (length roads₀) (c .answer) r q .best)
+
+  pub trip-chosen : (r : Arrival) → a ≡ answer.Arrived r → IsChosen g p s x t (take (r .count) roads₁)
+  trip-chosen r q = rw (call-roads c r q) (trip-arrived w p (length roads₀) (c .answer) r q .chosen)
 
   pub lists-good : Passed b → (Reachable g p s t → length (pathOf g p s t x) ≤ length roads₀)
       → AsGoodAsAny g p s x t (listed a roads₁) a

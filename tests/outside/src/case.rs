@@ -4,10 +4,12 @@ use crate::draft::{Drafts, NetworkDraft, PlanDraft};
 use crate::generate::{town, Size};
 use crate::input::Input;
 use crate::made;
+use crate::oracle::{unlike, WORTH};
 use crate::planner::{exact_plan, work};
 use crate::reference::make_plan::MakeLengths;
 use crate::reference::network::{self, Network};
-use crate::reference::trips::{least_arrivals, plain_trip, ListLengths, TripCall};
+use crate::reference::plan::Plan;
+use crate::reference::trips::{flagged_trip, least_arrivals, plain_trip, ListLengths, Trip, TripCall};
 use crate::rng::Rng;
 
 pub struct Case {
@@ -18,6 +20,8 @@ pub struct Case {
     pub spare: usize,
     /// How many arcs the plain trip's chosen way has.
     pub roads: usize,
+    /// How many the flagged trip's has.
+    pub flagged_roads: usize,
     /// How long the planner's lists have to be, and how many entries longer they are.
     pub make_needs: MakeLengths,
     pub make_spare: usize,
@@ -45,14 +49,21 @@ pub fn generate(rng: &mut Rng, size: Size) -> Case {
             draft.tables.cells.fill(0);
             planned(rng, &draft, usize::MAX).expect("a town without borders has no profiles")
         });
-    let call = reachable_pair(rng, &network);
+    let drafts = Drafts { network: draft, plan };
+    // Trips look at a plan's flags alone.
+    let plan = Plan { borders: Vec::new(), flags: drafts.plan.flags.clone(), profiles: Vec::new() };
+    let call = telling_call(rng, &network, &plan);
     let any_list = ListLengths { arrivals: 512, roads: 512 };
-    let roads = plain_trip(&network, call, any_list).answer.map_or(0, |arrived| arrived.roads.len());
-    let make_needs = made::of(&draft.file(), &network).needs;
+    let roads = roads_of(plain_trip(&network, call, any_list));
+    let flagged_roads = roads_of(flagged_trip(&network, &plan, call, any_list));
+    let make_needs = made::of(&drafts.network.file(), &network).needs;
     // A planner that clears a block or a row too many needs room for it.
     let make_spare = rng.pick(&[0, 0, 1, 3, 512, 1_100]);
-    let drafts = Drafts { network: draft, plan };
-    Case { drafts, network, call, spare: rng.below(4), roads, make_needs, make_spare }
+    Case { drafts, network, call, spare: rng.below(4), roads, flagged_roads, make_needs, make_spare }
+}
+
+fn roads_of(trip: Trip) -> usize {
+    trip.answer.map_or(0, |arrived| arrived.roads.len())
 }
 
 /// The opened town and its exact plan, unless that takes too much work or too many points.
@@ -74,6 +85,22 @@ fn leave_few_borders(rng: &mut Rng, draft: &mut NetworkDraft) {
 
 fn open(file: &[u8]) -> Network {
     network::open(file).expect("a generated town opens")
+}
+
+/// Of some calls the one that best tells wish 2's rule from others: most calls tell it from none.
+fn telling_call(rng: &mut Rng, network: &Network, plan: &Plan) -> TripCall {
+    let calls = rng.pick(&[1, 1, 4, if network.nodes() > 100 { 4 } else { 12 }]);
+    let calls: Vec<TripCall> = (0..calls).map(|_| reachable_pair(rng, network)).collect();
+    if calls.len() == 1 {
+        return calls[0];
+    }
+    let worth = |call: &TripCall| -> u32 {
+        let both = [None, Some(plan)].map(|plan| unlike(network, plan, *call).unwrap_or_default());
+        both.iter()
+            .map(|unlike| WORTH.iter().zip(unlike).map(|(worth, &told)| worth * u32::from(told)).sum::<u32>())
+            .sum()
+    };
+    calls.into_iter().max_by_key(worth).expect("there are calls")
 }
 
 /// A pair with a way between them, the same node twice where chance or the town leaves no other.

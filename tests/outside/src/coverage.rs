@@ -1,7 +1,9 @@
 //! Which refusals occurred: for each operation and number, by a fault alone and beside a second one.
-//! At the end every refusal that documents 01 and 02 let an operation give must have occurred both ways.
+//! At the end every refusal that documents 01 and 02 let an operation give must have occurred both ways. And
+//! how many trips of valid cases tell wish 2's rule for ties from others: each has to be told from it.
 
 use crate::library::*;
+use crate::oracle::{Unlike, RULES};
 
 /// Refusals up to 34; 32 is the run sheet's.
 const NUMBERS: usize = 35;
@@ -9,11 +11,21 @@ const NUMBERS: usize = 35;
 pub struct Coverage {
     alone: [[u64; NUMBERS]; COUNT],
     second: [[u64; NUMBERS]; COUNT],
+    /// By plain and flagged trips: how many there were, and how many take another way by each other rule.
+    trips: [u64; 2],
+    unlike: [[u64; RULES.len()]; 2],
 }
+
+const TRIPS: [&str; 2] = ["plain", "flagged"];
 
 impl Default for Coverage {
     fn default() -> Coverage {
-        Coverage { alone: [[0; NUMBERS]; COUNT], second: [[0; NUMBERS]; COUNT] }
+        Coverage {
+            alone: [[0; NUMBERS]; COUNT],
+            second: [[0; NUMBERS]; COUNT],
+            trips: [0; 2],
+            unlike: [[0; RULES.len()]; 2],
+        }
     }
 }
 
@@ -26,12 +38,26 @@ impl Coverage {
         self.second[operation][refusal as usize] += 1;
     }
 
+    /// A trip, plain (0) or flagged (1), and which rules would take another way on it.
+    pub fn tie(&mut self, trip: usize, unlike: Unlike) {
+        self.trips[trip] += 1;
+        for (count, unlike) in self.unlike[trip].iter_mut().zip(unlike) {
+            *count += u64::from(unlike);
+        }
+    }
+
     /// Counts what another run met as well.
     pub fn add(&mut self, other: &Coverage) {
         for operation in 0..COUNT {
             for refusal in 0..NUMBERS {
                 self.alone[operation][refusal] += other.alone[operation][refusal];
                 self.second[operation][refusal] += other.second[operation][refusal];
+            }
+        }
+        for trip in 0..TRIPS.len() {
+            self.trips[trip] += other.trips[trip];
+            for rule in 0..RULES.len() {
+                self.unlike[trip][rule] += other.unlike[trip][rule];
             }
         }
     }
@@ -52,9 +78,16 @@ impl Coverage {
             }
             println!();
         }
+        println!(
+            "ways of {} plain and {} flagged trips that another rule would not take",
+            self.trips[0], self.trips[1]
+        );
+        for (rule, name) in RULES.iter().enumerate() {
+            println!("{:>8} {:>8}  {name}", self.unlike[0][rule], self.unlike[1][rule]);
+        }
     }
 
-    /// The refusals that should have occurred and did not.
+    /// The refusals that should have occurred and did not, and the rules for ties that no trip told apart.
     pub fn missing(&self) -> Vec<String> {
         let mut missing = Vec::new();
         for (operation, name) in OPERATIONS.iter().enumerate() {
@@ -67,8 +100,20 @@ impl Coverage {
                 }
             }
         }
+        for (trip, trips) in TRIPS.iter().enumerate() {
+            for (rule, name) in RULES.iter().enumerate() {
+                if self.unlike[trip][rule] == 0 && can_take_another_way(trip, rule) {
+                    missing.push(format!("no {trips} trip tells \"{name}\" from the chosen way"));
+                }
+            }
+        }
         missing
     }
+}
+
+/// All roads are permitted on a plain trip: that rule, the last, cannot differ there.
+fn can_take_another_way(trip: usize, rule: usize) -> bool {
+    trip == 1 || rule + 1 < RULES.len()
 }
 
 /// The refusals an operation can give. The trips called from C have a fresh list of 512 arrivals, never

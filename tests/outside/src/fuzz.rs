@@ -1,6 +1,7 @@
 //! The endless loop: valid Quay-sized inputs and kept ones, mutated byte by byte with and without mended
 //! checks, through all functions. Inputs with a difference are written out; so are inputs that reach a
-//! combination of operation, refusal and place not met before, while the folder is small.
+//! combination of operation, refusal and place not met before, or tell other rules for ties than those
+//! before, while the folder is small.
 
 use crate::case::generate;
 use crate::compare::{compare, Verdict};
@@ -8,7 +9,8 @@ use crate::corpus::{read_folder, to_bytes};
 use crate::damage::{flip, mend_all, zero_for_all_ones};
 use crate::generate::Size;
 use crate::input::Input;
-use crate::library::OPERATIONS;
+use crate::library::{FLAGGED_LISTS, OPERATIONS, PLAIN_LISTS};
+use crate::oracle::unlike;
 use crate::quay;
 use crate::reference::blocks::BLOCK;
 use crate::reference::trips::TripCall;
@@ -21,11 +23,12 @@ use std::time::{Duration, Instant};
 use std::{fs, io};
 
 /// The folder's files stay below this in all.
-const MOST_BYTES: usize = 300_000;
+const MOST_BYTES: usize = 360_000;
 /// Inputs are kept only if their files have at most this many blocks together.
 const MOST_BLOCKS: usize = 8;
 
-/// Operation, refusal, and how far on its first two places are.
+/// Operation, refusal, and how far on its first two places are; for a trip that arrives, which rules for ties
+/// it tells from wish 2's.
 type Reached = (usize, u32, u32, u32);
 
 /// An input that was new when it came, and what it reaches.
@@ -51,7 +54,7 @@ pub fn fuzz(seed: u64, folder: &Path, seconds: Option<u64>) -> io::Result<u64> {
     let mut fuzzer =
         Fuzzer { rng: Rng::new(seed, u64::MAX), folder, kept: Vec::new(), reached: HashMap::new(), differences: 0 };
     for (path, input) in read_folder(folder)? {
-        let reaches = combinations(&compare(&input));
+        let reaches = combinations(&input, &compare(&input));
         fuzzer.keep(path, input, reaches);
     }
     let started = Instant::now();
@@ -97,7 +100,7 @@ impl Fuzzer<'_> {
         if !verdict.differences.is_empty() {
             return self.write_difference(&input, &verdict);
         }
-        let reaches = combinations(&verdict);
+        let reaches = combinations(&input, &verdict);
         let blocks = (input.network.len() + input.plan.len()).div_ceil(BLOCK);
         if blocks > MOST_BLOCKS || reaches.iter().all(|reached| self.reached.contains_key(reached)) {
             return Ok(());
@@ -158,13 +161,25 @@ fn quay_call(rng: &mut Rng) -> Input {
 }
 
 /// 0, 1 and more are told apart: what matters of a place is whether it was the first.
-fn combinations(verdict: &Verdict) -> Vec<Reached> {
+fn combinations(input: &Input, verdict: &Verdict) -> Vec<Reached> {
     (0..OPERATIONS.len())
         .map(|operation| match verdict.predicted[operation] {
             Some(refusal) => (operation, refusal.number, refusal.places[0].min(2), refusal.places[1].min(1)),
-            None => (operation, 0, 0, 0),
+            None => (operation, 0, rules_told(operation, input, verdict), 0),
         })
         .collect()
+}
+
+/// A bit for each rule that would take another way; 0 where the operation is none of the trips with lists.
+fn rules_told(operation: usize, input: &Input, verdict: &Verdict) -> u32 {
+    let Ok(network) = &verdict.opened else { return 0 };
+    let unlike = match (operation, &verdict.planned) {
+        (PLAIN_LISTS, _) => unlike(network, None, input.call),
+        (FLAGGED_LISTS, Ok(plan)) => unlike(network, Some(plan), input.call),
+        _ => None,
+    };
+    let rules = unlike.unwrap_or_default().into_iter().enumerate();
+    rules.map(|(rule, told)| u32::from(told) << rule).sum()
 }
 
 fn mutate(rng: &mut Rng, input: &mut Input) {

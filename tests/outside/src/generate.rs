@@ -1,9 +1,12 @@
-//! Seeded valid towns of every shape document 01 allows, from one node without an arc to a full town.
-//! Sizes are what a run can afford; `planner` makes the exact plans for them.
+//! Seeded valid towns of every shape document 01 allows, from one node without an arc to a full town, and
+//! among them towns full of ties. Sizes are what a run can afford; `planner` makes the exact plans for them.
+
+mod ties;
 
 use crate::draft::NetworkDraft;
 use crate::reference::network::{Header, Tables, MOST_ARCS, MOST_CELLS, MOST_NODES, MOST_PERIOD, MOST_POINTS};
 use crate::rng::Rng;
+use ties::Ties;
 
 /// How large a case may be.
 #[derive(Clone, Copy, PartialEq, Eq, Debug)]
@@ -29,6 +32,7 @@ struct Shape {
     points: usize,
     /// The first arcs lead round through all nodes, so that every node reaches every other.
     ring: bool,
+    ties: Option<Ties>,
 }
 
 pub fn town(rng: &mut Rng, size: Size) -> NetworkDraft {
@@ -47,7 +51,9 @@ pub fn town(rng: &mut Rng, size: Size) -> NetworkDraft {
 }
 
 fn shape(rng: &mut Rng, size: Size) -> Shape {
+    let has_ties = size != Size::Full && rng.once_in(3);
     let (period, nodes, arcs) = match size {
+        Size::Small if has_ties => (rng.within(2, 15), rng.within(3, 7), rng.within(3, 16).max(8)),
         Size::Tiny => (rng.within(1, 5), rng.within(1, 4), rng.within(0, 5)),
         Size::Small => (small_period(rng), small_nodes(rng), rng.within(0, 14).max(rng.below(5))),
         Size::Medium => (
@@ -67,6 +73,7 @@ fn shape(rng: &mut Rng, size: Size) -> Shape {
         cells: if size == Size::Full { MOST_CELLS as usize } else { cell_count(rng, nodes) },
         points,
         ring: size == Size::Full || nodes > 1 && arcs >= nodes && rng.once_in(2),
+        ties: (has_ties && nodes > 1).then(|| Ties::new(rng, nodes)),
     }
 }
 
@@ -145,18 +152,22 @@ fn arcs(rng: &mut Rng, shape: &Shape, tables: &mut Tables) {
         // A town that is to be full spends at least its share on each arc.
         let is_full = shape.points == MOST_POINTS as usize;
         let count = if is_full { fair.max(count.min(most)) } else { count.min(fair * 2).min(most) };
-        points_left -= count;
         tables.from.push(from as u16);
         tables.to.push(to as u16);
-        tables.counts.push(count as u16);
-        for (tick, travel) in fifo_points(rng, shape.period, most_travel, count) {
+        let points = match shape.ties {
+            Some(ties) if !rng.once_in(12) => ties.points(rng, shape.period, (from, to), count),
+            _ => fifo_points(rng, shape.period, most_travel, count),
+        };
+        points_left -= points.len();
+        tables.counts.push(points.len() as u16);
+        for (tick, travel) in points {
             tables.ticks.push(tick as u16);
             tables.travels.push(travel as u16);
         }
     }
 }
 
-/// Two different nodes: anywhere, beside each other, or the ends of an earlier arc again.
+/// Two different nodes: anywhere, beside each other, on a grid, or the ends of an earlier arc again.
 fn ends(rng: &mut Rng, shape: &Shape, tables: &Tables, style: usize, number: usize) -> (usize, usize) {
     if shape.ring && number < shape.nodes {
         return (number, (number + 1) % shape.nodes);
@@ -164,6 +175,9 @@ fn ends(rng: &mut Rng, shape: &Shape, tables: &Tables, style: usize, number: usi
     if number > 0 && rng.once_in(5) {
         let parallel = rng.below(number);
         return (usize::from(tables.from[parallel]), usize::from(tables.to[parallel]));
+    }
+    if let Some(ties) = shape.ties {
+        return ties.ends(rng, shape.nodes);
     }
     let from = rng.below(shape.nodes);
     let step = match style {

@@ -118,6 +118,7 @@ fn run_cases(seed: u64, cases: u64, large: u64) -> u64 {
     let mut runner = runner(seed);
     let parts = [
         (Series::Towns, towns::COUNT, "towns made on purpose"),
+        (Series::Ways, towns::ties::COUNT, "towns made for ties"),
         (Series::Small, cases, "small cases"),
         (Series::Large, large, "large cases"),
     ];
@@ -136,7 +137,8 @@ fn run_cases(seed: u64, cases: u64, large: u64) -> u64 {
     } else {
         println!("fewer than {CASES_THAT_MEET_ALL} small cases: not held to meeting every refusal");
     }
-    println!("outside: {} cases, {differences} differences", towns::COUNT + cases + large);
+    let count: u64 = parts.iter().map(|(_, count, _)| count).sum();
+    println!("outside: {count} cases, {differences} differences");
     differences
 }
 

@@ -3,6 +3,7 @@
 //! Each function returns a line of text for a demand that the reference itself does not meet.
 
 mod made_plan;
+mod ties;
 
 use crate::reference::check::check;
 use crate::reference::network::Network;
@@ -10,6 +11,7 @@ use crate::reference::plan::{profile_at, Plan};
 use crate::reference::trips::{drive, flagged_trip, least_arrivals, ListLengths, TripCall};
 
 pub use made_plan::{judge_flags_by_ways, judge_made_plan, trips_are_plain};
+pub use ties::{document_01s_way, judge_chosen_ways, unlike, Unlike, RULES, WORTH};
 
 /// Least arrivals over all arcs, by starting node, tick below P, and node.
 type Least = Vec<Vec<Vec<Option<u64>>>>;

@@ -1,9 +1,11 @@
-//! Quay town, document 01's own example: built from its words and held to every row of its table.
+//! Quay town, document 01's own example: built from its words and held to every row of its table, with the
+//! ways that wish 2 gives it.
 
 use crate::compare::compare;
 use crate::draft::{Drafts, NetworkDraft, PlanDraft, PlanHeader};
 use crate::input::Input;
 use crate::library::{CHECK, FLAGGED_LISTS, OPEN, PLAIN_LISTS};
+use crate::oracle::document_01s_way;
 use crate::reference::blocks::BLOCK;
 use crate::reference::network::{self, Header, Tables};
 use crate::reference::trips::{flagged_trip, plain_trip, Arrived, ListLengths, TripCall};
@@ -42,13 +44,14 @@ pub fn failures() -> Vec<String> {
     let mut failures = Vec::new();
     files_and_travels(&mut failures);
     trips(&mut failures);
+    changed_ways(&mut failures);
     altered_towns(&mut failures);
     failures
 }
 
 fn expect<T: PartialEq + std::fmt::Debug>(failures: &mut Vec<String>, row: &str, found: T, wanted: T) {
     if found != wanted {
-        failures.push(format!("Quay town, {row}: {found:?}, document 01 says {wanted:?}"));
+        failures.push(format!("Quay town, {row}: {found:?}, the documents say {wanted:?}"));
     }
 }
 
@@ -82,20 +85,67 @@ fn trip(failures: &mut Vec<String>, call: TripCall, wanted: Result<Arrived, Refu
     expect(failures, "flagged refusal", verdict.predicted[FLAGGED_LISTS], refused);
 }
 
+/// Document 01's rows with wish 2's ways, and then all pairs and ticks.
 fn trips(failures: &mut Vec<String>) {
     let arrives = |tick, roads: &[u16]| Ok(Arrived { tick, roads: roads.to_vec() });
     let no_way = Err(Refusal { number: 28, places: [0; 3] });
-    trip(failures, TripCall { from: 0, to: 3, departure: 0 }, arrives(7, &[0, 1, 3]));
+    trip(failures, TripCall { from: 0, to: 3, departure: 0 }, arrives(7, &[2, 3]));
     trip(failures, TripCall { from: 0, to: 3, departure: 1 }, arrives(8, &[2, 3]));
     trip(failures, TripCall { from: 0, to: 3, departure: 8 }, arrives(14, &[0, 1, 3]));
     trip(failures, TripCall { from: 0, to: 3, departure: 7 }, arrives(13, &[0, 1, 3]));
-    for departure in 0..10 {
-        trip(failures, TripCall { from: 3, to: 0, departure }, no_way.clone());
-    }
     trip(failures, TripCall { from: 3, to: 3, departure: 4 }, arrives(4, &[]));
-    // Road 1 through the library: from place 1 to 2 there is no other.
-    for (departure, travel) in (0..10).zip([3, 3, 4, 5, 6, 7, 6, 5, 4, 3]) {
-        trip(failures, TripCall { from: 1, to: 2, departure }, arrives(departure + travel, &[1]));
+    for departure in 0..10 {
+        for (from, to) in (0..4).flat_map(|from| (0..4).map(move |to| (from, to))) {
+            let wanted = way_at(from, to, departure as usize);
+            let wanted = wanted.map_or(no_way.clone(), |(travel, roads)| arrives(departure + travel, roads));
+            trip(failures, TripCall { from, to, departure }, wanted);
+        }
+    }
+}
+
+/// Travel and roads by hand: road 1 as document 01 tells it, and from 0 to 2 road 2 takes 6 at any tick,
+/// roads 0 and 1 take 6 7 8 9 8 7 6 5 5 5.
+fn way_at(from: u32, to: u32, tick: usize) -> Option<(u32, &'static [u16])> {
+    let road_1 = [3, 3, 4, 5, 6, 7, 6, 5, 4, 3][tick];
+    match (from, to) {
+        (0, 1) => Some((2, &[0])),
+        (0, 2) if tick < 7 => Some((6, &[2])),
+        (0, 2) => Some((5, &[0, 1])),
+        (0, 3) if tick < 7 => Some((7, &[2, 3])),
+        (0, 3) => Some((6, &[0, 1, 3])),
+        (1, 2) => Some((road_1, &[1])),
+        (1, 3) => Some((road_1 + 1, &[1, 3])),
+        (2, 3) => Some((1, &[3])),
+        _ => (from == to).then_some((0, &[])),
+    }
+}
+
+/// "In Quay town the ways that change are from 0 to 2 and from 0 to 3, leaving at 0 and at 6: they now take
+/// road 2 in place of roads 0 and 1."
+fn changed_ways(failures: &mut Vec<String>) {
+    let drafts = drafts();
+    let network = network::open(&drafts.network.file()).expect("Quay town opens");
+    let plan = plan::open(&network, &drafts.plan.file()).expect("its plan is well-formed");
+    for plan in [None, Some(&plan)] {
+        let mut changed = Vec::new();
+        for (from, to) in (0..4).flat_map(|from| (0..4).map(move |to| (from, to))) {
+            for departure in 0..10 {
+                let call = TripCall { from, to, departure };
+                let before = document_01s_way(&network, plan, call);
+                let now = way_at(from, to, departure as usize).map(|(_, roads)| roads.to_vec());
+                if before != now {
+                    changed.push((from, to, departure, (before, now)));
+                }
+            }
+        }
+        let ways = |before: &[u16], now: &[u16]| (Some(before.to_vec()), Some(now.to_vec()));
+        let wanted = vec![
+            (0, 2, 0, ways(&[0, 1], &[2])),
+            (0, 2, 6, ways(&[0, 1], &[2])),
+            (0, 3, 0, ways(&[0, 1, 3], &[2, 3])),
+            (0, 3, 6, ways(&[0, 1, 3], &[2, 3])),
+        ];
+        expect(failures, "ways that change", changed, wanted);
     }
 }
 

@@ -1,6 +1,6 @@
-//! Document 01 and wish 1 of document 02, written down a second time and as naively as they read: files are
-//! plain lists, every rule stands in the document's order, and nothing here was taken from the proved crates.
-//! The documents' place is a node here and their road an arc, as the field calls them.
+//! Document 01 and wishes 1 and 2 of document 02, written down a second time and as naively as they read:
+//! files are plain lists, every rule stands in the document's order, and nothing here was taken from the
+//! proved crates. The documents' place is a node here and their road an arc, as the field calls them.
 
 pub mod blocks;
 pub mod check;
@@ -9,6 +9,7 @@ pub mod make_plan;
 pub mod network;
 pub mod plan;
 pub mod trips;
+pub mod ways;
 
 /// "4,294,967,295 (never)".
 pub const NEVER: u32 = u32::MAX;

@@ -1,6 +1,7 @@
 //! Goes through the cases of a run: the valid case, one fault, another, and both at once, each through all
 //! functions and, where the town is small enough, past the oracles. Towns made on purpose are cases too.
 
+mod tie_town;
 mod town;
 
 use crate::case::{generate, Case};
@@ -11,7 +12,8 @@ use crate::generate::Size;
 use crate::input::Input;
 use crate::library::OPERATIONS;
 use crate::made::Written;
-use crate::oracle::{judge_flags_by_ways, judge_made_plan, judge_plan, judge_ways_with_waits, trips_are_plain};
+use crate::oracle::{judge_chosen_ways, judge_flags_by_ways, judge_made_plan, judge_plan};
+use crate::oracle::{judge_ways_with_waits, trips_are_plain, unlike};
 use crate::reference::network;
 use crate::rng::Rng;
 use crate::towns;
@@ -20,18 +22,30 @@ use crate::towns;
 pub enum Series {
     Small,
     Large,
-    /// Towns made on purpose, whatever the seed.
+    /// Towns made on purpose for the planner, whatever the seed.
     Towns,
+    /// Towns made on purpose for the ways chosen on a tie, whatever the seed.
+    Ways,
 }
 
 impl Series {
-    pub const ALL: [Series; 3] = [Series::Small, Series::Large, Series::Towns];
+    pub const ALL: [Series; 4] = [Series::Small, Series::Large, Series::Towns, Series::Ways];
 
     pub fn letter(self) -> char {
         match self {
             Series::Small => 's',
             Series::Large => 'l',
             Series::Towns => 't',
+            Series::Ways => 'w',
+        }
+    }
+
+    /// How many towns there are, in a series of towns made on purpose.
+    pub fn made_on_purpose(self) -> Option<u64> {
+        match self {
+            Series::Small | Series::Large => None,
+            Series::Towns => Some(towns::COUNT),
+            Series::Ways => Some(towns::ties::COUNT),
         }
     }
 }
@@ -54,7 +68,7 @@ impl CaseName {
         let letter = text.chars().next()?;
         let series = Series::ALL.into_iter().find(|series| series.letter() == letter)?;
         let number = text[1..].parse().ok()?;
-        (series != Series::Towns || number < towns::COUNT).then_some(CaseName { series, number })
+        series.made_on_purpose().is_none_or(|count| number < count).then_some(CaseName { series, number })
     }
 
     fn size(self) -> Size {
@@ -126,6 +140,14 @@ impl Trial<'_> {
         }
     }
 
+    /// What wish 2 says of the ways of all trips, over all arcs and under the input's plan.
+    fn judge_chosen_ways(&mut self, verdict: &Verdict) {
+        let (Ok(network), Ok(plan)) = (&verdict.opened, &verdict.planned) else { return };
+        for text in [None, Some(plan)].into_iter().filter_map(|plan| judge_chosen_ways(network, plan)) {
+            self.differ(&text);
+        }
+    }
+
     /// All trips under the input's plan.
     fn compare_all_trips(&mut self, input: &Input, verdict: &Verdict) {
         for text in compare_all_trips(input, verdict) {
@@ -151,9 +173,14 @@ fn written_by(verdict: &Verdict) -> Option<&Written> {
 
 impl Runner {
     pub fn run(&mut self, name: CaseName) {
-        if name.series == Series::Towns {
-            return self.run_town(name);
+        match name.series {
+            Series::Towns => self.run_town(name),
+            Series::Ways => self.run_tie_town(name),
+            Series::Small | Series::Large => self.run_generated(name),
         }
+    }
+
+    fn run_generated(&mut self, name: CaseName) {
         let mut rng = Rng::new(self.seed, name.stream());
         let case = generate(&mut rng, name.size());
         let town = case.network.nodes() * case.network.header.period as usize;
@@ -226,11 +253,24 @@ impl Runner {
         }
         if oracles {
             trial.judge_made_plan(&verdict, name.size() == Size::Tiny);
+            if name.number.is_multiple_of(12) {
+                trial.judge_chosen_ways(&verdict);
+            }
         }
+        self.count_ties(case, &verdict);
         for operation in 0..OPERATIONS.len() {
             self.coverage.alone(operation, verdict.refusal(operation));
         }
         verdict
+    }
+
+    /// Which other rules the case's trips tell from the wish's.
+    fn count_ties(&mut self, case: &Case, verdict: &Verdict) {
+        for (flagged, plan) in [None, verdict.planned.as_ref().ok()].into_iter().enumerate() {
+            if let Some(unlike) = unlike(&case.network, plan, case.call) {
+                self.coverage.tie(flagged, unlike);
+            }
+        }
     }
 
     fn all_trips(&mut self, name: CaseName, case: &Case, valid: &Verdict) {

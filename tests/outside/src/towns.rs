@@ -1,8 +1,10 @@
 //! Towns made on purpose for the planner, each with the plan that wish 1's words give for it, worked out by
-//! hand. They hold the reference to the wish a second time, as `Intended` does for the faults.
+//! hand; `ties` has those for wish 2. They hold the reference to the wishes a second time, as `Intended` does
+//! for the faults.
 
 mod limits;
 mod small;
+pub mod ties;
 
 use crate::draft::NetworkDraft;
 use crate::made::Made;

@@ -4,9 +4,6 @@ use borrow.Author.Needs.{needs}
 use Rattle.search_path.proofs.tell.Statement.{statement}
 use Rattle.search_path.proofs.tell.Tie as tie
 
-cast-tick : tie.Need-cast-tick
-cast-tick c = search needs
-
 mul-tick : tie.Need-mul-tick
 mul-tick c = search needs
 
@@ -20,7 +17,7 @@ returns : tie.Need-returns
 returns c = search tells
 
 path-requires : tie.Need-path-requires
-path-requires c κs = search tells
+path-requires c κs = (search needs, (search tells, search needs))
 
 refuse-requires-2 : tie.Need-refuse-requires-2
 refuse-requires-2 c κs = search needs
@@ -41,7 +38,6 @@ pub tell-spec : {M : Type 1} → statement M
 tell-spec =
     tie.close
     (tie.spec
-    cast-tick
     mul-tick
     shared-slice-read-tick
     refuse-requires

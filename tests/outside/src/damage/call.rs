@@ -16,6 +16,8 @@ pub fn kinds() -> Vec<Kind> {
         Kind { name: "no way", intended: Gives(FLAGGED_LISTS, &[28]), make: no_way },
         Kind { name: "road list too short", intended: Gives(PLAIN_LISTS, &[29]), make: roads_short },
         Kind { name: "road list just long enough", intended: Gives(PLAIN_LISTS, &[0]), make: roads_just_enough },
+        Kind { name: "flagged road list short", intended: Gives(FLAGGED_LISTS, &[29]), make: flagged_short },
+        Kind { name: "flagged road list enough", intended: Gives(FLAGGED_LISTS, &[0]), make: flagged_enough },
         Kind { name: "road list empty", intended: Any, make: roads_empty },
         Kind { name: "open's table too short", intended: Gives(OPEN, &[30]), make: open_table_short },
         Kind { name: "pack's table too short", intended: Gives(PACK, &[30]), make: pack_table_short },
@@ -86,6 +88,17 @@ fn roads_short(rng: &mut Rng, case: &Case) -> Option<Fault> {
 
 fn roads_just_enough(_rng: &mut Rng, case: &Case) -> Option<Fault> {
     let length = case.roads;
+    call(move |input| input.lengths.roads = length)
+}
+
+fn flagged_short(rng: &mut Rng, case: &Case) -> Option<Fault> {
+    (case.flagged_roads > 0).then_some(())?;
+    let length = too_few(rng, case.flagged_roads);
+    call(move |input| input.lengths.roads = length)
+}
+
+fn flagged_enough(_rng: &mut Rng, case: &Case) -> Option<Fault> {
+    let length = case.flagged_roads;
     call(move |input| input.lengths.roads = length)
 }
 

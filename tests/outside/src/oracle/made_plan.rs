@@ -82,8 +82,11 @@ fn earliest(network: &Network, node: usize, tick: u64, border: usize, arcs_left:
     goes.chain(stays).min()
 }
 
-/// Under a made plan every arc of the plain trip's chosen way is permitted, and no other comes before it: the
-/// flagged trip is the plain one, roads and all.
+/// Under a made plan the flagged trip is the plain one, roads and all, for the same ways are tight. Each arc
+/// of a plainly tight way is permitted: it lies in the target's cell, or starts a least way to the border by
+/// which the way next gets there. So permitted arcs reach that cell's borders and inner nodes in time. A node
+/// elsewhere that a way tight over permitted arcs reached late would be left for such a border; a least way
+/// to the node and the same arcs on are no later there, so all are permitted and the node is not late.
 pub fn trips_are_plain(network: &Network, plan: &Plan) -> Option<String> {
     for from in 0..network.header.nodes {
         for to in 0..network.header.nodes {

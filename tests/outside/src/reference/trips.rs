@@ -1,7 +1,8 @@
-//! Both trips of document 01: refusals 25 to 29, least arrivals, and the chosen way.
+//! Both trips of document 01: refusals 25 to 29 and least arrivals. `ways` has the chosen way.
 
 use super::network::Network;
 use super::plan::Plan;
+use super::ways::{chosen_way, Known};
 use super::{refuse, Refusal, NEVER};
 
 #[derive(Clone, Copy, Debug, PartialEq, Eq)]
@@ -37,28 +38,32 @@ impl Trip {
 }
 
 pub fn plain_trip(network: &Network, call: TripCall, lists: ListLengths) -> Trip {
-    trip(network, call, lists, |_target| vec![true; network.arcs.len()])
+    trip(network, None, call, lists)
 }
 
 pub fn flagged_trip(network: &Network, plan: &Plan, call: TripCall, lists: ListLengths) -> Trip {
-    trip(network, call, lists, |target| {
-        let cell = network.cell_of[target];
-        (0..network.arcs.len()).map(|arc| plan.has_flag(arc, cell)).collect()
-    })
+    trip(network, Some(plan), call, lists)
 }
 
-fn trip(network: &Network, call: TripCall, lists: ListLengths, permitted: impl Fn(usize) -> Vec<bool>) -> Trip {
+/// "Permitted roads are all roads on the plain trip, those with the target cell's bit on the flagged one."
+pub fn permitted(network: &Network, plan: Option<&Plan>, target: usize) -> Vec<bool> {
+    let cell = network.cell_of[target];
+    (0..network.arcs.len()).map(|arc| plan.is_none_or(|plan| plan.has_flag(arc, cell))).collect()
+}
+
+/// The flagged trip under a plan, the plain one without.
+fn trip(network: &Network, plan: Option<&Plan>, call: TripCall, lists: ListLengths) -> Trip {
     if let Err(refusal) = judge_call(network, call, lists) {
         return Trip::refused(refusal);
     }
     let (from, to) = (call.from as usize, call.to as usize);
-    let permitted = permitted(to);
+    let permitted = permitted(network, plan, to);
     let labels = least_arrivals(network, &permitted, from, u64::from(call.departure));
     let Some(arrival) = labels[to] else {
         let arrivals = labels.iter().map(|label| label.map_or(NEVER, |tick| tick as u32)).collect();
         return Trip { answer: refuse(28, 0), arrivals };
     };
-    let roads = chosen_way(network, &permitted, &labels, from, to);
+    let roads = chosen_way(&Known { network, permitted: &permitted, labels: &labels, from, to });
     let answer = if lists.roads < roads.len() { refuse(29, 0) } else { Ok(Arrived { tick: arrival as u32, roads }) };
     Trip { answer, arrivals: shown_arrivals(&labels, to, arrival) }
 }
@@ -111,29 +116,6 @@ fn shown_arrivals(labels: &[Option<u64>], to: usize, arrival: u64) -> Vec<u32> {
             _ => NEVER,
         })
         .collect()
-}
-
-/// "back from the target to the source, take the lowest-numbered permitted road that, taken at its start's
-/// least arrival over permitted roads, ends exactly at this place's."
-fn chosen_way(network: &Network, permitted: &[bool], labels: &[Option<u64>], from: usize, to: usize) -> Vec<u16> {
-    let mut roads = Vec::new();
-    let mut node = to;
-    while node != from {
-        let arc = (0..network.arcs.len())
-            .find(|&arc| {
-                permitted[arc] && network.arcs[arc].to == node && ends_at(network, labels, arc) == labels[node]
-            })
-            .expect("a least arrival is some arc's end");
-        roads.push(arc as u16);
-        node = network.arcs[arc].from;
-    }
-    roads.reverse();
-    roads
-}
-
-fn ends_at(network: &Network, labels: &[Option<u64>], arc: usize) -> Option<u64> {
-    let tick = labels[network.arcs[arc].from]?;
-    Some(tick + network.arc_travel(arc, tick))
 }
 
 /// The arrival of a list of arcs driven from `from` at `departure`, if it is a way to `to`.

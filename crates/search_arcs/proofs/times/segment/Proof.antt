@@ -1,27 +1,25 @@
--- `search_arcs::times::segment` meets its contract: the two ends stand on either side of x, and come together
--- by halves.
-use Prim.Native.Nat.{_-_}
+-- `search_arcs::times::segment` meets its contract: the first point that is left is at or before x, the one
+-- behind the last is after it, and they come together by halves.
+use mathlib.Core.Path.{refl}
+use mathlib.Core.Logic.{⊎-elim}
+use Prim.Native.Nat.{_+_}
 use Rattle.theory_travel.specs.Table.{entryAt}
-use Rattle.theory_travel.specs.Search.{Between, halves}
+use Rattle.theory_travel.specs.Search.{Between}
 use Rattle.network.specs.Decode.{decode}
+use Rattle.search_arcs.specs.Halves.{left-up, left-down, halving}
 use borrow.Author.Needs.{needs}
 use Rattle.search_arcs.proofs.times.segment.Statement.{statement}
 use Rattle.search_arcs.proofs.times.segment.Tie as tie
 
 abbrev Inv-loop : tie.InvT-loop
-Inv-loop file l from count x a₀ b₀ a b = Between (entryAt (decode file .ticks) from) count x a b
+Inv-loop file l from count x a₀ left₀ a left = Between (entryAt (decode file .ticks) from) count x a
+    (a + left)
 
 abbrev μ-loop : tie.MeasureT-loop
-μ-loop file l from count x a₀ b₀ a b = b - a
+μ-loop file l from count x a₀ left₀ a left = left
 
 loop-holds : tie.Need-loop-holds Inv-loop μ-loop
-loop-holds c = search halves
-
-add-loop : tie.Need-add-loop Inv-loop μ-loop
-add-loop c = search needs
-
-sub-m : tie.Need-sub-m Inv-loop μ-loop
-sub-m c = search needs
+loop-holds c = search halving
 
 add-m : tie.Need-add-m Inv-loop μ-loop
 add-m c = search needs
@@ -32,22 +30,26 @@ add-tick c = search needs
 tick-requires : tie.Need-tick-requires Inv-loop μ-loop
 tick-requires c κs = (c .before .before .before .pre .0, search needs)
 
+sub-left : tie.Need-sub-left Inv-loop μ-loop
+sub-left c = search needs
+
 loop-less : tie.Need-loop-less Inv-loop μ-loop
 loop-less c = search needs
 
 loop-again : tie.Need-loop-again Inv-loop μ-loop
 unfolding entryAt
-loop-again c = search halves
-
-loop-less-2 : tie.Need-loop-less-2 Inv-loop μ-loop
-loop-less-2 c = search needs
-
-loop-again-2 : tie.Need-loop-again-2 Inv-loop μ-loop
-unfolding entryAt
-loop-again-2 c = search halves
+loop-again c =
+    let t = c .before in
+    let k = t .before in
+    let i = k .before .loop .inv in
+    let l = k .loop-test .taken in
+    let e = t .tick .ensures .0 in
+    ⊎-elim (λ w. rw (w .1) (left-up _ _ _ _ _ _ _ _ i l refl refl e (w .0 .taken)))
+    (λ w. rw (w .1) (left-down _ _ _ _ _ _ _ _ i l refl refl e (w .0 .left)))
+    (c .if1 .came)
 
 returns : tie.Need-returns Inv-loop μ-loop
-returns c = search halves
+returns c = search halving
 
 pub segment-spec : {M : Type 1} → statement M
 segment-spec =
@@ -56,13 +58,10 @@ segment-spec =
     Inv-loop
     μ-loop
     loop-holds
-    add-loop
-    sub-m
     add-m
     add-tick
     tick-requires
+    sub-left
     loop-less
     loop-again
-    loop-less-2
-    loop-again-2
     returns)

@@ -1,52 +1,31 @@
--- `search_labels::frontier::nearest` meets its contract: the invariant is that entry `best` has the least
--- label, `least`, of the entries passed.
+-- `search_labels::frontier::nearest` meets its contract: the invariant is the contract itself at the keys
+-- passed.
+use mathlib.Core.Path.{refl}
 use mathlib.Core.Logic.{⊎-elim}
 use Prim.Native.Nat.{_≤_, _-_}
-use Rattle.search_labels.specs.Frontier.{Frontier, entry-in}
-use Rattle.search_labels.specs.Nearest.{Least, least-one, least-less, least-more, least-picked}
+use Rattle.search_labels.specs.Nearest.{Least, least-one, least-less, least-more, least-end}
 use native.Mathlib.Numerals.{add-one}
 use borrow.Author.Needs.{needs}
 use Rattle.search_labels.proofs.frontier.nearest.Statement.{statement}
 use Rattle.search_labels.proofs.frontier.nearest.Tie as tie
 
 abbrev Inv-loop : tie.InvT-loop
-Inv-loop labels frontier size best₀ least₀ i₀ best least i =
-    (i ≤ size) × Frontier labels frontier size × Least labels frontier i best least
+Inv-loop keys size least₀ i₀ least i = (i ≤ size) × Least keys i least
 
 abbrev μ-loop : tie.MeasureT-loop
-μ-loop labels frontier size best₀ least₀ i₀ best least i = size - i
+μ-loop keys size least₀ i₀ least i = size - i
 
-element-copy-out-wide : tie.Need-element-copy-out-wide Inv-loop μ-loop
-element-copy-out-wide c = search needs
-
-wide-requires : tie.Need-wide-requires Inv-loop μ-loop
-wide-requires c κs = search needs
-
-mul-least : tie.Need-mul-least Inv-loop μ-loop
-mul-least c = search needs
-
-shared-slice-read-least : tie.Need-shared-slice-read-least Inv-loop μ-loop
-shared-slice-read-least c = search (entry-in, needs)
+element-copy-out-least : tie.Need-element-copy-out-least Inv-loop μ-loop
+element-copy-out-least c = search needs
 
 loop-holds : tie.Need-loop-holds Inv-loop μ-loop
-loop-holds c = (search needs, search needs, search (least-one, needs))
+loop-holds c = (search needs, search (least-one, needs))
 
-mul-wide : tie.Need-mul-wide Inv-loop μ-loop
-mul-wide c = search needs
+mul-key : tie.Need-mul-key Inv-loop μ-loop
+mul-key c = search needs
 
-element-copy-out-wide-2 : tie.Need-element-copy-out-wide-2 Inv-loop μ-loop
-element-copy-out-wide-2 c = search needs
-
-wide-requires-2 : tie.Need-wide-requires-2 Inv-loop μ-loop
-wide-requires-2 c κs = search needs
-
-mul-label : tie.Need-mul-label Inv-loop μ-loop
-mul-label c = search needs
-
-shared-slice-read-label : tie.Need-shared-slice-read-label Inv-loop μ-loop
-shared-slice-read-label c =
-    let i = c .before .before .before .before .loop .inv in
-    entry-in (i .1) _ _ (search needs) (c .before .wide2 .ensures .0)
+element-copy-out-key : tie.Need-element-copy-out-key Inv-loop μ-loop
+element-copy-out-key c = search needs
 
 add-i : tie.Need-add-i Inv-loop μ-loop
 add-i c = search needs
@@ -56,19 +35,17 @@ loop-less c = search needs
 
 loop-again : tie.Need-loop-again Inv-loop μ-loop
 loop-again c =
-    let t = c .before .before .before .before in
-    let i = t .before .loop .inv in
-    let l = t .loop-test .taken in
-    let e = c .before .before .wide2 .ensures .0 in (
+    let k = c .before .before in
+    let i = k .before .loop .inv in
+    let l = k .loop-test .taken in (
       rw add-one l,
-      i .1,
-      ⊎-elim (λ w. rw (w .1, w .2) (least-less (i .1) _ _ _ _ (i .2) l e (w .0 .taken)))
-          (λ w. rw (w .1, w .2) (least-more (i .1) _ _ _ _ (i .2) l e (w .0 .left)))
+      ⊎-elim (λ w. rw (w .1) (least-less _ _ _ _ (i .1) refl (w .0 .taken)))
+          (λ w. rw (w .1) (least-more _ _ _ _ (i .1) refl (w .0 .left)))
           (c .if1 .came),
     )
 
 returns : tie.Need-returns Inv-loop μ-loop
-returns c = search least-picked
+returns c = search (least-end, needs)
 
 pub nearest-spec : {M : Type 1} → statement M
 nearest-spec =
@@ -76,16 +53,10 @@ nearest-spec =
     (tie.spec
     Inv-loop
     μ-loop
-    element-copy-out-wide
-    wide-requires
-    mul-least
-    shared-slice-read-least
+    element-copy-out-least
     loop-holds
-    mul-wide
-    element-copy-out-wide-2
-    wide-requires-2
-    mul-label
-    shared-slice-read-label
+    mul-key
+    element-copy-out-key
     add-i
     loop-less
     loop-again

@@ -13,11 +13,11 @@ start-requires c κs = search needs
 
 settle-all-requires : tie.Need-settle-all-requires
 settle-all-requires c κs =
-    let r = c .before .before .before .before .before in
+    let r = c .before .before .before .before .before .before in
     let h = r .before .before in
     let s = h .before .before .before .before .before .before .pre in
     let n = s .1 in
-    (s .0, (h .chain .ensures, ((n .0, n .1), rw (n .2) at (r .start .ensures))))
+    (s .0, (h .chain .ensures, ((n .0, n .1), (rw (n .2) at (r .start .ensures), n .3))))
 
 same-length : tie.Need-same-length
 same-length c = search needs

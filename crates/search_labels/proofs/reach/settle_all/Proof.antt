@@ -1,44 +1,37 @@
 -- `search_labels::reach::settle_all` meets its contract: each turn is a step of the theory. The measure falls
 -- by one with each node settled: a node that is put into the frontier is one less without a label.
 use Prim.Native.Nat.{_+_}
-use Rattle.network.specs.Limits.{mostNodes}
 use Rattle.network.specs.Town.{graphOf}
 use Rattle.network.specs.Decode.{decode}
-use Rattle.search_labels.specs.Frontier.{unknown, entry-place}
+use Rattle.search_labels.specs.Frontier.{unknown}
 use Rattle.search_labels.specs.Reach.{Searching, turns}
 use Rattle.search_labels.specs.Ready.{permitOf}
-use borrow.Author.Needs.{needs, scaled-fits}
-use lib.Dec.{lit<}
+use borrow.Author.Needs.{needs}
 use Rattle.search_labels.proofs.reach.settle_all.Statement.{statement}
 use Rattle.search_labels.proofs.reach.settle_all.Tie as tie
 
 abbrev Inv-loop : tie.InvT-loop
-Inv-loop file l mask starts first next q labels₀ frontier₀ size₀ labels frontier size =
-    Searching (graphOf (decode file)) (permitOf mask) (q .source) (q .departure) labels frontier size
+Inv-loop file l mask starts first next q labels₀ notes₀ keys₀ places₀ size₀ labels notes keys places size =
+    Searching (graphOf (decode file)) (permitOf mask) (q .source) (q .departure) labels notes keys places size
 
 abbrev μ-loop : tie.MeasureT-loop
-μ-loop file l mask starts first next q labels₀ frontier₀ size₀ labels frontier size = size + unknown labels
+μ-loop file l mask starts first next q labels₀ notes₀ keys₀ places₀ size₀ labels notes keys places size =
+    size + unknown labels
 
-cast-frontier : tie.Need-cast-frontier Inv-loop μ-loop
-cast-frontier c = search needs
+cast-put : tie.Need-cast-put Inv-loop μ-loop
+cast-put c = search needs
 
-array-write-frontier : tie.Need-array-write-frontier Inv-loop μ-loop
-array-write-frontier c = search needs
+put-requires : tie.Need-put-requires Inv-loop μ-loop
+put-requires c κs = search needs
 
 loop-holds : tie.Need-loop-holds Inv-loop μ-loop
 loop-holds c = search turns
 
 nearest-requires : tie.Need-nearest-requires Inv-loop μ-loop
-nearest-requires c κs = search needs
+nearest-requires c κs = (search needs, search turns)
 
-mul-wide : tie.Need-mul-wide Inv-loop μ-loop
-mul-wide c = scaled-fits _ mostNodes 2 (search entry-place) (lit< tt)
-
-array-read-wide : tie.Need-array-read-wide Inv-loop μ-loop
-array-read-wide c = search entry-place
-
-wide-requires : tie.Need-wide-requires Inv-loop μ-loop
-wide-requires c κs = search needs
+node-requires : tie.Need-node-requires Inv-loop μ-loop
+node-requires c κs = search needs
 
 cast-if1 : tie.Need-cast-if1 Inv-loop μ-loop
 cast-if1 c = search needs
@@ -50,8 +43,16 @@ returns : tie.Need-returns Inv-loop μ-loop
 returns c = (search turns, search turns)
 
 settle-requires : tie.Need-settle-requires Inv-loop μ-loop
-settle-requires c κs =
-    (search needs, (search needs, ((search needs, search turns, search turns), search needs)))
+settle-requires c κs = (
+  search needs,
+  (
+    search needs,
+    (
+      (search turns, search turns),
+      ((search turns, search needs), (search needs, search turns, search turns)),
+    ),
+  ),
+)
 
 loop-less : tie.Need-loop-less Inv-loop μ-loop
 loop-less c = c .before .before .settle .ensures .sum
@@ -71,13 +72,11 @@ settle-all-spec =
     (tie.spec
     Inv-loop
     μ-loop
-    cast-frontier
-    array-write-frontier
+    cast-put
+    put-requires
     loop-holds
     nearest-requires
-    mul-wide
-    array-read-wide
-    wide-requires
+    node-requires
     cast-if1
     same-length
     returns

@@ -1,22 +1,24 @@
--- `search_path::path::path` meets its contract: the path is counted, and written where the list is long
--- enough.
-use Rattle.search_path.specs.Path.{listed-short, listed-way}
-use Rattle.search_arcs.specs.Town.{fresh-tables}
+-- `search_path::path::path` meets its contract: the note counts the path, and it is written where the list is
+-- long enough.
+use Rattle.search_path.specs.Trail.{listed-short, listed-way}
 use borrow.Author.Needs.{needs}
 use Rattle.search_path.proofs.path.path.Statement.{statement}
 use Rattle.search_path.proofs.path.path.Tie as tie
 
-chain-requires : tie.Need-chain-requires
-chain-requires c κs = (search needs, search fresh-tables)
+mul-hops : tie.Need-mul-hops
+mul-hops c = search needs
 
-count-requires : tie.Need-count-requires
-count-requires c κs = (search needs, search needs)
+element-copy-out-hops : tie.Need-element-copy-out-hops
+element-copy-out-hops c = search needs
+
+hops-requires : tie.Need-hops-requires
+hops-requires c κs = search needs
 
 returns : tie.Need-returns
 returns c = search listed-short
 
 write-requires : tie.Need-write-requires
-write-requires c κs = (search needs, (search needs, (search needs, search needs)))
+write-requires c κs = search needs
 
 same-length : tie.Need-same-length
 same-length c = search needs
@@ -26,4 +28,12 @@ returns-2 c = search listed-way
 
 pub path-spec : {M : Type 1} → statement M
 path-spec =
-    tie.close (tie.spec chain-requires count-requires returns write-requires same-length returns-2)
+    tie.close
+    (tie.spec
+    mul-hops
+    element-copy-out-hops
+    hops-requires
+    returns
+    write-requires
+    same-length
+    returns-2)

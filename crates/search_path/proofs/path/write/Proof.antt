@@ -1,34 +1,34 @@
--- `search_path::path::write` meets its contract: the loop goes back along the chosen path, and writes each
--- arc before those written.
-use Rattle.search_path.specs.Path.{Writing, writes}
+-- `search_path::path::write` meets its contract: the loop goes back by the notes, and writes each arc before
+-- those written.
+use Rattle.search_path.specs.Trail.{Writing, writes}
 use borrow.Author.Needs.{needs}
 use Rattle.search_path.proofs.path.write.Statement.{statement}
 use Rattle.search_path.proofs.path.write.Tie as tie
 
 abbrev Inv-loop : tie.InvT-loop
-Inv-loop file l mask starts first next labels q count roads₀ v₀ n₀ roads v n =
-    Writing file mask q labels count v n roads₀ roads
+Inv-loop file l notes target count roads₀ v₀ n₀ roads v n =
+    Writing file l notes target count v n roads₀ roads
 
 abbrev μ-loop : tie.MeasureT-loop
-μ-loop file l mask starts first next labels q count roads₀ v₀ n₀ roads v n = n
-
-cast-v : tie.Need-cast-v Inv-loop μ-loop
-cast-v c = search needs
+μ-loop file l notes target count roads₀ v₀ n₀ roads v n = n
 
 loop-holds : tie.Need-loop-holds Inv-loop μ-loop
 loop-holds c = search writes
 
-cast-if1 : tie.Need-cast-if1 Inv-loop μ-loop
-cast-if1 c = search needs
+mul-arc : tie.Need-mul-arc Inv-loop μ-loop
+mul-arc c = search needs
 
-arc-into-requires : tie.Need-arc-into-requires Inv-loop μ-loop
-arc-into-requires c κs = (search needs, (search needs, (search writes, search writes, search needs)))
+element-copy-out-arc : tie.Need-element-copy-out-arc Inv-loop μ-loop
+element-copy-out-arc c = search writes
+
+arc-requires : tie.Need-arc-requires Inv-loop μ-loop
+arc-requires c κs = search needs
 
 sub-n : tie.Need-sub-n Inv-loop μ-loop
-sub-n c = search writes
+sub-n c = search needs
 
 cast-roads : tie.Need-cast-roads Inv-loop μ-loop
-cast-roads c = search writes
+cast-roads c = search needs
 
 mul-roads : tie.Need-mul-roads Inv-loop μ-loop
 mul-roads c = search writes
@@ -57,10 +57,10 @@ write-spec =
     (tie.spec
     Inv-loop
     μ-loop
-    cast-v
     loop-holds
-    cast-if1
-    arc-into-requires
+    mul-arc
+    element-copy-out-arc
+    arc-requires
     sub-n
     cast-roads
     mul-roads
