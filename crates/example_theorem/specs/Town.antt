@@ -193,8 +193,8 @@ allAgree (r ∷ l) = agrees r && allAgree l
 rows-agree : allAgree rows ≡ true
 unfolding allAgree agrees same rows first firstRung select total tab offset line segment value closed
     dayValue entryAt ends relaxed rounds labels hops lowest back traced chosen made start decode
-    judged judgedArcs judgedSum judgedPoints badEnds firstPoint badPoint badTick overtaken badLength tooShortBy
-    travelAt borders isBorder pointStart profileValue decodePlan rules.badProfile
+    judged judgedArcs judgedSum judgedPoints badEnds firstPoint badPoint badTick overtaken badLength
+    tooShortBy travelAt borders isBorder pointStart profileValue decodePlan rules.badProfile
     rules.firstBadPoint rules.judgedTicks rules.judgedSum rules.judgedCounts rules.judgedFlags
     matching fails fails22 given checked tripleRung firstTripleRung asked networkFile planFile summed
     blank quickFormed headText verdictText isAccepted reads textsOf linesFrom scannedAll scanned

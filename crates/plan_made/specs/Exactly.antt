@@ -6,22 +6,19 @@
 -- and else it has a point exactly at tick 0 and at each later tick where the step to the next tick differs
 -- from
 -- the step before it (`made-points-exactly`), with the least travel there (`made-point-least`).
-use mathlib.Core.Path.{_≡_, refl, sym, _∙_, ap}
+use mathlib.Core.Path.{_≡_, sym, _∙_, ap}
 use mathlib.Core.Logic.{_≢_, _↔_, _⊎_, inl, inr}
-use mathlib.Core.Bool.{Bool, true, false, not, _||_, true≢false}
-use Prim.Native.Nat.{ℕ, _+_, _-_, _*_, _≤_, _<_}
+use mathlib.Core.Bool.{true, false, true≢false}
+use Prim.Native.Nat.{ℕ, _+_, _-_, _*_, _<_}
 use native.Mathlib.Omega.{arith}
 use native.Mathlib.Decide.{ℕ-discrete}
-use lib.Dec.{eqb}
-use borrow.Author.Tests.{eqb-true, eqb-false, eq-eqb, ne-eqb}
+use borrow.Author.Tests.{eq-eqb, ne-eqb}
 use Rattle.theory_loops.specs.Count.{count}
-use Rattle.theory_loops.specs.Select.{Selected}
 use Rattle.theory_loops.specs.Grid.{grid-in}
-use Rattle.theory_paths.specs.Graph.{Graph, all, Reachable, EarliestArrival}
+use Rattle.theory_paths.specs.Graph.{all, Reachable, EarliestArrival}
 use Rattle.theory_paths.specs.Partition.{Partition}
 use Rattle.theory_paths.specs.Earliest.{never}
 use Rattle.theory_paths.specs.Least.{Modest, leastTicks, least-never, least-earliest, least-capped}
-use Rattle.theory_paths.specs.Least.{never-always}
 use Rattle.theory_paths.specs.Planned.{Earns, planned-exactly}
 use Rattle.theory_travel.specs.Turns.{turns, turnCount, turnTick, around, turn-at, turn-rank, turns-day}
 use Rattle.theory_travel.specs.Turns.{turn-is}

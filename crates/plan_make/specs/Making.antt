@@ -1,8 +1,7 @@
 -- FOR THE CODE: the header that it makes, the file that it leaves, and its refusals 34, 33 and 31.
-use mathlib.Core.Path.{_≡_, refl, sym, _∙_, ap, subst}
-use mathlib.Core.Bool.{true, false}
+use mathlib.Core.Path.{_≡_, refl, sym, _∙_, ap}
 use mathlib.Core.List.{List, _++_}
-use Prim.Native.Nat.{ℕ, zero, suc, _+_, _*_, _≤_, _<_}
+use Prim.Native.Nat.{ℕ, zero, suc, _*_, _≤_, _<_}
 use native.Mathlib.Omega.{arith}
 use lib.ListN.{length, getD, take, drop, length-append}
 use lib.Seq.{drop-at, length-sets, length-take-le}
@@ -17,7 +16,7 @@ use Rattle.file_blocks.specs.Place.{offset}
 use Rattle.file_refusals.specs.declared.Refusal.{Refusal}
 use Rattle.file_refusals.specs.declared.writing.Writing.{Writing}
 use Rattle.file_refusals.specs.declared.writing.Writing.the-variants.{Written, Refused}
-use Rattle.file_refusals.specs.Writing.{unwritten, writtenInto, bytesAfter, Writes, writes-refused}
+use Rattle.file_refusals.specs.Writing.{unwritten, writtenInto, Writes, writes-refused}
 use Rattle.file_refusals.specs.Writing.{into-short}
 use Rattle.file_refusals.specs.Writing.{into-whole}
 use Rattle.network.specs.declared.answer.Opening.{Opening}
@@ -33,9 +32,9 @@ use Rattle.network.specs.Valid.{ValidFile, valid-laid, valid-exactly}
 use Rattle.plan.specs.declared.header.PlanHeader.{PlanHeader}
 use Rattle.plan.specs.declared.header.PlanLayout.{PlanLayout}
 use Rattle.plan.specs.Border.{borderCount}
-use Rattle.plan.specs.PlanDecode.{flagWord, pointTotal}
+use Rattle.plan.specs.PlanDecode.{pointTotal}
 use Rattle.plan.specs.PlanHeader.{PlanWithin}
-use Rattle.plan.specs.PlanLayout.{planLayoutOf, planBlocks, plan-few}
+use Rattle.plan.specs.PlanLayout.{planLayoutOf, plan-few}
 use Rattle.plan.specs.PlanLimits.{mostProfilePoints, mostPlanBlocks}
 use Rattle.plan.specs.PlanMatch.{matches-within, borders-few, valid-headed}
 use Rattle.plan_encode.specs.Laid.{none, entriesPut, sealedTo}
@@ -43,10 +42,9 @@ use Rattle.plan_encode.specs.Laying.{Laying}
 use Rattle.plan_encode.specs.Places.{PlanRoom, PlanWritable}
 use Rattle.plan_encode.specs.PlanRoundTrip.{encode-plan-long}
 use Rattle.plan_encode.specs.PlanWritten.{plan-written}
-use Rattle.plan_made.specs.Made.{made-total, made-word, madeProfiles, madeCount}
+use Rattle.plan_made.specs.Made.{made-total, made-word, madeCount}
 use Rattle.plan_made.specs.File.{madePlan, madeHeader, madeFile, made-matches}
-use Rattle.plan_make.specs.Make.{workSize, madeInto, madeWith, zeroed, MakesOpened, MakeCall, making}
-use Rattle.plan_make.specs.Make.{madeOver, zeroedOver}
+use Rattle.plan_make.specs.Make.{workSize, madeInto, madeWith, zeroed, MakesOpened, MakeCall}
 use Rattle.search_arcs.specs.Town.{Town, town-of}
 use Rattle.search_arcs.specs.Chain.{Chained, endOf}
 use Rattle.search_arcs.specs.declared.chain.End.the-variants.{Head}

@@ -1,7 +1,6 @@
 -- What Make plan promises: where it answers a length, so many lent bytes are a plan's file, which is the plan
 -- that is made of the network, and the check accepts it (`made-plan`).
-use mathlib.Core.Path.{_≡_, refl, sym, _∙_, ap, subst}
-use mathlib.Core.Bool.{false}
+use mathlib.Core.Path.{_≡_, refl, sym, _∙_, ap}
 use mathlib.Core.List.{List}
 use Prim.Native.Nat.{ℕ, _≤_}
 use native.Mathlib.Omega.{arith}
@@ -16,7 +15,7 @@ use Rattle.file_refusals.specs.declared.writing.Length.{Length}
 use Rattle.file_refusals.specs.declared.writing.Writing.{Writing}
 use Rattle.file_refusals.specs.declared.writing.Writing.the-variants.{Written, Refused}
 use Rattle.file_refusals.specs.Refusal.{refusal}
-use Rattle.file_refusals.specs.Writing.{writtenInto, bytesAfter}
+use Rattle.file_refusals.specs.Writing.{writtenInto}
 use Rattle.network.specs.declared.answer.Opening.{Opening}
 use Rattle.network.specs.declared.answer.Opening.the-variants as opening
 use Rattle.network.specs.declared.header.Header.{Header}
@@ -30,7 +29,7 @@ use Rattle.plan_check.specs.declared.answer.Checking.the-variants.{Accepted}
 use Rattle.plan_check.specs.CheckPlan.{checking}
 use Rattle.plan_made.specs.File.{madePlan, madeFile, made-decodes}
 use Rattle.plan_made.specs.Accepts.{valid-modest, file-accepted}
-use Rattle.plan_make.specs.Make.{workSize, madeInto, madeWith, madeOver, making, MakeCall}
+use Rattle.plan_make.specs.Make.{workSize, madeInto, madeWith, madeOver, MakeCall}
 
 -- The first bytes of a list, as many as were answered, are the network's plan.
 pub record MadePlan (network out : List ℕ) (y : Length) : Type 0 where

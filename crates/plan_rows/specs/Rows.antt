@@ -2,16 +2,15 @@
 -- their counts into a plan's file, for one row (`RowPut`) and for all (`RowsPut`).
 use mathlib.Core.Path.{_≡_, refl, sym, _∙_}
 use mathlib.Core.Logic.{_≢_}
-use mathlib.Core.Bool.{Bool, true, cond}
+use mathlib.Core.Bool.{true, cond}
 use mathlib.Core.List.{List}
 use Prim.Native.Nat.{ℕ, _+_, _-_, _*_, _^_, _≤_, _<_}
 use native.Mathlib.Omega.{arith}
 use native.Mathlib.Decide.{ℕ-discrete}
-use lib.ListN.{length, getD, take, drop, length-take, length-drop}
-use lib.Seq.{getD-take, getD-drop}
+use lib.ListN.{length, getD, take, drop}
 use lib.Dec.{eqb}
 use borrow.Author.Tests.{eq-eqb, ne-eqb}
-use Rattle.theory_loops.specs.Count.{count, count-same, count-none}
+use Rattle.theory_loops.specs.Count.{count, count-same}
 use Rattle.theory_loops.specs.Total.{total, total-most, total-more, total-part}
 use Rattle.theory_loops.specs.Grid.{gridAt}
 use Rattle.theory_paths.specs.Earliest.{never}
@@ -27,6 +26,7 @@ use Rattle.plan_encode.specs.Places.{PlanRoom}
 use Rattle.plan_encode.specs.PlanWritten.{Entered}
 use Rattle.plan_encode.specs.PlanWritten as written
 use Rattle.toward_points.specs.Row.{entryOf, Low, pointsBefore}
+use Rattle.toward_node.specs.Rows.{row-long, row-entry}
 use Rattle.plan_rows.specs.Points.{isPoint, HasPoints, PutPoints, first-before}
 
 -- how many points node u's row has: none where it has no number
@@ -98,18 +98,15 @@ module _ (wide : ℕ) (W : List ℕ) (u p e : ℕ) (at : p ≡ u * wide) (to : e
     abbrev row : List ℕ
     row = take (e - p) (drop p W)
 
-    pub row-long : length (take (e - p) (drop p W)) ≡ wide
-    row-long = simp (length-take, length-drop) (omega arith)
+    long : length (take (e - p) (drop p W)) ≡ wide
+    long = row-long wide W u p e at to fits
 
-    row-entry : (x : ℕ) → x < wide → getD (take (e - p) (drop p W)) x 0 ≡ gridAt wide W u x
-    unfolding gridAt
-    row-entry x l =
-        let h : x < e - p = omega arith in
-        rw (← at) (getD-take (e - p) (drop p W) x 0 h ∙ getD-drop p W x 0)
+    entry : (x : ℕ) → x < wide → getD (take (e - p) (drop p W)) x 0 ≡ gridAt wide W u x
+    entry = row-entry wide W u p e at to fits
 
     point-same : (x : ℕ) → x < wide → isPoint row x ≡ turns (gridAt wide W u) wide x
     point-same x l =
-        rw row-long (turns-same (entryOf row) (gridAt wide W u) wide row-entry x l)
+        rw long (turns-same (entryOf row) (gridAt wide W u) wide entry x l)
 
     before-same : (x : ℕ) → x ≤ wide → pointsBefore row x ≡ count x (turns (gridAt wide W u) wide)
     before-same x l = count-same _ _ x (λ i h. point-same i (omega arith))
@@ -117,27 +114,27 @@ module _ (wide : ℕ) (W : List ℕ) (u p e : ℕ) (at : p ≡ u * wide) (to : e
     pub row-low : {n : ℕ} → LowRows n wide W → u < n → gridAt wide W u 0 ≢ never
         → Low (take (e - p) (drop p W))
     row-low r h ne = record {
-      some = rw row-long (r .some);
-      few = rw row-long (omega (arith, r .few));
+      some = rw long (r .some);
+      few = rw long (omega (arith, r .few));
       entry = λ x l.
-          let m : x < wide = omega (arith, row-long) in
-          rw (row-entry x m) (r .entry u x h m ne);
+          let m : x < wide = omega (arith, long) in
+          rw (entry x m) (r .entry u x h m ne);
     }
 
     pub row-turns : gridAt wide W u 0 ≢ never → turnCount (entryOf row) (length row) ≡ rowPoints wide W u
     row-turns ne =
-        rw (row-long, points-some wide W u ne)
-        (turn-count-same (entryOf row) (gridAt wide W u) wide row-entry)
+        rw (long, points-some wide W u ne)
+        (turn-count-same (entryOf row) (gridAt wide W u) wide entry)
 
     row-has : {p : Plan} {c from : ℕ} → HasRow p wide W u c from → gridAt wide W u 0 ≢ never
         → HasPoints p from row
     row-has {p} {c} {from} h ne = record {
       tick = λ x l y.
-          let m : x < wide = omega (arith, row-long) in
+          let m : x < wide = omega (arith, long) in
           rw (before-same x (omega arith)) (h .tick ne x m (sym (point-same x m) ∙ y));
       travel = λ x l y.
-          let m : x < wide = omega (arith, row-long) in
-          rw (before-same x (omega arith), row-entry x m) (h .travel ne x m (sym (point-same x m) ∙ y));
+          let m : x < wide = omega (arith, long) in
+          rw (before-same x (omega arith), entry x m) (h .travel ne x m (sym (point-same x m) ∙ y));
     }
 
     -- its points are put, and then their count

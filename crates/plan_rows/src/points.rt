@@ -15,14 +15,14 @@ ghost use Rattle.plan_rows.specs.Points.{PutPoints};
 // The ticks of a part.
 const PART: usize = 32;
 
-// Puts the point at tick x, neither the first nor the last, where it is one. Answers the next place.
-fn put_tick(row: &[u32], x: usize, out: &mut [u8], k: PlanLayout, q: usize) -> usize
+// Puts the point at tick x, where `turned` says that it is one. Answers the next place.
+fn put_tick(row: &[u32], x: usize, turned: u32, out: &mut [u8], k: PlanLayout, q: usize) -> usize
     requires { ⌜ Low (now row) × PlanRoom k (length (now out)) ⌝ }
-    requires { ⌜ (1 ≤ x) × (x + 1 < length (now row))
-        × (q + (pointsBefore (now row) (x + 1) - pointsBefore (now row) x) ≤ k .points) ⌝ }
+    requires { ⌜ (x < length (now row)) × (q + turned ≤ k .points)
+        × (pointsBefore (now row) x + turned ≡ pointsBefore (now row) (x + 1)) ⌝ }
     ensures { λ r. ⌜ PutPoints k (now (row .entry)) x (x + 1) q (now (out .entry)) (now (out .exit)) r ⌝ }
 {
-    if turn(row[x - 1], row[x], row[x + 1]) == 0 {
+    if turned == 0 {
         return q;
     }
     put_point(out, k, q, x as u16, row[x]);
@@ -38,7 +38,8 @@ fn put_each(row: &[u32], a: usize, b: usize, out: &mut [u8], k: PlanLayout, q: u
 {
     let mut at = q;
     for x in a..b {
-        at = put_tick(row, x, out, k, at);
+        let turned = turn(row[x - 1], row[x], row[x + 1]);
+        at = put_tick(row, x, turned, out, k, at);
     }
     at
 }
@@ -84,21 +85,6 @@ fn put_parts(row: &[u32], last: usize, out: &mut [u8], k: PlanLayout, q: usize) 
     at
 }
 
-// Puts the last tick's point, where it is one.
-fn put_last(row: &[u32], last: usize, out: &mut [u8], k: PlanLayout, q: usize) -> usize
-    requires { ⌜ Low (now row) × PlanRoom k (length (now out)) ⌝ }
-    requires { ⌜ (1 ≤ last) × (last + 1 ≡ length (now row))
-        × (q + (pointsBefore (now row) (last + 1) - pointsBefore (now row) last) ≤ k .points) ⌝ }
-    ensures { λ r. ⌜ PutPoints k (now (row .entry)) last (last + 1) q (now (out .entry))
-        (now (out .exit)) r ⌝ }
-{
-    if turn(row[last - 1], row[last], row[0]) == 0 {
-        return q;
-    }
-    put_point(out, k, q, last as u16, row[last]);
-    q + 1
-}
-
 // Puts all points of a row: that of tick 0, and those after it.
 pub fn put_points(row: &[u32], out: &mut [u8], k: PlanLayout, q: usize) -> usize
     requires { ⌜ Low (now row) × PlanRoom k (length (now out)) ⌝ }
@@ -112,5 +98,6 @@ pub fn put_points(row: &[u32], out: &mut [u8], k: PlanLayout, q: usize) -> usize
         return q + 1;
     }
     let next = put_parts(row, last, out, k, q + 1);
-    put_last(row, last, out, k, next)
+    let turned = turn(row[last - 1], row[last], row[0]);
+    put_tick(row, last, turned, out, k, next)
 }

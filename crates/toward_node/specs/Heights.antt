@@ -1,8 +1,8 @@
 -- What two tables beside the rows say of them. D has 0 for a clean node, and else never less a number that no
 -- entry of its row is below; H has 0 for a node whose row has no number yet, and else never less a number
 -- that no entry of its row is above. A row gets its first numbers from one that has some, and then they are
--- at
--- most a period more; after that they only fall. So no number comes to a period for each node that has some.
+-- at most a period more; after that they only fall. So no number comes to a period for each node that has
+-- some.
 use mathlib.Core.Path.{_≡_, sym, _∙_, ap}
 use mathlib.Core.Bool.{Bool, true}
 use mathlib.Core.Logic.{_≢_}
@@ -41,6 +41,7 @@ pub record Heights (l : Layout) (W D H : List ℕ) : Type 0 where
 
 -- hs is the row of node v, which has numbers, and `near` is never less a number that none of them is below.
 pub record Held (wide near : ℕ) (hs W H : List ℕ) (v : ℕ) : Type 0 where
+  pub long : wide ≤ length hs
   pub at : (y : ℕ) → y < wide → getD hs y 0 ≡ gridAt wide W v y
   pub some : getD H v 0 ≢ 0
   pub least : (y : ℕ) → y < wide → never ≤ getD hs y 0 + near
@@ -73,14 +74,16 @@ module _ {l : Layout} (s : Small l) {W D H : List ℕ} (o : Heights l W D H) whe
   pub held-capped : {near v : ℕ} {hs : List ℕ} → Held (l .period) near hs W H v → v < l .nodes
       → Capped hs (l .period)
   held-capped {v = v} k n = record {
+    long = k .long;
     entry = λ y h. omega (arith, k .at y h, number-early v y n h (k .some), numbered-early);
   }
 
   -- FOR CODE that takes a node
-  pub heights-held : {v : ℕ} {hs : List ℕ} → v < l .nodes → getD D v 0 ≢ 0
+  pub heights-held : {v : ℕ} {hs : List ℕ} → v < l .nodes → getD D v 0 ≢ 0 → l .period ≤ length hs
       → ((y : ℕ) → y < l .period → getD hs y 0 ≡ gridAt (l .period) W v y)
       → Held (l .period) (getD D v 0) hs W H v
-  heights-held {v} n d at = record {
+  heights-held {v} n d long at = record {
+    long = long;
     at = at;
     some = o .dirty v n d;
     least = λ y h. omega (arith, at y h, o .low v y n h d);

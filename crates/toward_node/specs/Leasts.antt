@@ -9,10 +9,10 @@ use lib.Seq.{getD-set-same, getD-set-other}
 use Rattle.theory_travel.specs.Day.{day-least}
 use Rattle.theory_travel.specs.Table.{entryAt, valueAt}
 use Rattle.network.specs.declared.header.Layout.{Layout}
-use Rattle.network.specs.Network.{count, start}
+use Rattle.network.specs.Network.{count}
 use Rattle.network.specs.Decode.{decode}
 use Rattle.network.specs.Town.{travelAt}
-use Rattle.toward_row.specs.Arcs.{Primed, Arc, arc-of}
+use Rattle.toward_row.specs.Arcs.{Primed, arc-of}
 
 -- r is at most the first n entries of a part of a list.
 pub record LeastOf (list : List ℕ) (from n r : ℕ) : Type 0 where

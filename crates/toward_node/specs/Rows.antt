@@ -8,7 +8,7 @@ use Prim.Native.Nat.{ℕ, _+_, _-_, _*_, _%_, _≤_, _<_, min}
 use native.Mathlib.Nat.{mod-lt, mul-le-mul-right}
 use native.Mathlib.Omega.{arith}
 use native.Mathlib.Decide.{decLt}
-use lib.ListN.{length, getD, take, drop, length-append, length-drop, List·getD-append}
+use lib.ListN.{length, getD, take, drop, length-append, length-take, length-drop, List·getD-append}
 use lib.Seq.{ext-getD, getD-append-add, getD-drop, getD-take, length-take-le}
 use Rattle.theory_loops.specs.Grid.{gridAt}
 use Rattle.theory_paths.specs.Graph.{Graph}
@@ -32,6 +32,18 @@ rowLowered w h wide p W k = min (getD W k 0) (offer w h wide (k - p))
 pub row-lower : (w h : ℕ → ℕ) (wide p : ℕ) (W : List ℕ) (k : ℕ) → rowLowered w h wide p W k ≤ getD W k 0
 unfolding rowLowered
 row-lower w h wide p W k = omega arith
+
+-- THE ROW OF NODE u, lent as a part of the list from place p up to place e
+module _ (wide : ℕ) (W : List ℕ) (u p e : ℕ) (at : p ≡ u * wide) (to : e ≡ p + wide) (fits : e ≤ length W)
+  where
+    pub row-long : length (take (e - p) (drop p W)) ≡ wide
+    row-long = simp (length-take, length-drop) (omega arith)
+
+    pub row-entry : (x : ℕ) → x < wide → getD (take (e - p) (drop p W)) x 0 ≡ gridAt wide W u x
+    unfolding gridAt
+    row-entry x l =
+        let h : x < e - p = omega arith in
+        rw (← at) (getD-take (e - p) (drop p W) x 0 h ∙ getD-drop p W x 0)
 
 -- A PART of a list from p up to e that was lent and is back as ys
 module _ (W ys : List ℕ) (p e : ℕ) (l : p ≤ e) (m : e ≤ length W) (s : length ys ≡ e - p) where

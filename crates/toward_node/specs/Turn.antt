@@ -6,7 +6,7 @@ use mathlib.Core.List.{List}
 use Prim.Native.Nat.{ℕ, _+_, _-_, _*_, _%_, _≤_, _<_, zero-le}
 use native.Mathlib.Nat.{mul-le-mul, mul-le-mul-right, mod-lt}
 use native.Mathlib.Omega.{arith}
-use native.Mathlib.Decide.{ℕ-discrete, decLt}
+use native.Mathlib.Decide.{decLt}
 use lib.ListN.{length, getD, set, replicate}
 use lib.Seq.{getD-set-other}
 use Rattle.theory_loops.specs.Fill.{Filled}
@@ -168,6 +168,7 @@ module _ {file : List ℕ} {l : Layout} {starts hs W D H : List ℕ} {a u near :
     still : {I : List ℕ} → getD I (head (decode file) a) 0 ≢ 0
         → Held (l .period) near hs M I (head (decode file) a)
     still some = record {
+      long = k .long;
       at = row-held (graphOf (decode file)) a (l .period) (u * l .period) (u * l .period + l .period) r hs W M
           (t .town .sizes .period) (t .town .small .period-some) start refl
           (k .at) c (arc-apart (t .town) a h);
@@ -266,16 +267,16 @@ module _ {file : List ℕ} {l : Layout} {starts into next : List ℕ} (t : Ready
   walk-skip n q = queue-skip q (λ a lo hi m. n .none a lo hi (omega (arith, t .primed .town .sizes .arcs)))
 
   pub walking-start : {v a : ℕ} {old hs W D H : List ℕ} → v < l .nodes → Heights l W D H → getD D v 0 ≢ 0
-      → Filled 0 (l .period) (rowsOf (l .period) W v) old hs → a ≡ getD into v 0
+      → l .period ≤ length old → Filled 0 (l .period) (rowsOf (l .period) W v) old hs → a ≡ getD into v 0
       → Walking file l v a (getD D v 0) hs W (set D v 0) W (set D v 0) H
-  walking-start {v} {a} {W = W} {D = D} h o d f e =
+  walking-start {v} {a} {W = W} {D = D} h o d room f e =
       let n = t .chained .firsts v h in
       let small = t .primed .town .small in
       rw e (record {
         within = n .within;
         meets = n .meets;
         heights = heights-clear small o v h;
-        held = heights-held small o h d (λ y m. f .written y (omega arith) m);
+        held = heights-held small o h d (omega (arith, f .long)) (λ y m. f .written y (omega arith) m);
         lighter = omega arith;
         carried = λ b q. walk-skip n q;
       })

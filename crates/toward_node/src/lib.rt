@@ -48,7 +48,7 @@ pub fn row_place(l: Layout, u: usize) -> usize
 }
 
 // Copies a node's row.
-pub fn copy_row(l: Layout, v: usize, work: &[u32], hs: &mut [u32; MOST_PERIOD])
+fn copy_row(l: Layout, v: usize, work: &[u32], hs: &mut [u32; MOST_PERIOD])
     requires { ⌜ Small l ⌝ }
     requires { ⌜ (v < l .nodes) × (length (now work) ≡ l .nodes * l .period)
         × (l .period ≤ length (now hs)) ⌝ }

@@ -36,8 +36,10 @@ shifted hs from a more old x = min (getD old x 0) (getD hs (from + (x - a)) 0 + 
 unfoldable pub copied : List ℕ → ℕ → ℕ → ℕ → ℕ → ℕ
 copied hs from a more x = getD hs (from + (x - a)) 0 + more
 
--- the first n entries of a head's row leave room for a travel: what an arc gives there is a number
+-- the first n entries of a head's row are there and leave room for a travel: what an arc gives there is a
+-- number
 pub record Capped (hs : List ℕ) (n : ℕ) : Type 0 where
+  pub long : n ≤ length hs
   pub entry : (y : ℕ) → y < n → getD hs y 0 + mostPeriod < never
 
 -- a row that is written for the first time has no number yet from tick a up to tick b
@@ -66,7 +68,7 @@ pub fresh-part : {first : Bool} {row : List ℕ} {a b e : ℕ} → Fresh first r
 fresh-part h m = record { entry = λ t x lo hi. h .entry t x lo (omega arith) }
 
 pub capped-part : {hs : List ℕ} {n m : ℕ} → Capped hs n → m ≤ n → Capped hs m
-capped-part c l = record { entry = λ y h. c .entry y (omega arith) }
+capped-part c l = record { long = omega (arith, c .long); entry = λ y h. c .entry y (omega arith) }
 
 -- FOR THE LOOP of a run that is copied
 pub copy-more : (hs : List ℕ) (from a more : ℕ) (old mid : List ℕ) (x v b : ℕ)

@@ -6,7 +6,6 @@
 // cites `theory_travel`, `theory_loops` and `theory_paths`.
 use network::header::Layout;
 use network::limits::MOST_ARCS;
-use network::limits::MOST_PERIOD;
 use network::read;
 use search_arcs::wide;
 ghost use mathlib.Core.Path.{_≡_};
@@ -51,8 +50,8 @@ fn wholes(parts: u64) -> usize
 }
 
 // Writes the head's entries from `from` on, with `more` added, into the entries from `a` up to `b`.
-fn copy_run(hs: &[u32; MOST_PERIOD], from: usize, more: u32, row: &mut [u32], a: usize, b: usize)
-    requires { ⌜ (a ≤ b) × (b ≤ length (now row)) × (from + (b - a) ≤ mostPeriod) × (more ≤ mostPeriod) ⌝ }
+fn copy_run(hs: &[u32], from: usize, more: u32, row: &mut [u32], a: usize, b: usize)
+    requires { ⌜ (a ≤ b) × (b ≤ length (now row)) × (more ≤ mostPeriod) ⌝ }
     requires { ⌜ Capped (now hs) (from + (b - a)) ⌝ }
     ensures { λ _. ⌜ Filled a b (copied (now (hs .entry)) from a more) (now (row .entry))
         (now (row .exit)) ⌝ }
@@ -63,16 +62,8 @@ fn copy_run(hs: &[u32; MOST_PERIOD], from: usize, more: u32, row: &mut [u32], a:
 }
 
 // Lowers the entries from `a` up to `b` by the head's entries from `from` on, with `more` added.
-fn fold_run(
-    hs: &[u32; MOST_PERIOD],
-    from: usize,
-    more: u32,
-    row: &mut [u32],
-    a: usize,
-    b: usize,
-) -> u32
-    requires { ⌜ (a ≤ b) × (b ≤ length (now row)) × (b ≤ mostPeriod) × (from + (b - a) ≤ mostPeriod)
-        × (more ≤ mostPeriod) ⌝ }
+fn fold_run(hs: &[u32], from: usize, more: u32, row: &mut [u32], a: usize, b: usize) -> u32
+    requires { ⌜ (a ≤ b) × (b ≤ length (now row)) × (b ≤ mostPeriod) × (more ≤ mostPeriod) ⌝ }
     requires { ⌜ Capped (now hs) (from + (b - a)) ⌝ }
     ensures { λ r. ⌜ Cut a b (shifted (now (hs .entry)) from a more (now (row .entry))) (now (row .entry))
         (now (row .exit)) r ⌝ }
@@ -90,15 +81,14 @@ fn fold_run(
 // The same, where the row may have no number yet: then there is nothing to compare.
 fn lower_run(
     first: bool,
-    hs: &[u32; MOST_PERIOD],
+    hs: &[u32],
     from: usize,
     more: u32,
     row: &mut [u32],
     a: usize,
     b: usize,
 ) -> u32
-    requires { ⌜ (a ≤ b) × (b ≤ length (now row)) × (b ≤ mostPeriod) × (from + (b - a) ≤ mostPeriod)
-        × (more ≤ mostPeriod) ⌝ }
+    requires { ⌜ (a ≤ b) × (b ≤ length (now row)) × (b ≤ mostPeriod) × (more ≤ mostPeriod) ⌝ }
     requires { ⌜ Capped (now hs) (from + (b - a)) × Fresh first (now row) a b ⌝ }
     ensures { λ r. ⌜ Cut a b (shifted (now (hs .entry)) from a more (now (row .entry))) (now (row .entry))
         (now (row .exit)) r ⌝ }
@@ -114,7 +104,7 @@ fn lower_run(
 // those that end tomorrow.
 fn lower_span(
     first: bool,
-    hs: &[u32; MOST_PERIOD],
+    hs: &[u32],
     period: usize,
     c: usize,
     row: &mut [u32],
@@ -143,7 +133,7 @@ fn lower_span(
 // The same by an arc whose travel rises on the line from (a, v) to (b, w): one run for each travel.
 fn lower_rising(
     first: bool,
-    hs: &[u32; MOST_PERIOD],
+    hs: &[u32],
     period: usize,
     row: &mut [u32],
     a: usize,
@@ -173,7 +163,7 @@ fn lower_rising(
 // The same where it falls: the first tick has v, and the last run w.
 fn lower_falling(
     first: bool,
-    hs: &[u32; MOST_PERIOD],
+    hs: &[u32],
     period: usize,
     row: &mut [u32],
     a: usize,
@@ -205,7 +195,7 @@ fn lower_falling(
 // The same on any line.
 fn lower_piece(
     first: bool,
-    hs: &[u32; MOST_PERIOD],
+    hs: &[u32],
     period: usize,
     row: &mut [u32],
     a: usize,
@@ -234,7 +224,7 @@ fn lower_points(
     l: Layout,
     from: usize,
     count: usize,
-    hs: &[u32; MOST_PERIOD],
+    hs: &[u32],
     row: &mut [u32],
 ) -> u32
     requires { ⌜ Laid (now file) l ⌝ }
@@ -277,7 +267,7 @@ pub fn lower_arc(
     l: Layout,
     starts: &[u16; MOST_ARCS],
     arc: usize,
-    hs: &[u32; MOST_PERIOD],
+    hs: &[u32],
     row: &mut [u32],
 ) -> u32
     requires { ⌜ Primed (now file) l (now starts) ⌝ }

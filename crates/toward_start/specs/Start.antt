@@ -8,7 +8,7 @@ use Prim.Native.Nat.{ℕ, _+_, _-_, _*_, _%_, _≤_, _<_}
 use native.Mathlib.Nat.{mod-lt, le-antisymm, mul-le-mul}
 use native.Mathlib.Omega.{arith}
 use native.Mathlib.Decide.{decLt, ℕ-discrete}
-use lib.ListN.{length, getD}
+use lib.ListN.{length, getD, take, drop}
 use lib.Dec.{ltb}
 use borrow.Author.Tests.{eq-eqb, ne-eqb, lt-ltb, le-ltb}
 use Rattle.theory_loops.specs.First.{yes-any, any-clear}
@@ -30,7 +30,7 @@ use Rattle.search_arcs.specs.Town.{Town, lawful}
 use Rattle.toward_row.specs.Arcs.{Primed}
 use Rattle.toward_row.specs.Cut.{Cut}
 use Rattle.toward_row.specs.Lower.{entries, lowered, offer, Capped, Fresh}
-use Rattle.toward_node.specs.Rows.{rowsOf, Worked}
+use Rattle.toward_node.specs.Rows.{Worked, row-long, row-entry}
 use Rattle.toward_node.specs.Turn.{modest}
 
 -- a row with one more at each tick
@@ -125,8 +125,8 @@ module _ {g : Graph} (m : Modest g) {b : ℕ} {W : List ℕ} (w : Worked g b W) 
     }
 
     -- the tail's row raised by one, and lowered by the arc: an entry fell exactly where the arc starts a path
-    module _ {hs row new before after : List ℕ} {r : ℕ} (some : 0 < g .period)
-        (held : Filled 0 (g .period) (rowsOf (g .period) W (g .head a)) before hs)
+    module _ (hs : List ℕ) {row new after : List ℕ} {r : ℕ} (some : 0 < g .period)
+        (held : (y : ℕ) → y < g .period → getD hs y 0 ≡ gridAt (g .period) W (g .head a) y)
         (up : Filled 0 (g .period) (raised (g .period) W (g .tail a)) after row)
         (c : Cut 0 (g .period) (lowered (g .travel a) (entries hs) (g .period) row) row new r) where
       offered : (x : ℕ) → x < g .period
@@ -134,7 +134,7 @@ module _ {g : Graph} (m : Modest g) {b : ℕ} {W : List ℕ} (w : Worked g b W) 
       unfolding offer entries
       offered x h =
           let y = (x + g .travel a x) % g .period in
-          omega (arith, held .written y (omega arith) (mod-lt (x + g .travel a x) some), gives-is x h)
+          omega (arith, held y (mod-lt (x + g .travel a x) some), gives-is x h)
 
       stood : (x : ℕ) → x < g .period → getD row x 0 ≡ leastTicks g b (g .tail a) x + 1
       unfolding raised
@@ -234,9 +234,10 @@ module _ {file : List ℕ} {l : Layout} {first : List ℕ} (t : Primed file l fi
         rw (same, e)
         (known-tail (modest town) w a arc (omega (arith, early)) head-known)
 
-    pub head-capped : {old hs : List ℕ} → Filled 0 (l .period) (rowsOf (l .period) W v) old hs
-        → Capped hs (l .period)
-    head-capped {hs = hs} k = record {
+    pub head-capped : {o : ℕ} → o ≡ p + l .period → o ≤ length W
+        → Capped (take (o - p) (drop p W)) (l .period)
+    head-capped {o} to fits = record {
+      long = omega (arith, row-long (l .period) W v p o q to fits);
       entry = λ y n.
           let m : y < g .period = omega (arith, same) in
           let i : gridAt (l .period) W v y ≡ gridAt (g .period) W (g .head a) y = rw (same, f) in
@@ -244,7 +245,7 @@ module _ {file : List ℕ} {l : Layout} {first : List ℕ} (t : Primed file l fi
           ap (λ (i : ℕ). i * g .period) (omega (arith, lawful town .heads a arc)) in
           omega (
             arith,
-            k .written y (omega arith) n,
+            row-entry (l .period) W v p o q to fits y n,
             i,
             known-small (modest town) w (g .head a) y (lawful town .heads a arc) m head-known,
             j,
@@ -252,10 +253,11 @@ module _ {file : List ℕ} {l : Layout} {first : List ℕ} (t : Primed file l fi
           );
     }
 
-  pub start-is : {before hs after row new : List ℕ} {r : ℕ} {t : Bool}
-      → Filled 0 (l .period) (rowsOf (l .period) W v) before hs
-      → Filled 0 (l .period) (raised (l .period) W u) after row
-      → Cut 0 (l .period) (lowered (travelAt (decode file) a) (entries hs) (l .period) row) row new r
+  pub start-is : {p o r : ℕ} {after row new : List ℕ} {t : Bool} → p ≡ v * l .period → o ≡ p + l .period
+      → o ≤ length W → Filled 0 (l .period) (raised (l .period) W u) after row
+      → Cut 0 (l .period)
+      (lowered (travelAt (decode file) a) (entries (take (o - p) (drop p W))) (l .period) row) row new r
       → t ≡ ltb 0 r → t ≡ starts g (leastTicks g b) a
-  start-is k i c d =
-      start-told (modest town) w a arc some (rw (same, f) at k) (rw (same, e) at i) (rw same at c) d
+  start-is {p} {o} q to fits i c d =
+      start-told (modest town) w a arc (take (o - p) (drop p W)) some
+      (rw (same, f) at (row-entry (l .period) W v p o q to fits)) (rw (same, e) at i) (rw same at c) d

@@ -7,7 +7,6 @@ use network::limits::MOST_ARCS;
 use network::limits::MOST_PERIOD;
 use network::limits::NEVER;
 use network::read;
-use toward_node::copy_row;
 use toward_node::row_place;
 ghost use mathlib.Core.Path.{_≡_};
 ghost use Prim.Native.Nat.{_+_, _*_, _≤_, _<_};
@@ -53,12 +52,12 @@ pub fn is_start(
 {
     let u = read::tail(file, l, arc);
     let v = read::head(file, l, arc);
-    if work[row_place(l, v)] == NEVER {
+    let p = row_place(l, v);
+    if work[p] == NEVER {
         return false;
     }
-    let mut hs = [0u32; MOST_PERIOD];
-    copy_row(l, v, work, &mut hs);
+    let e = p + l.period;
     let mut row = [0u32; MOST_PERIOD];
     raise_row(l, u, work, &mut row);
-    0 < toward_row::lower_arc(false, file, l, starts, arc, &hs, &mut row)
+    0 < toward_row::lower_arc(false, file, l, starts, arc, &work[p..e], &mut row)
 }

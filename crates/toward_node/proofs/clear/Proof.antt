@@ -1,4 +1,4 @@
--- `least::clear` meets its contract: the entries passed are never.
+-- `toward_node::clear` meets its contract: the entries passed are never.
 use mathlib.Core.Path.{_≡_}
 use Prim.Native.Nat.{_-_, _≤_}
 use lib.ListN.{length}

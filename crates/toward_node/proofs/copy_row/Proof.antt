@@ -1,4 +1,4 @@
--- `least::copy_row` meets its contract: the entries passed are the row's.
+-- `toward_node::copy_row` meets its contract: the entries passed are the row's.
 use Prim.Native.Nat.{_-_, _≤_}
 use Rattle.theory_loops.specs.Fill.{Filled, fill-end, fills}
 use Rattle.toward_node.specs.Places.{copied, copy-entry, copy-row}

@@ -1,4 +1,4 @@
--- `least::lower_row` meets its contract: the row is a part of the list, lent and given back.
+-- `toward_node::lower_row` meets its contract: the row is a part of the list, lent and given back.
 use Prim.Native.Nat.{_+_, _*_, _≤_}
 use native.Mathlib.Omega.{arith}
 use lib.ListN.{length}
@@ -28,13 +28,13 @@ part-lower-arc-end c = search needs
 
 lower-arc-requires : tie.Need-lower-arc-requires
 lower-arc-requires c κs =
-    let s = c .before .before .before .before .before in (
+    let s = c .before .before .before .before .before .before in (
       s .pre .0,
       (
         s .pre .1 .0 .0,
         search needs,
         s .pre .1 .1 .0,
-        fresh-lent (c .before .before .row-place .ensures .0) (s .pre .1 .1 .1),
+        fresh-lent (c .before .before .before .row-place .ensures .0) (s .pre .1 .1 .1),
       ),
     )
 
@@ -43,15 +43,15 @@ same-length c = search needs
 
 returns : tie.Need-returns
 returns c =
-    let s = c .before .before .before .before .before .before .before .before in
+    let s = c .before .before .before .before .before .before .before .before .before in
     let m : s .args .u * s .args .l .period + s .args .l .period ≤ length (now (s .args .work)) =
     omega (
       arith,
-      c .before .before .before .before .before .row-place .ensures .0,
-      c .before .before .before .before .before .row-place .ensures .1,
+      c .before .before .before .before .before .before .row-place .ensures .0,
+      c .before .before .before .before .before .before .row-place .ensures .1,
       s .pre .1 .0 .2,
     ) in
-    row-lent _ _ _ _ _ _ _ _ (c .before .before .before .before .before .row-place .ensures .0) m
+    row-lent _ _ _ _ _ _ _ _ (c .before .before .before .before .before .before .row-place .ensures .0) m
     (c .before .before .lower-arc .ensures)
 
 pub lower-row-spec : {M : Type 1} → statement M

@@ -1,5 +1,4 @@
 -- `most_near` meets its contract: of the nodes passed none has more.
-use mathlib.Core.Path.{refl}
 use Prim.Native.Nat.{_-_, _≤_}
 use Rattle.toward_node.specs.Places.{Most, most-none, most-more, most-end}
 use borrow.Author.Needs.{needs}

@@ -1,4 +1,4 @@
--- `least::row_place` meets its contract: as many rows before it as nodes.
+-- `toward_node::row_place` meets its contract: as many rows before it as nodes.
 use mathlib.Core.Path.{refl}
 use Rattle.toward_node.specs.Places.{row-fits, row-within, row-early}
 use Rattle.toward_node.proofs.row_place.Statement.{statement}

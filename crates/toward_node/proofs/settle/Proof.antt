@@ -43,7 +43,7 @@ wide-requires c κs = search needs
 loop-holds : tie.Need-loop-holds Inv-loop μ-loop
 loop-holds c =
     let s = c .before .before .before .before .before .before .before .before in
-    walking-start (s .pre .0 .0) (s .pre .1 .0) (s .pre .1 .1) (s .pre .1 .2)
+    walking-start (s .pre .0 .0) (s .pre .1 .0) (s .pre .1 .1) (s .pre .1 .2) (s .pre .1 .3)
     (c .before .before .before .copy-row .ensures) (c .wide .ensures .0)
 
 lower-tail-requires : tie.Need-lower-tail-requires Inv-loop μ-loop

@@ -1,4 +1,4 @@
--- `least::zero_row` meets its contract: the entries passed are 0.
+-- `toward_node::zero_row` meets its contract: the entries passed are 0.
 use Prim.Native.Nat.{_-_, _≤_}
 use native.Mathlib.Omega.{arith}
 use mathlib.Core.Path.{refl}

@@ -25,8 +25,8 @@ add-row c = search needs
 mul-row : tie.Need-mul-row Inv-loop μ-loop
 mul-row c = search needs
 
-element-copy-out-row : tie.Need-element-copy-out-row Inv-loop μ-loop
-element-copy-out-row c = search needs
+shared-slice-read-row : tie.Need-shared-slice-read-row Inv-loop μ-loop
+shared-slice-read-row c = search needs
 
 add-row-2 : tie.Need-add-row-2 Inv-loop μ-loop
 add-row-2 c =
@@ -66,7 +66,7 @@ copy-run-spec =
     sub-row
     add-row
     mul-row
-    element-copy-out-row
+    shared-slice-read-row
     add-row-2
     mul-row-2
     slice-write-row

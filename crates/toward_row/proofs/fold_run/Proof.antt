@@ -33,12 +33,12 @@ add-lesser c = search needs
 mul-lesser : tie.Need-mul-lesser Inv-loop μ-loop
 mul-lesser c = search needs
 
-element-copy-out-lesser : tie.Need-element-copy-out-lesser Inv-loop μ-loop
-element-copy-out-lesser c = search needs
+shared-slice-read-lesser : tie.Need-shared-slice-read-lesser Inv-loop μ-loop
+shared-slice-read-lesser c = search needs
 
 lesser-requires : tie.Need-lesser-requires Inv-loop μ-loop
 lesser-requires c κs =
-    let s = c .before .before .before .before .before in
+    let s = c .before .before .before .before .before .before in
     let at = c .before .before .before .loop in
     let h : s .args .from + (at .x - s .args .a) < s .args .from + (s .args .b - s .args .a) = omega arith in
     omega (arith, s .pre .1 .entry _ h)
@@ -82,7 +82,7 @@ fold-run-spec =
     sub-lesser
     add-lesser
     mul-lesser
-    element-copy-out-lesser
+    shared-slice-read-lesser
     lesser-requires
     mul-row
     slice-write-row

@@ -18,7 +18,7 @@ count-requires c κs = search needs
 
 lower-points-requires : tie.Need-lower-points-requires
 lower-points-requires c κs =
-    let s = c .before .before .before .before .before .before in (
+    let s = c .before .before .before .before .before .before .before in (
       s .pre .0 .town .laid,
       (
         arc-of (s .pre .0) (s .pre .1 .0) _ _ (c .before .before .wide .ensures .0)
@@ -32,7 +32,7 @@ same-length c = search needs
 
 returns : tie.Need-returns
 returns c =
-    let s = c .before .before .before .before .before .before .before .before .before in
+    let s = c .before .before .before .before .before .before .before .before .before .before in
     arc-lowered (s .pre .0) (s .pre .1 .0) _ _ (c .before .before .before .before .before .wide .ensures .0)
     (c .before .before .before .before .count .ensures .0) _ _ _ _
     (c .before .before .lower-points .ensures)

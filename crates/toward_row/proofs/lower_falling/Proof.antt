@@ -47,7 +47,7 @@ add-lower-span c = search needs
 
 lower-span-requires : tie.Need-lower-span-requires Inv-loop μ-loop
 lower-span-requires c κs =
-    let r = c .before .before .before .pre .0 in (
+    let r = c .before .before .before .before .pre .0 in (
       (search needs, omega arith, search needs, search needs, search needs),
       (r .capped, fresh-part (r .fresh) (omega (arith, r .apart))),
     )
@@ -58,14 +58,14 @@ add-x c = search needs
 loop-holds : tie.Need-loop-holds Inv-loop μ-loop
 loop-holds c = (
   search needs,
-  fall-start (c .before .before .before .before .before .before .pre .0)
-      (c .before .before .before .before .before .before .pre .1),
+  fall-start (c .before .before .before .before .before .before .before .pre .0)
+      (c .before .before .before .before .before .before .before .pre .1),
   search cut-none,
 )
 
 add-parts : tie.Need-add-parts Inv-loop μ-loop
 add-parts c =
-    let s = c .before .before .before .before .before .before .before .before in
+    let s = c .before .before .before .before .before .before .before .before .before in
     let l = c .before .loop in
     fall-fits (s .pre .0) (s .pre .1) (l .inv .1)
     (c .before .before .before .before .before .before .step-up .ensures) (c .loop-test .taken)
@@ -78,7 +78,7 @@ wholes-requires c κs = search needs
 
 add-e-2 : tie.Need-add-e-2 Inv-loop μ-loop
 add-e-2 c =
-    let s = c .before .before .before .before .before .before .before .before .before in
+    let s = c .before .before .before .before .before .before .before .before .before .before in
     let l = c .before .before .loop in
     omega (
       arith,
@@ -95,7 +95,7 @@ sub-lower-span c = search needs
 
 lower-span-requires-2 : tie.Need-lower-span-requires-2 Inv-loop μ-loop
 lower-span-requires-2 c κs =
-    let s = c .before .before .before .before .before .before .before .before .before .before in
+    let s = c .before .before .before .before .before .before .before .before .before .before .before in
     let l = c .before .before .before .loop in
     let step = c .before .before .before .before .before .before .before .before .step-up .ensures in
     let taken = c .before .before .loop-test .taken in
@@ -110,7 +110,7 @@ lower-span-requires-2 c κs =
 add-count : tie.Need-add-count Inv-loop μ-loop
 add-count c =
     let s = c .before .before .before .before .before .before .before .before .before .before .before .before
-    .before in
+    .before .before in
     let l = c .before .before .before .before .before .before .loop in
     let h = fall-within (s .pre .0) (s .pre .1) (l .inv .1)
     (c .before .before .before .before .before .before .before .before .before .before .before .step-up
@@ -139,7 +139,7 @@ loop-less c = shrinks _ _ (c .before .before .before .before .before .loop-test 
 loop-again : tie.Need-loop-again Inv-loop μ-loop
 loop-again c =
     let s = c .before .before .before .before .before .before .before .before .before .before .before .before
-    .before in
+    .before .before in
     let l = c .before .before .before .before .before .before .loop in (
       search needs,
       fall-next (s .pre .0) (s .pre .1) (l .inv .1)
@@ -155,7 +155,7 @@ loop-again c =
 
 lower-span-requires-3 : tie.Need-lower-span-requires-3 Inv-loop μ-loop
 lower-span-requires-3 c κs =
-    let s = c .before .before .before .before .before .before .before .before .before in
+    let s = c .before .before .before .before .before .before .before .before .before .before in
     let l = c .before .before .loop in
     let first = c .before .before .before .before .before .lower-span .ensures .filled in
     let fresh = fresh-on {e = s .args .b} (s .pre .0 .fresh) first (omega arith) (omega arith) in (
@@ -172,6 +172,7 @@ lower-span-requires-3 c κs =
 add-result : tie.Need-add-result Inv-loop μ-loop
 add-result c =
     let s = c .before .before .before .before .before .before .before .before .before .before .before .before
+    .before
     in
     let l = c .before .before .before .before .before .loop in
     let h = fall-still (s .pre .0) (s .pre .1) (l .inv .1) (l .inv .0) in
@@ -187,6 +188,7 @@ add-result c =
 add-result-2 : tie.Need-add-result-2 Inv-loop μ-loop
 add-result-2 c =
     let s = c .before .before .before .before .before .before .before .before .before .before .before .before
+    .before
     in
     let l = c .before .before .before .before .before .loop in
     let h = fall-still (s .pre .0) (s .pre .1) (l .inv .1) (l .inv .0) in
@@ -206,6 +208,7 @@ same-length c = search needs
 returns : tie.Need-returns Inv-loop μ-loop
 returns c =
     let s = c .before .before .before .before .before .before .before .before .before .before .before .before
+    .before
     in
     let l = c .before .before .before .before .before .loop in
     fall-end (s .pre .0) (s .pre .1) (l .inv .1) (l .inv .0)

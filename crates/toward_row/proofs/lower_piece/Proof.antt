@@ -32,7 +32,7 @@ same-length-3 c = search needs
 
 returns-3 : tie.Need-returns-3
 returns-3 c =
-    let s = c .before .before .before .before .before .before .before in
+    let s = c .before .before .before .before .before .before .before .before in
     let e : s .args .v ≡ s .args .w = omega arith in
     flat-run (s .pre) e (c .before .before .lower-span .ensures)
 

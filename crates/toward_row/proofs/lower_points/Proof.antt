@@ -36,7 +36,7 @@ travel-requires c κs = search needs
 loop-holds : tie.Need-loop-holds Inv-loop μ-loop
 unfolding entryAt
 loop-holds c =
-    let s = c .before .before .before in (
+    let s = c .before .before .before .before in (
       search needs,
       tick-first (s .pre .1 .0 .day),
       entry-start (decode (now (s .args .file)) .travels) (s .args .from) _ (c .travel .ensures .0),
@@ -71,7 +71,7 @@ loop-less c = search needs
 loop-again : tie.Need-loop-again Inv-loop μ-loop
 unfolding entryAt
 loop-again c =
-    let s = c .before .before .before .before .before .before .before .before in
+    let s = c .before .before .before .before .before .before .before .before .before in
     let l = c .before .before .before .before .loop in
     let h : l .k + 1 < s .args .count = omega arith in
     let tick = c .before .before .tick .ensures .0 in
@@ -87,7 +87,7 @@ loop-again c =
 lower-span-requires : tie.Need-lower-span-requires Inv-loop μ-loop
 unfolding entryAt
 lower-span-requires c κs =
-    let s = c .before .before .before .before .before .before .before .before .before in
+    let s = c .before .before .before .before .before .before .before .before .before .before in
     let l = c .before .before .before .before .before .loop in
     let h : l .k < s .args .count = omega arith in
     let m : s .args .l .period ≤ length (l .row) = omega (arith, l .inv .4 .filled .long) in (
@@ -109,6 +109,7 @@ add-fallen : tie.Need-add-fallen Inv-loop μ-loop
 unfolding entryAt
 add-fallen c =
     let s = c .before .before .before .before .before .before .before .before .before .before .before .before
+    .before
     in
     let l = c .before .before .before .before .before .before .before .before .loop in
     let h : l .k < s .args .count = omega arith in
@@ -126,7 +127,7 @@ lower-piece-requires : tie.Need-lower-piece-requires Inv-loop μ-loop
 unfolding entryAt
 lower-piece-requires c κs =
     let s = c .before .before .before .before .before .before .before .before .before .before .before .before
-    .before in
+    .before .before in
     let l = c .before .before .before .before .before .before .before .before .before .loop in
     let h : l .k + 1 < s .args .count = omega arith in
     let m : s .args .l .period ≤ length (c .before .before .before .lower-span .last .1 .1 .1 .1 .0) =
@@ -145,7 +146,7 @@ add-fallen-2 : tie.Need-add-fallen-2 Inv-loop μ-loop
 unfolding entryAt
 add-fallen-2 c =
     let s = c .before .before .before .before .before .before .before .before .before .before .before .before
-    .before .before .before .before in
+    .before .before .before .before .before in
     let l = c .before .before .before .before .before .before .before .before .before .before .before .before
     .loop in
     let h : l .k + 1 < s .args .count = omega arith in
@@ -176,7 +177,7 @@ loop-again-2 : tie.Need-loop-again-2 Inv-loop μ-loop
 unfolding entryAt
 loop-again-2 c =
     let s = c .before .before .before .before .before .before .before .before .before .before .before .before
-    .before .before .before .before in
+    .before .before .before .before .before in
     let l = c .before .before .before .before .before .before .before .before .before .before .before .before
     .loop in
     let h : l .k + 1 < s .args .count = omega arith in
@@ -198,7 +199,7 @@ loop-again-2 c =
 lower-span-requires-2 : tie.Need-lower-span-requires-2 Inv-loop μ-loop
 unfolding entryAt
 lower-span-requires-2 c κs =
-    let s = c .before .before .before .before .before .before in
+    let s = c .before .before .before .before .before .before .before in
     let l = c .before .before .loop in
     let h : l .k < s .args .count = omega arith in
     let m : s .args .l .period ≤ length (l .row) = omega (arith, l .inv .4 .filled .long) in (
@@ -219,7 +220,7 @@ lower-span-requires-2 c κs =
 add-fallen-3 : tie.Need-add-fallen-3 Inv-loop μ-loop
 unfolding entryAt
 add-fallen-3 c =
-    let s = c .before .before .before .before .before .before .before .before .before in
+    let s = c .before .before .before .before .before .before .before .before .before .before in
     let l = c .before .before .before .before .before .loop in
     let h : l .k < s .args .count = omega arith in
     let n = tick-below (s .pre .1 .0 .day) (l .k) _ (l .inv .1) h in
@@ -235,7 +236,7 @@ add-fallen-3 c =
 lower-piece-requires-2 : tie.Need-lower-piece-requires-2 Inv-loop μ-loop
 unfolding entryAt
 lower-piece-requires-2 c κs =
-    let s = c .before .before .before .before .before .before .before .before .before .before in
+    let s = c .before .before .before .before .before .before .before .before .before .before .before in
     let l = c .before .before .before .before .before .before .loop in
     let h : l .k < s .args .count = omega arith in
     let m : s .args .l .period ≤ length (c .before .before .before .lower-span2 .last .1 .1 .1 .1 .0) =
@@ -255,7 +256,7 @@ add-result : tie.Need-add-result Inv-loop μ-loop
 unfolding entryAt
 add-result c =
     let s = c .before .before .before .before .before .before .before .before .before .before .before .before
-    .before in
+    .before .before in
     let l = c .before .before .before .before .before .before .before .before .before .loop in
     let h : l .k < s .args .count = omega arith in
     let n = tick-below (s .pre .1 .0 .day) (l .k) _ (l .inv .1) h in
@@ -276,7 +277,7 @@ returns : tie.Need-returns Inv-loop μ-loop
 unfolding entryAt
 returns c =
     let s = c .before .before .before .before .before .before .before .before .before .before .before .before
-    .before in
+    .before .before in
     let l = c .before .before .before .before .before .before .before .before .before .loop in
     let h : l .k < s .args .count = omega arith in
     let m : s .args .count ≤ l .k + 1 = omega arith in

@@ -40,7 +40,7 @@ wholes-requires c κs = search needs
 
 add-e : tie.Need-add-e Inv-loop μ-loop
 add-e c =
-    let a = c .before .before .before .before .before .args in
+    let a = c .before .before .before .before .before .before .args in
     let h : a .a + c .wholes .result ≤ a .b = search rises in
     omega arith
 
@@ -49,11 +49,11 @@ add-lower-span c = search needs
 
 lower-span-requires : tie.Need-lower-span-requires Inv-loop μ-loop
 lower-span-requires c κs =
-    let a = c .before .before .before .before .before .before .args in
+    let a = c .before .before .before .before .before .before .before .args in
     let e = a .a + c .before .wholes .result in
     let h : e ≤ a .b = search rises in
     let l : c .before .before .before .loop .x ≤ e = search rises in
-    let r = c .before .before .before .before .before .before .pre .0 in
+    let r = c .before .before .before .before .before .before .before .pre .0 in
     let w = c .before .before .before .loop .inv in
     let m : a .a ≤ c .before .before .before .loop .x = omega (arith, w .1 .at) in (
       (l, omega arith, omega arith, omega arith, omega arith),
@@ -62,7 +62,7 @@ lower-span-requires c κs =
 
 add-count : tie.Need-add-count Inv-loop μ-loop
 add-count c =
-    let a = c .before .before .before .before .before .before .before .before .before .args in
+    let a = c .before .before .before .before .before .before .before .before .before .before .args in
     let h : a .a + c .before .before .before .before .wholes .result ≤ a .b = search rises in
     let l : c .before .before .before .before .before .before .loop .x ≤ a .a + c .before .before .before
     .before .wholes .result = search rises in
@@ -70,8 +70,8 @@ add-count c =
       arith,
       c .before .before .before .before .before .before .loop .inv .2 .few,
       c .before .before .lower-span .ensures .few,
-      c .before .before .before .before .before .before .before .before .before .pre .0 .within,
-      c .before .before .before .before .before .before .before .before .before .pre .0 .short,
+      c .before .before .before .before .before .before .before .before .before .before .pre .0 .within,
+      c .before .before .before .before .before .before .before .before .before .before .pre .0 .short,
     )
 
 add-j : tie.Need-add-j Inv-loop μ-loop
@@ -82,7 +82,7 @@ loop-less c = search needs
 
 loop-again : tie.Need-loop-again Inv-loop μ-loop
 loop-again c =
-    let s = c .before .before .before .before .before .before .before .before .before in
+    let s = c .before .before .before .before .before .before .before .before .before .before in
     let l = c .before .before .before .before .before .before .loop in (
       search needs,
       search rises,

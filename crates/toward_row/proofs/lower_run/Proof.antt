@@ -18,8 +18,8 @@ same-length c = search needs
 
 returns : tie.Need-returns
 returns c =
-    let s = c .before .before .before .before .before .before in
-    run-copied _ _ _ _ (c .before .before .before .before .if1 .taken) (s .pre .0 .0) (s .pre .0 .4) (s
+    let s = c .before .before .before .before .before .before .before in
+    run-copied _ _ _ _ (c .before .before .before .before .if1 .taken) (s .pre .0 .0) (s .pre .0 .3) (s
     .pre .1 .0)
     (s .pre .1 .1) (c .before .before .copy-run .ensures)
 

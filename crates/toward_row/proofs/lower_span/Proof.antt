@@ -16,7 +16,7 @@ add-lower-run c = search needs
 
 lower-run-requires : tie.Need-lower-run-requires
 lower-run-requires c κs =
-    let s = c .before .before .before in
+    let s = c .before .before .before .before in
     (search needs, (capped-part (s .pre .1 .0) (omega arith), s .pre .1 .1))
 
 same-length : tie.Need-same-length
@@ -27,7 +27,7 @@ returns c = search spans
 
 lower-run-requires-2 : tie.Need-lower-run-requires-2
 lower-run-requires-2 c κs =
-    let s = c .before .before .before .before in
+    let s = c .before .before .before .before .before in
     (search needs, (capped-part (s .pre .1 .0) (omega arith), s .pre .1 .1))
 
 same-length-2 : tie.Need-same-length-2
@@ -41,12 +41,12 @@ add-lower-run-2 c = search needs
 
 lower-run-requires-3 : tie.Need-lower-run-requires-3
 lower-run-requires-3 c κs =
-    let s = c .before .before .before .before in
+    let s = c .before .before .before .before .before in
     (search needs, (capped-part (s .pre .1 .0) (omega arith), fresh-part (s .pre .1 .1) (omega arith)))
 
 lower-run-requires-4 : tie.Need-lower-run-requires-4
 lower-run-requires-4 c κs =
-    let s = c .before .before .before .before .before .before .before .before in (
+    let s = c .before .before .before .before .before .before .before .before .before in (
       search needs,
       (
         capped-part (s .pre .1 .0) (omega arith),

@@ -1,6 +1,9 @@
 -- `toward_start::is_start` meets its contract.
 use mathlib.Core.Path.{refl}
+use Prim.Native.Nat.{_+_, _≤_}
 use native.Mathlib.Omega.{arith}
+use lib.ListN.{length}
+use denote.Ref.{now}
 use Rattle.search_arcs.specs.Town.{tail-node, head-node}
 use Rattle.toward_start.specs.Start.{no-start, tail-row, head-capped, not-fresh, start-is}
 use borrow.Author.Needs.{needs}
@@ -31,22 +34,13 @@ returns c =
     (c .before .before .before .before .tail .ensures .0) (c .before .before .before .head .ensures .0)
     _ _ (c .before .before .row-place .ensures .0) refl (c .if1 .taken)
 
-copy-row-requires : tie.Need-copy-row-requires
-copy-row-requires c κs =
-    let s = c .before .before .before .before .before .before .before .before in (
-      s .pre .0 .town .small,
-      (
-        head-node (s .pre .0 .town) _ _ (s .pre .1 .0 .0)
-            (c .before .before .before .before .head .ensures .0),
-        s .pre .1 .0 .2,
-        s .pre .0 .town .small .period-most,
-      ),
-    )
+add-e : tie.Need-add-e
+add-e c = search needs
 
 raise-row-requires : tie.Need-raise-row-requires
 raise-row-requires c κs =
-    let s = c .before .before .before .before .before .before .before .before .before .before in
-    let e = c .before .before .before .before .before .before .before .tail .ensures .0 in (
+    let s = c .before .before .before .before .before .before .before .before .before in
+    let e = c .before .before .before .before .before .before .tail .ensures .0 in (
       s .pre .0 .town .small,
       (
         (
@@ -54,12 +48,24 @@ raise-row-requires c κs =
           s .pre .1 .0 .2,
           s .pre .0 .town .small .period-most,
         ),
-        tail-row (s .pre .0) (s .pre .1 .1) (s .pre .1 .0 .0) e
-            (c .before .before .before .before .before .before .head .ensures .0)
-            _ _ (c .before .before .before .before .before .row-place .ensures .0) refl
-            (c .before .before .before .if1 .left),
+        tail-row (s .pre .0) (s .pre .1 .1) (s .pre .1 .0 .0) e (c .before .before .before .before .before
+            .head .ensures .0)
+            _ _ (c .before .before .before .before .row-place .ensures .0) refl (c .before .before .if1
+            .left),
       ),
     )
+
+mul-lower-arc : tie.Need-mul-lower-arc
+mul-lower-arc c = search needs
+
+sub-lower-arc : tie.Need-sub-lower-arc
+sub-lower-arc c = search needs
+
+part-lower-arc-start : tie.Need-part-lower-arc-start
+part-lower-arc-start c = search needs
+
+part-lower-arc-end : tie.Need-part-lower-arc-end
+part-lower-arc-end c = search needs
 
 slice-aggregate-lower-arc : tie.Need-slice-aggregate-lower-arc
 slice-aggregate-lower-arc c = search needs
@@ -67,19 +73,19 @@ slice-aggregate-lower-arc c = search needs
 lower-arc-requires : tie.Need-lower-arc-requires
 lower-arc-requires c κs =
     let s = c .before .before .before .before .before .before .before .before .before .before .before .before
-    .before in
-    let e = c .before .before .before .before .before .before .before .before .before .before .tail .ensures
-    .0 in (
+    in
+    let place = c .before .before .before .before .before .before .before .row-place .ensures in
+    let fits : c .before .before .before .before .before .before .before .row-place .result + s .args .l
+    .period ≤ length (now (s .args .work)) =
+    omega (arith, place .1, s .pre .1 .0 .2) in (
       s .pre .0,
       (
         s .pre .1 .0 .0,
         omega (arith, c .before .before .raise-row .ensures .long, s .pre .0 .town .small .period-most),
-        head-capped (s .pre .0) (s .pre .1 .1) (s .pre .1 .0 .0) e
-            (c .before .before .before .before .before .before .before .before .before .head .ensures .0)
-            _ _ (c .before .before .before .before .before .before .before .before .row-place .ensures .0)
-            refl
-            (c .before .before .before .before .before .before .if1 .left)
-            (c .before .before .before .before .copy-row .ensures),
+        head-capped (s .pre .0) (s .pre .1 .1) (s .pre .1 .0 .0) (c .before .before .before .before .before
+            .before .before .before .before .tail .ensures .0)
+            (c .before .before .before .before .before .before .before .before .head .ensures .0) _ _ (place
+            .0) refl (c .before .before .before .before .before .if1 .left) refl fits,
         not-fresh,
       ),
     )
@@ -87,14 +93,17 @@ lower-arc-requires c κs =
 returns-2 : tie.Need-returns-2
 returns-2 c =
     let s = c .before .before .before .before .before .before .before .before .before .before .before .before
-    .before .before .before in
-    start-is (s .pre .0) (s .pre .1 .1) (s .pre .1 .0 .0)
-    (c .before .before .before .before .before .before .before .before .before .before .before .before
-    .tail .ensures .0)
-    (c .before .before .before .before .before .before .before .before .before .before .before .head
-    .ensures .0)
-    (c .before .before .before .before .before .before .copy-row .ensures)
-    (c .before .before .before .before .raise-row .ensures) (c .before .lower-arc .ensures) refl
+    .before .before in
+    let place = c .before .before .before .before .before .before .before .before .before .row-place .ensures
+    in
+    let fits : c .before .before .before .before .before .before .before .before .before .row-place .result +
+    s .args .l .period ≤ length (now (s .args .work)) =
+    omega (arith, place .1, s .pre .1 .0 .2) in
+    start-is (s .pre .0) (s .pre .1 .1) (s .pre .1 .0 .0) (c .before .before .before .before .before .before
+    .before .before .before .before .before .tail .ensures .0)
+    (c .before .before .before .before .before .before .before .before .before .before .head .ensures .0)
+    (place .0) refl fits (c .before .before .before .before .raise-row .ensures)
+    (c .before .lower-arc .ensures) refl
 
 pub is-start-spec : {M : Type 1} → statement M
 is-start-spec =
@@ -106,8 +115,12 @@ is-start-spec =
     mul-if1
     shared-slice-read-if1
     returns
-    copy-row-requires
+    add-e
     raise-row-requires
+    mul-lower-arc
+    sub-lower-arc
+    part-lower-arc-start
+    part-lower-arc-end
     slice-aggregate-lower-arc
     lower-arc-requires
     returns-2)

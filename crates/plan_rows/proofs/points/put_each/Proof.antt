@@ -1,7 +1,10 @@
 use mathlib.Core.Path.{refl}
-use Prim.Native.Nat.{_+_, _-_, _≤_}
+use Prim.Native.Nat.{_+_, _-_, _≤_, _<_}
 use native.Mathlib.Omega.{arith}
+use denote.Ref.{now}
+use lib.ListN.{length}
 use Rattle.plan_rows.specs.Points.{PutPoints, put-none, put-join, put-end, room-kept, part-room}
+use Rattle.plan_rows.specs.Points.{step-in}
 use borrow.Author.Needs.{needs}
 use Rattle.plan_rows.proofs.points.put_each.Statement.{statement}
 use Rattle.plan_rows.proofs.points.put_each.Tie as tie
@@ -15,18 +18,48 @@ abbrev μ-loop : tie.MeasureT-loop
 loop-holds : tie.Need-loop-holds Inv-loop μ-loop
 loop-holds c = (search needs, search needs, put-none refl)
 
+sub-turn : tie.Need-sub-turn Inv-loop μ-loop
+sub-turn c = search needs
+
+mul-turn : tie.Need-mul-turn Inv-loop μ-loop
+mul-turn c = search needs
+
+shared-slice-read-turn : tie.Need-shared-slice-read-turn Inv-loop μ-loop
+shared-slice-read-turn c = search needs
+
+mul-turn-2 : tie.Need-mul-turn-2 Inv-loop μ-loop
+mul-turn-2 c = search needs
+
+shared-slice-read-turn-2 : tie.Need-shared-slice-read-turn-2 Inv-loop μ-loop
+shared-slice-read-turn-2 c = search needs
+
+add-turn : tie.Need-add-turn Inv-loop μ-loop
+add-turn c = search needs
+
+mul-turn-3 : tie.Need-mul-turn-3 Inv-loop μ-loop
+mul-turn-3 c = search needs
+
+shared-slice-read-turn-3 : tie.Need-shared-slice-read-turn-3 Inv-loop μ-loop
+shared-slice-read-turn-3 c = search needs
+
+turn-requires : tie.Need-turn-requires Inv-loop μ-loop
+turn-requires c κs =
+    let s = c .before .before .before .before .before .before .before in
+    let low = s .pre .0 .0 in
+    let h : c .before .before .before .before .loop .x + 1 < length (now (s .args .row)) = omega arith in
+    (low .entry _ (omega arith), low .entry _ (omega arith), low .entry _ h)
+
 put-tick-requires : tie.Need-put-tick-requires Inv-loop μ-loop
 put-tick-requires c κs =
-    let s = c .before .before .before .before .before in
-    let at = c .before .before .loop in
+    let s = c .before .before .before .before .before .before .before .before .before in
+    let at = c .before .before .before .before .before .before .loop in
+    let h : at .x + 1 < length (now (s .args .row)) = omega arith in
+    let e = step-in (now (s .args .row)) (at .x) _ (omega arith) h (c .before .turn .ensures) in
     let m : at .x ≤ at .x + 1 = omega arith in
-    let n : at .x + 1 ≤ s .args .b = omega arith in (
+    let n : at .x + 1 ≤ s .args .b = omega arith in
+    let room = part-room (at .x + 1) (s .args .b) (at .inv .2) (at .inv .0) m n (s .pre .1 .3) in (
       (s .pre .0 .0, room-kept (s .pre .0 .1) (at .inv .2)),
-      (
-        omega arith,
-        omega arith,
-        part-room (at .x + 1) (s .args .b) (at .inv .2) (at .inv .0) m n (s .pre .1 .3),
-      ),
+      (omega arith, omega (arith, e, room), e),
     )
 
 add-x : tie.Need-add-x Inv-loop μ-loop
@@ -39,7 +72,8 @@ loop-again : tie.Need-loop-again Inv-loop μ-loop
 loop-again c = (
   omega arith,
   omega arith,
-  put-join (c .before .before .before .before .before .loop .inv .2) (c .before .before .put-tick .ensures),
+  put-join (c .before .before .before .before .before .before .before .before .before .loop .inv .2)
+      (c .before .before .put-tick .ensures),
 )
 
 same-length : tie.Need-same-length Inv-loop μ-loop
@@ -57,6 +91,15 @@ put-each-spec =
     Inv-loop
     μ-loop
     loop-holds
+    sub-turn
+    mul-turn
+    shared-slice-read-turn
+    mul-turn-2
+    shared-slice-read-turn-2
+    add-turn
+    mul-turn-3
+    shared-slice-read-turn-3
+    turn-requires
     put-tick-requires
     add-x
     loop-less

@@ -4,7 +4,7 @@ use native.Mathlib.Omega.{arith}
 use denote.Ref.{now}
 use lib.ListN.{length}
 use Rattle.plan_rows.specs.Points.{all-room, first-room, first-put, put-join, put-end, room-kept}
-use Rattle.plan_rows.specs.Points.{part-room}
+use Rattle.plan_rows.specs.Points.{part-room, step-last}
 use borrow.Author.Needs.{needs}
 use Rattle.plan_rows.proofs.points.put_points.Statement.{statement}
 use Rattle.plan_rows.proofs.points.put_points.Tie as tie
@@ -54,25 +54,50 @@ put-parts-requires c κs =
       ),
     )
 
-put-last-requires : tie.Need-put-last-requires
-put-last-requires c κs =
+sub-turn : tie.Need-sub-turn
+sub-turn c = search needs
+
+mul-turn : tie.Need-mul-turn
+mul-turn c = search needs
+
+shared-slice-read-turn : tie.Need-shared-slice-read-turn
+shared-slice-read-turn c = search needs
+
+mul-turn-2 : tie.Need-mul-turn-2
+mul-turn-2 c = search needs
+
+shared-slice-read-turn-2 : tie.Need-shared-slice-read-turn-2
+shared-slice-read-turn-2 c = search needs
+
+shared-slice-read-turn-3 : tie.Need-shared-slice-read-turn-3
+shared-slice-read-turn-3 c = search needs
+
+turn-requires : tie.Need-turn-requires
+turn-requires c κs =
+    let low = c .before .before .before .before .before .before .before .before .before .before .before
+    .before .before .before .before .pre .0 .0 in
+    (low .entry _ (omega arith), low .entry _ (omega arith), low .entry 0 (low .some))
+
+put-tick-requires : tie.Need-put-tick-requires
+put-tick-requires c κs =
     let s = c .before .before .before .before .before .before .before .before .before .before .before .before
-    .before in
+    .before .before .before .before .before in
     let row = now (s .args .row) in
     let first = first-put (s .args .k) row (s .args .q) (s .pre .0 .0 .some) (s .pre .1) refl (omega arith)
-    (c .before .before .before .before .before .before .before .before .put-point .ensures) in
-    let parts = put-join first (c .before .before .before .put-parts .ensures) in
-    let e : length row - 1 + 1 ≡ length row = omega (arith, s .pre .0 .0 .some) in
+    (c .before .before .before .before .before .before .before .before .before .before .before .before
+    .put-point .ensures) in
+    let parts = put-join first (c .before .before .before .before .before .before .before .put-parts .ensures)
+    in
+    let some = s .pre .0 .0 .some in
+    let at : length row - 1 + 1 ≡ length row = omega (arith, some) in
+    let after : 1 ≤ length row - 1 = omega arith in
+    let e = step-last row (length row - 1) _ after at (c .before .turn .ensures) in
     let up : length row - 1 ≤ length row - 1 + 1 = omega arith in
-    let to : length row - 1 + 1 ≤ length row = omega arith in (
-      (s .pre .0 .0, room-kept (s .pre .0 .1) parts),
-      (
-        omega arith,
-        e,
-        part-room (length row - 1 + 1) (length row) parts (omega arith) up to
-            (all-room (s .args .k) row (s .args .q) (s .pre .0 .0 .some) (s .pre .1)),
-      ),
-    )
+    let to : length row - 1 + 1 ≤ length row = omega arith in
+    let room =
+    part-room (length row - 1 + 1) (length row) parts (omega arith) up to
+    (all-room (s .args .k) row (s .args .q) some (s .pre .1)) in
+    ((s .pre .0 .0, room-kept (s .pre .0 .1) parts), (omega arith, omega (arith, e, room), e))
 
 same-length-2 : tie.Need-same-length-2
 same-length-2 c = search needs
@@ -80,13 +105,14 @@ same-length-2 c = search needs
 returns-2 : tie.Need-returns-2
 returns-2 c =
     let s = c .before .before .before .before .before .before .before .before .before .before .before .before
-    .before .before .before .before in
+    .before .before .before .before .before .before .before .before in
     let row = now (s .args .row) in
     let first = first-put (s .args .k) row (s .args .q) (s .pre .0 .0 .some) (s .pre .1) refl (omega arith)
-    (c .before .before .before .before .before .before .before .before .before .before .before .put-point
-    .ensures) in
-    let parts = put-join first (c .before .before .before .before .before .before .put-parts .ensures) in
-    put-end (put-join parts (c .before .before .put-last .ensures)) (omega (arith, s .pre .0 .0 .some))
+    (c .before .before .before .before .before .before .before .before .before .before .before .before .before
+    .before .before .put-point .ensures) in
+    let parts = put-join first (c .before .before .before .before .before .before .before .before .before
+    .before .put-parts .ensures) in
+    put-end (put-join parts (c .before .before .put-tick .ensures)) (omega (arith, s .pre .0 .0 .some))
     (omega (arith, s .pre .0 .0 .some))
 
 pub put-points-spec : {M : Type 1} → statement M
@@ -101,6 +127,13 @@ put-points-spec =
     returns
     add-put-parts
     put-parts-requires
-    put-last-requires
+    sub-turn
+    mul-turn
+    shared-slice-read-turn
+    mul-turn-2
+    shared-slice-read-turn-2
+    shared-slice-read-turn-3
+    turn-requires
+    put-tick-requires
     same-length-2
     returns-2)
