@@ -8,6 +8,7 @@
 use network::header::Layout;
 use network::limits::MOST_ARCS;
 use network::limits::MOST_NODES;
+use network::limits::MOST_PERIOD;
 use network::limits::NEVER;
 use network::read;
 use plan::flag;
@@ -77,7 +78,7 @@ fn size(x: u32) -> usize
     x as usize
 }
 
-// The flag word of arc a once border b, in cell c, is counted.
+// The flag word of arc a once border b, in cell c, is counted. `row` is a row to work in.
 fn flag_arc(
     file: &[u8],
     l: Layout,
@@ -86,6 +87,7 @@ fn flag_arc(
     near: &[u32; MOST_NODES],
     room: &[u32; MOST_NODES],
     work: &[u32],
+    row: &mut [u32; MOST_PERIOD],
     a: usize,
     b: usize,
     c: usize,
@@ -93,11 +95,12 @@ fn flag_arc(
 ) -> u64
     requires { ⌜ Primed (now file) l (now starts) × Leasts (now file) l (l .arcs) (now least) ⌝ }
     requires { ⌜ (a < l .arcs) × (b < l .nodes) × (c < mostCells)
-        × (length (now work) ≡ l .nodes * l .period) ⌝ }
+        × (length (now work) ≡ l .nodes * l .period) × (l .period ≤ length (now row)) ⌝ }
     requires { ⌜ Worked (graphOf (decode (now file))) b (now work)
         × Bounds l (l .nodes) (now work) (now near) (now room) ⌝ }
-    ensures { λ r. ⌜ r ≡ withFlag word c (startsLeast (graphOf (decode (now (file .entry))))
-        (leastTicks (graphOf (decode (now (file .entry)))) b) a) ⌝ }
+    ensures { λ r. ⌜ (r ≡ withFlag word c (startsLeast (graphOf (decode (now (file .entry))))
+        (leastTicks (graphOf (decode (now (file .entry)))) b) a))
+        × (length (now (row .exit)) ≡ length (now (row .entry))) ⌝ }
 {
     if flag::is_set(word, c) {
         return word;
@@ -108,13 +111,13 @@ fn flag_arc(
     if size(near[v]) < size(room[u]) + wide(least[a]) {
         return word;
     }
-    if is_start(file, l, starts, a, b, work) {
+    if is_start(file, l, starts, a, b, work, row) {
         return word + flag::alone(c);
     }
     word
 }
 
-// The flag words with border b counted, to which `work` has the least travels.
+// The flag words with border b counted, to which `work` has the least travels. `row` is a row to work in.
 pub fn flag_border(
     file: &[u8],
     l: Layout,
@@ -122,13 +125,15 @@ pub fn flag_border(
     least: &[u16; MOST_ARCS],
     b: usize,
     work: &[u32],
+    row: &mut [u32; MOST_PERIOD],
     words: &mut [u64; MOST_ARCS],
 )
     requires { ⌜ Primed (now file) l (now starts) × Leasts (now file) l (l .arcs) (now least) ⌝ }
     requires { ⌜ (b < l .nodes) × (length (now work) ≡ l .nodes * l .period)
-        × (l .arcs ≤ length (now words)) ⌝ }
+        × (l .period ≤ length (now row)) × (l .arcs ≤ length (now words)) ⌝ }
     requires { ⌜ Worked (graphOf (decode (now file))) b (now work) ⌝ }
-    ensures { λ _. ⌜ FlagsAfter (decode (now (file .entry))) b (now (words .entry)) (now (words .exit)) ⌝ }
+    ensures { λ _. ⌜ FlagsAfter (decode (now (file .entry))) b (now (words .entry)) (now (words .exit))
+        × (length (now (row .exit)) ≡ length (now (row .entry))) ⌝ }
 {
     let c = read::cell(file, l, b);
     let mut near = [0u32; MOST_NODES];
@@ -143,6 +148,7 @@ pub fn flag_border(
             &near,
             &room,
             work,
+            row,
             a,
             b,
             c,

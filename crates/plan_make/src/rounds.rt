@@ -2,6 +2,7 @@
 use network::header::Layout;
 use network::limits::MOST_ARCS;
 use network::limits::MOST_NODES;
+use network::limits::MOST_PERIOD;
 use plan::header::PlanLayout;
 use plan::limits::MOST_POINTS;
 use plan_flags::flag_border;
@@ -10,7 +11,7 @@ use plan_rows::rows::put_rows;
 use search_arcs::wide;
 use toward_node::least_travels;
 ghost use mathlib.Core.Path.{_≡_};
-ghost use Prim.Native.Nat.{_*_, _<_};
+ghost use Prim.Native.Nat.{_*_, _≤_, _<_};
 ghost use lib.ListN.{length};
 ghost use Rattle.network.specs.Decode.{decode};
 ghost use Rattle.network.specs.Town.{partitionOf};
@@ -19,7 +20,7 @@ ghost use Rattle.plan_encode.specs.Places.{PlanRoom};
 ghost use Rattle.plan_flags.specs.Words.{Flags};
 ghost use Rattle.plan_make.specs.Rounds.{Tables, Aimed, Counted, Held, PutTo};
 
-// The least travels to border number i, which it answers.
+// The least travels to border number i, which it answers. `row` is a row to work in.
 fn travels_to(
     file: &[u8],
     l: Layout,
@@ -30,15 +31,17 @@ fn travels_to(
     borders: &[u16; MOST_NODES],
     i: usize,
     work: &mut [u32],
+    row: &mut [u32; MOST_PERIOD],
 ) -> usize
     requires { ⌜ Tables (now file) l (now starts) (now into) (now next) (now least) (now borders) ⌝ }
     requires { ⌜ (i < borderCount (partitionOf (decode (now file))))
-        × (length (now work) ≡ l .nodes * l .period) ⌝ }
+        × (length (now work) ≡ l .nodes * l .period) × (l .period ≤ length (now row)) ⌝ }
     ensures { λ r. ⌜ Aimed (decode (now (file .entry))) i (now (work .exit)) r
-        × (length (now (work .exit)) ≡ length (now (work .entry))) ⌝ }
+        × (length (now (work .exit)) ≡ length (now (work .entry)))
+        × (length (now (row .exit)) ≡ length (now (row .entry))) ⌝ }
 {
     let b = wide(borders[i]);
-    least_travels(file, l, starts, into, next, least, b, work);
+    least_travels(file, l, starts, into, next, least, b, work, row);
     b
 }
 
@@ -60,9 +63,21 @@ pub fn count_points(
         × (length (now work) ≡ l .nodes * l .period) ⌝ }
     ensures { λ r. ⌜ Counted (partitionOf (decode (now (file .entry)))) r ⌝ }
 {
+    let mut row = [0u32; MOST_PERIOD];
     let mut seen = 0;
     for i in 0..count {
-        travels_to(file, l, starts, into, next, least, borders, i, work);
+        travels_to(
+            file,
+            l,
+            starts,
+            into,
+            next,
+            least,
+            borders,
+            i,
+            work,
+            &mut row,
+        );
         seen += count_rows(l, work);
         if MOST_POINTS < seen {
             return seen;
@@ -91,10 +106,22 @@ pub fn put_borders(
     ensures { λ _. ⌜ PutTo (decode (now (file .entry))) k (k .borders) (now (words .exit)) (now (out .entry))
         (now (out .exit)) ⌝ }
 {
+    let mut row = [0u32; MOST_PERIOD];
     let mut q = 0;
     for i in 0..k.borders {
-        let b = travels_to(file, l, starts, into, next, least, borders, i, work);
-        flag_border(file, l, starts, least, b, work, words);
+        let b = travels_to(
+            file,
+            l,
+            starts,
+            into,
+            next,
+            least,
+            borders,
+            i,
+            work,
+            &mut row,
+        );
+        flag_border(file, l, starts, least, b, work, &mut row, words);
         q = put_rows(l, work, out, k, i * l.nodes, q);
     }
 }

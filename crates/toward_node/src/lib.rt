@@ -279,7 +279,7 @@ fn zero_row(l: Layout, b: usize, work: &mut [u32])
     }
 }
 
-// The least travels to node b, by turn after turn until no node is dirty.
+// The least travels to node b, by turn after turn until no node is dirty. `hs` is a row to work in.
 pub fn least_travels(
     file: &[u8],
     l: Layout,
@@ -289,15 +289,17 @@ pub fn least_travels(
     least: &[u16; MOST_ARCS],
     b: usize,
     work: &mut [u32],
+    hs: &mut [u32; MOST_PERIOD],
 )
     requires { ⌜ Ready (now file) l (now starts) (now into) (now next)
         × Leasts (now file) l (l .arcs) (now least) ⌝ }
-    requires { ⌜ (b < l .nodes) × (length (now work) ≡ l .nodes * l .period) ⌝ }
-    ensures { λ _. ⌜ Worked (graphOf (decode (now (file .entry)))) b (now (work .exit)) ⌝ }
+    requires { ⌜ (b < l .nodes) × (length (now work) ≡ l .nodes * l .period)
+        × (l .period ≤ length (now hs)) ⌝ }
+    ensures { λ _. ⌜ Worked (graphOf (decode (now (file .entry)))) b (now (work .exit))
+        × (length (now (hs .exit)) ≡ length (now (hs .entry))) ⌝ }
 {
     clear(work);
     zero_row(l, b, work);
-    let mut hs = [0u32; MOST_PERIOD];
     let mut near = [0u32; MOST_NODES];
     let mut room = [0u32; MOST_NODES];
     near[b] = NEVER;
@@ -312,7 +314,7 @@ pub fn least_travels(
             next,
             least,
             v,
-            &mut hs,
+            hs,
             work,
             &mut near,
             &mut room,

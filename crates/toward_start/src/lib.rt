@@ -35,7 +35,7 @@ fn raise_row(l: Layout, u: usize, work: &[u32], row: &mut [u32; MOST_PERIOD])
     }
 }
 
-// Does the arc start a least path to node b at some tick?
+// Does the arc start a least path to node b at some tick? `row` is a row to work in.
 pub fn is_start(
     file: &[u8],
     l: Layout,
@@ -43,12 +43,15 @@ pub fn is_start(
     arc: usize,
     b: usize,
     work: &[u32],
+    row: &mut [u32; MOST_PERIOD],
 ) -> bool
     requires { ⌜ Primed (now file) l (now starts) ⌝ }
-    requires { ⌜ (arc < l .arcs) × (b < l .nodes) × (length (now work) ≡ l .nodes * l .period) ⌝ }
+    requires { ⌜ (arc < l .arcs) × (b < l .nodes) × (length (now work) ≡ l .nodes * l .period)
+        × (l .period ≤ length (now row)) ⌝ }
     requires { ⌜ Worked (graphOf (decode (now file))) b (now work) ⌝ }
-    ensures { λ r. ⌜ r ≡ startsLeast (graphOf (decode (now (file .entry))))
-        (leastTicks (graphOf (decode (now (file .entry)))) b) arc ⌝ }
+    ensures { λ r. ⌜ (r ≡ startsLeast (graphOf (decode (now (file .entry))))
+        (leastTicks (graphOf (decode (now (file .entry)))) b) arc)
+        × (length (now (row .exit)) ≡ length (now (row .entry))) ⌝ }
 {
     let u = read::tail(file, l, arc);
     let v = read::head(file, l, arc);
@@ -57,7 +60,6 @@ pub fn is_start(
         return false;
     }
     let e = p + l.period;
-    let mut row = [0u32; MOST_PERIOD];
-    raise_row(l, u, work, &mut row);
-    0 < toward_row::lower_arc(false, file, l, starts, arc, &work[p..e], &mut row)
+    raise_row(l, u, work, row);
+    0 < toward_row::lower_arc(false, file, l, starts, arc, &work[p..e], row)
 }

@@ -19,7 +19,7 @@ is-set-requires : tie.Need-is-set-requires
 is-set-requires c κs = search needs
 
 returns : tie.Need-returns
-returns c = flag-stands _ _ (c .before .is-set .ensures) _ (c .if1 .taken)
+returns c = (flag-stands _ _ (c .before .is-set .ensures) _ (c .if1 .taken), refl)
 
 tail-requires : tie.Need-tail-requires
 tail-requires c κs = search needs
@@ -68,8 +68,7 @@ add-if2 c = search needs
 returns-2 : tie.Need-returns-2
 returns-2 c =
     let s = entry (unset (c .before)) in
-    flag-left _ _ (unset (c .before) .before .is-set .ensures)
-    (ruled-out (s .pre .0 .0) (s .pre .1 .1 .0) (s .pre .1 .1 .1) (s .pre .1 .0 .0)
+    let none = ruled-out (s .pre .0 .0) (s .pre .1 .1 .0) (s .pre .1 .1 .1) (s .pre .1 .0 .0)
     (c .before .before .before .before .before .before .before .before .tail .ensures .0)
     (c .before .before .before .before .before .before .before .head .ensures .0)
     (s .pre .0 .1 .arc _ (s .pre .1 .0 .0))
@@ -79,8 +78,10 @@ returns-2 c =
       c .before .wide .ensures,
       c .before .before .before .size2 .ensures,
       c .before .before .before .before .before .size .ensures,
-    )))
-    (unset (c .before) .if1 .left) refl
+    )) in (
+      flag-left _ _ (unset (c .before) .before .is-set .ensures) none (unset (c .before) .if1 .left) refl,
+      refl,
+    )
 
 is-start-requires : tie.Need-is-start-requires
 is-start-requires c κs = search needs
@@ -90,7 +91,7 @@ alone-requires c κs = search needs
 
 add-result : tie.Need-add-result
 add-result c =
-    let e = unset (c .before .before .before .before) in
+    let e = unset (c .before .before .before .before .before) in
     omega (
       arith,
       c .alone .ensures,
@@ -100,14 +101,18 @@ add-result c =
 
 returns-3 : tie.Need-returns-3
 returns-3 c =
-    flag-set _ _ (unset (c .before .before .before .before) .before .is-set .ensures)
-    (c .before .before .is-start .ensures) (unset (c .before .before .before .before) .if1 .left)
-    (c .alone .ensures) (c .before .if3 .taken)
+    let e = unset (c .before .before .before .before .before) in
+    let told = c .before .before .is-start .ensures in (
+      flag-set _ _ (e .before .is-set .ensures) (told .0) (e .if1 .left) (c .alone .ensures)
+          (c .before .if3 .taken),
+      told .1,
+    )
 
 returns-4 : tie.Need-returns-4
 returns-4 c =
-    flag-left _ _ (unset (c .before .before .before) .before .is-set .ensures) (c .before .is-start .ensures)
-    (unset (c .before .before .before) .if1 .left) (c .if3 .left)
+    let e = unset (c .before .before .before .before) in
+    let told = c .before .is-start .ensures in
+    (flag-left _ _ (e .before .is-set .ensures) (told .0) (e .if1 .left) (c .if3 .left), told .1)
 
 pub flag-arc-spec : {M : Type 1} → statement M
 flag-arc-spec =

@@ -1,10 +1,9 @@
 -- `least_travels` meets its contract: what is left to do falls with each turn, and where no node is dirty the
 -- numbers are least.
-use mathlib.Core.Path.{sym, _∙_}
-use Prim.Native.Nat.{ℕ, _≤_}
+use mathlib.Core.Path.{_≡_, refl, sym, _∙_}
+use Prim.Native.Nat.{_≤_}
 use native.Mathlib.Omega.{arith}
-use lib.ListN.{length, replicate, length-replicate}
-use Rattle.network.specs.Limits.{mostPeriod}
+use lib.ListN.{length}
 use Rattle.toward_node.specs.Turn.{left, Waiting, waiting-start, waiting-next, waiting-end}
 use borrow.Author.Needs.{needs}
 use Rattle.toward_node.proofs.least_travels.Statement.{statement}
@@ -12,7 +11,7 @@ use Rattle.toward_node.proofs.least_travels.Tie as tie
 
 abbrev Inv-loop : tie.InvT-loop
 Inv-loop file l starts into next least b work₀ hs₀ near₀ room₀ v₀ work hs near room v =
-    Waiting file l b work near room v × (l .period ≤ length hs)
+    Waiting file l b work near room v × (length hs ≡ length hs₀)
 
 abbrev μ-loop : tie.MeasureT-loop
 μ-loop file l starts into next least b work₀ hs₀ near₀ room₀ v₀ work hs near room v = left l work near
@@ -37,23 +36,22 @@ array-write-room c = search needs
 
 loop-holds : tie.Need-loop-holds Inv-loop μ-loop
 loop-holds c =
-    let s = c .before .before .before .before .before .before .before .before .before .before in
-    let small = s .pre .0 .0 .primed .town .small in
-    let long : s .args .l .period ≤ length {A = ℕ} (replicate mostPeriod 0) =
-    rw (length-replicate {A = ℕ} mostPeriod 0) (small .period-most) in (
+    let s = c .before .before .before .before .before .before .before .before .before .before in (
       waiting-start (s .pre .0 .0) (s .pre .1 .0) (s .pre .1 .1) (c .before .before .before .before .before
           .before .clear .ensures)
           (c .before .before .zero-row .ensures),
-      long,
+      refl,
     )
 
 settle-requires : tie.Need-settle-requires Inv-loop μ-loop
 settle-requires c κs =
-    let s = c .before .before .before .before .before .before .before .before .before .before .before
-    .before .before .before .before .before .before in
-    let w = c .before .before .before .before .before .before .loop .inv in
+    let s = c .before .before .before .before .before .before .before .before .before .before .before .before
+    .before .before .before .before .before in
+    let at = c .before .before .before .before .before .before .loop in
+    let w = at .inv in
     let h = c .before .before .before .before .if1 .taken in
-    (s .pre .0, (h, w .0 .heights, w .0 .found .dirty h, w .1))
+    let long : s .args .l .period ≤ length (at .hs) = omega (arith, w .1, s .pre .1 .2) in
+    (s .pre .0, (h, w .0 .heights, w .0 .found .dirty h, long))
 
 nearest-requires : tie.Need-nearest-requires Inv-loop μ-loop
 nearest-requires c κs =
@@ -69,10 +67,11 @@ loop-again c =
     let w = c .before .before .before .before .before .before .before .before .before .before .before .loop
     .inv in
     let t = c .before .before .before .before .settle .ensures in (
-      waiting-next (c .before .before .before .before .before .before .before .before .before .before
-          .before .before .before .before .before .before .before .before .before .before .before .before .pre
-          .0 .0) (w .0) (t .0) (c .nearest .ensures),
-      omega (arith, w .1, t .1),
+      waiting-next (c .before .before .before .before .before .before .before .before .before .before .before
+          .before .before .before .before .before .before .before .before .before .before .before .pre .0 .0)
+          (w
+          .0) (t .0) (c .nearest .ensures),
+      t .1 ∙ w .1,
     )
 
 same-length : tie.Need-same-length Inv-loop μ-loop
@@ -82,8 +81,11 @@ same-length c =
 
 returns : tie.Need-returns Inv-loop μ-loop
 returns c =
-    waiting-end (c .before .before .before .before .before .before .before .before .before .before .before
-    .before .before .pre .0 .0) (c .before .before .loop .inv .0) (c .if1 .left)
+    let w = c .before .before .loop .inv in (
+      waiting-end (c .before .before .before .before .before .before .before .before .before .before .before
+          .before .before .pre .0 .0) (w .0) (c .if1 .left),
+      w .1,
+    )
 
 pub least-travels-spec : {M : Type 1} → statement M
 least-travels-spec =

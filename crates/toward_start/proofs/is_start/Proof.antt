@@ -1,5 +1,5 @@
 -- `toward_start::is_start` meets its contract.
-use mathlib.Core.Path.{refl}
+use mathlib.Core.Path.{refl, _∙_}
 use Prim.Native.Nat.{_+_, _≤_}
 use native.Mathlib.Omega.{arith}
 use lib.ListN.{length}
@@ -29,10 +29,13 @@ shared-slice-read-if1 c = search needs
 
 returns : tie.Need-returns
 returns c =
-    let s = c .before .before .before .before .before .before .before in
-    no-start (s .pre .0) (s .pre .1 .1) (s .pre .1 .0 .0)
-    (c .before .before .before .before .tail .ensures .0) (c .before .before .before .head .ensures .0)
-    _ _ (c .before .before .row-place .ensures .0) refl (c .if1 .taken)
+    let s = c .before .before .before .before .before .before .before in (
+      no-start (s .pre .0) (s .pre .1 .1) (s .pre .1 .0 .0)
+          (c .before .before .before .before .tail .ensures .0)
+          (c .before .before .before .head .ensures .0)
+          _ _ (c .before .before .row-place .ensures .0) refl (c .if1 .taken),
+      refl,
+    )
 
 add-e : tie.Need-add-e
 add-e c = search needs
@@ -46,7 +49,7 @@ raise-row-requires c κs =
         (
           tail-node (s .pre .0 .town) _ _ (s .pre .1 .0 .0) e,
           s .pre .1 .0 .2,
-          s .pre .0 .town .small .period-most,
+          s .pre .1 .0 .3,
         ),
         tail-row (s .pre .0) (s .pre .1 .1) (s .pre .1 .0 .0) e (c .before .before .before .before .before
             .head .ensures .0)
@@ -66,9 +69,6 @@ part-lower-arc-start c = search needs
 
 part-lower-arc-end : tie.Need-part-lower-arc-end
 part-lower-arc-end c = search needs
-
-slice-aggregate-lower-arc : tie.Need-slice-aggregate-lower-arc
-slice-aggregate-lower-arc c = search needs
 
 lower-arc-requires : tie.Need-lower-arc-requires
 lower-arc-requires c κs =
@@ -93,17 +93,18 @@ lower-arc-requires c κs =
 returns-2 : tie.Need-returns-2
 returns-2 c =
     let s = c .before .before .before .before .before .before .before .before .before .before .before .before
-    .before .before in
-    let place = c .before .before .before .before .before .before .before .before .before .row-place .ensures
-    in
-    let fits : c .before .before .before .before .before .before .before .before .before .row-place .result +
-    s .args .l .period ≤ length (now (s .args .work)) =
-    omega (arith, place .1, s .pre .1 .0 .2) in
-    start-is (s .pre .0) (s .pre .1 .1) (s .pre .1 .0 .0) (c .before .before .before .before .before .before
-    .before .before .before .before .before .tail .ensures .0)
-    (c .before .before .before .before .before .before .before .before .before .before .head .ensures .0)
-    (place .0) refl fits (c .before .before .before .before .raise-row .ensures)
-    (c .before .lower-arc .ensures) refl
+    .before in
+    let place = c .before .before .before .before .before .before .before .before .row-place .ensures in
+    let raised = c .before .before .before .raise-row .ensures in
+    let fits : c .before .before .before .before .before .before .before .before .row-place .result + s .args
+    .l .period ≤ length (now (s .args .work)) =
+    omega (arith, place .1, s .pre .1 .0 .2) in (
+      start-is (s .pre .0) (s .pre .1 .1) (s .pre .1 .0 .0) (c .before .before .before .before .before .before
+          .before .before .before .before .tail .ensures .0)
+          (c .before .before .before .before .before .before .before .before .before .head .ensures .0) (place
+          .0) refl fits raised (c .lower-arc .ensures) refl,
+      c .lower-arc .ensures .filled .long ∙ raised .long,
+    )
 
 pub is-start-spec : {M : Type 1} → statement M
 is-start-spec =
@@ -121,6 +122,5 @@ is-start-spec =
     sub-lower-arc
     part-lower-arc-start
     part-lower-arc-end
-    slice-aggregate-lower-arc
     lower-arc-requires
     returns-2)

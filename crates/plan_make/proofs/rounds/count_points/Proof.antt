@@ -2,7 +2,7 @@ use mathlib.Core.Path.{_≡_, refl, _∙_}
 use denote.Ref.{now}
 use Rattle.network.specs.Town.{partitionOf}
 use Rattle.plan.specs.Border.{borderCount}
-use Prim.Native.Nat.{_-_, _*_, _≤_, _<_}
+use Prim.Native.Nat.{_-_, _≤_, _<_}
 use native.Mathlib.Omega.{arith}
 use lib.ListN.{length}
 use Rattle.network.specs.Decode.{decode}
@@ -14,12 +14,12 @@ use Rattle.plan_make.proofs.rounds.count_points.Statement.{statement}
 use Rattle.plan_make.proofs.rounds.count_points.Tie as tie
 
 abbrev Inv-loop : tie.InvT-loop
-Inv-loop file l starts into next least borders count work₀ seen₀ i₀ work seen i =
+Inv-loop file l starts into next least borders count work₀ row₀ seen₀ i₀ work row seen i =
     (i ≤ count) × (length work ≡ length work₀) × (seen ≡ pointsBefore (decode file) i)
-    × (seen ≤ mostProfilePoints)
+    × (seen ≤ mostProfilePoints) × (l .period ≤ length row)
 
 abbrev μ-loop : tie.MeasureT-loop
-μ-loop file l starts into next least borders count work₀ seen₀ i₀ work seen i = count - i
+μ-loop file l starts into next least borders count work₀ row₀ seen₀ i₀ work row seen i = count - i
 
 loop-holds : tie.Need-loop-holds Inv-loop μ-loop
 loop-holds c = (
@@ -27,25 +27,27 @@ loop-holds c = (
   refl,
   counted-none (now (c .before .before .args .file)),
   search needs,
+  c .before .before .pre .0 .ready .primed .town .small .period-most,
 )
 
 travels-to-requires : tie.Need-travels-to-requires Inv-loop μ-loop
 travels-to-requires c κs =
-    let s = c .before .before .before .before .before in
-    (s .pre .0, (omega arith, c .before .before .loop .inv .1 ∙ s .pre .1 .1))
+    let s = c .before .before .before .before .before .before in
+    let i = c .before .before .before .loop .inv in
+    (s .pre .0, (omega arith, i .1 ∙ s .pre .1 .1, i .4))
 
 count-rows-requires : tie.Need-count-rows-requires Inv-loop μ-loop
 count-rows-requires c κs =
-    let s = c .before .before .before .before .before .before .before .before .before in
+    let s = c .before .before .before .before .before .before .before .before .before .before in
     let town = s .pre .0 .ready .primed .town in
-    let i : c .before .before .before .before .before .before .loop .i < borderCount (partitionOf (decode
-    (now (s .args .file)))) = omega arith in
+    let i : c .before .before .before .before .before .before .before .loop .i < borderCount (partitionOf
+    (decode (now (s .args .file)))) = omega arith in
     (town .small, (omega arith, rows-low town i (c .before .before .before .travels-to .ensures .0 .worked)))
 
 add-seen : tie.Need-add-seen Inv-loop μ-loop
 add-seen c =
-    let s = c .before .before .before .before .before .before .before .before .before .before in
-    let at = c .before .before .before .before .before .before .before .loop in
+    let s = c .before .before .before .before .before .before .before .before .before .before .before in
+    let at = c .before .before .before .before .before .before .before .before .loop in
     omega (
       arith,
       at .inv .3,
@@ -58,8 +60,9 @@ same-length c = search needs
 
 returns : tie.Need-returns Inv-loop μ-loop
 returns c =
-    let s = c .before .before .before .before .before .before .before .before .before .before .before in
-    let at = c .before .before .before .before .before .before .before .before .loop in
+    let s = c .before .before .before .before .before .before .before .before .before .before .before .before
+    in
+    let at = c .before .before .before .before .before .before .before .before .before .loop in
     let i : at .i < borderCount (partitionOf (decode (now (s .args .file)))) = omega arith in
     counted-many (now (s .args .file))
     (counted-more (now (s .args .file)) (s .pre .0 .ready .primed .town) i
@@ -75,15 +78,17 @@ loop-less c = search needs
 
 loop-again : tie.Need-loop-again Inv-loop μ-loop
 loop-again c =
-    let s = c .before .before .before .before .before .before .before .before .before .before .before in
-    let at = c .before .before .before .before .before .before .before .before .loop in
+    let s = c .before .before .before .before .before .before .before .before .before .before .before .before
+    in
+    let at = c .before .before .before .before .before .before .before .before .before .loop in
+    let told = c .before .before .before .before .before .travels-to .ensures in
     let i : at .i < borderCount (partitionOf (decode (now (s .args .file)))) = omega arith in (
       omega arith,
       omega arith,
-      counted-more (now (s .args .file)) (s .pre .0 .ready .primed .town) i
-          (c .before .before .before .before .before .travels-to .ensures .0) (at .inv .2)
+      counted-more (now (s .args .file)) (s .pre .0 .ready .primed .town) i (told .0) (at .inv .2)
           (c .before .count-rows .ensures),
       c .if1 .left,
+      omega (arith, told .2, at .inv .4),
     )
 
 same-length-2 : tie.Need-same-length-2 Inv-loop μ-loop

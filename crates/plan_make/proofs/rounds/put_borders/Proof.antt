@@ -1,11 +1,10 @@
 use mathlib.Core.Path.{_≡_, refl, _∙_}
-use Prim.Native.Nat.{_-_, _*_, _≤_, _<_}
+use Prim.Native.Nat.{_-_, _≤_}
 use native.Mathlib.Omega.{arith}
 use denote.Ref.{now}
 use lib.ListN.{length}
 use Rattle.network.specs.Decode.{decode}
 use Rattle.network.specs.Town.{partitionOf}
-use Rattle.plan.specs.Border.{borderCount}
 use Rattle.plan_make.specs.Rounds.{pointsBefore, PutTo, counted-none, put-none, put-more, rows-low}
 use Rattle.plan_make.specs.Rounds.{profiles-few, profiles-room, points-room, listed, put-kept, put-end}
 use Rattle.plan_make.specs.Rounds.{border-index}
@@ -15,42 +14,47 @@ use Rattle.plan_make.proofs.rounds.put_borders.Statement.{statement}
 use Rattle.plan_make.proofs.rounds.put_borders.Tie as tie
 
 abbrev Inv-loop : tie.InvT-loop
-Inv-loop file l starts into next least borders k work₀ words₀ out₀ q₀ i₀ i-end work words out q i =
+Inv-loop file l starts into next least borders k work₀ words₀ out₀ row₀ q₀ i₀ i-end work words out row q i =
     (i ≤ k .borders) × (length work ≡ length work₀) × (q ≡ pointsBefore (decode file) i)
-    × PutTo (decode file) k i words out₀ out
+    × PutTo (decode file) k i words out₀ out × (l .period ≤ length row)
 
 abbrev μ-loop : tie.MeasureT-loop
-μ-loop file l starts into next least borders k work₀ words₀ out₀ q₀ i₀ i-end work words out q i = k
+μ-loop file l starts into next least borders k work₀ words₀ out₀ row₀ q₀ i₀ i-end work words out row q i = k
     .borders - i
 
 loop-holds : tie.Need-loop-holds Inv-loop μ-loop
 loop-holds c =
-    let s = c .before .before .before in (
+    let s = c .before .before .before in
+    let town = s .pre .0 .ready .primed .town in (
       search needs,
       refl,
       counted-none (now (s .args .file)),
-      put-none (s .pre .0 .ready .primed .town) (s .pre .1 .0 .0) (s .pre .1 .1 .1),
+      put-none town (s .pre .1 .0 .0) (s .pre .1 .1 .1),
+      town .small .period-most,
     )
 
 travels-to-requires : tie.Need-travels-to-requires Inv-loop μ-loop
 travels-to-requires c κs =
-    let s = c .before .before .before .before .before .before in (
+    let s = c .before .before .before .before .before .before .before in
+    let i = c .before .before .before .loop .inv in (
       s .pre .0,
       (
-        listed (s .pre .0 .ready .primed .town) (s .pre .1 .0 .0) (c .before .loop-test .taken),
-        c .before .before .loop .inv .1 ∙ s .pre .1 .1 .0,
+        listed (s .pre .0 .ready .primed .town) (s .pre .1 .0 .0) (c .before .before .loop-test .taken),
+        i .1 ∙ s .pre .1 .1 .0,
+        i .4,
       ),
     )
 
 flag-border-requires : tie.Need-flag-border-requires Inv-loop μ-loop
 flag-border-requires c κs =
-    let s = c .before .before .before .before .before .before .before .before .before .before .before in
-    let at = c .before .before .before .before .before .before .before .loop in
+    let s = c .before .before .before .before .before .before .before .before .before .before .before .before
+    .before in
+    let at = c .before .before .before .before .before .before .before .before .before .loop in
     let town = s .pre .0 .ready .primed .town in
-    let aimed = c .before .before .before .before .travels-to .ensures .0 in
-    let b = aimed .border in
-    let h = listed town (s .pre .1 .0 .0) (c .before .before .before .before .before .before .loop-test
-    .taken) in (
+    let told = c .before .before .before .before .before .travels-to .ensures in
+    let b = told .0 .border in
+    let h = listed town (s .pre .1 .0 .0) (c .before .before .before .before .before .before .before .before
+    .loop-test .taken) in (
       (s .pre .0 .ready .primed, s .pre .0 .leasts),
       (
         (
@@ -58,38 +62,41 @@ flag-border-requires c κs =
             arith,
             b,
             at-node (partitionOf (decode (now (s .args .file)))) (at .i) h,
-            town .sizes
-                .nodes,
+            town .sizes .nodes,
           ),
           omega arith,
+          omega (arith, told .2, at .inv .4),
           omega (arith, at .inv .3 .flags .long, town .sizes .arcs),
         ),
-        rw b (aimed .worked),
+        rw b (told .0 .worked),
       ),
     )
 
 mul-put-rows : tie.Need-mul-put-rows Inv-loop μ-loop
 mul-put-rows c =
     let s = c .before .before .before .before .before .before .before .before .before .before .before .before
-    .before .before .before in
-    let test = c .before .before .before .before .before .before .before .before .before .before .loop-test in
+    .before .before .before .before .before in
+    let test = c .before .before .before .before .before .before .before .before .before .before .before
+    .before .loop-test in
     omega (arith, profiles-few (s .pre .0 .ready .primed .town) (s .pre .1 .0 .0) (test .taken))
 
 put-rows-requires : tie.Need-put-rows-requires Inv-loop μ-loop
 put-rows-requires c κs =
     let s = c .before .before .before .before .before .before .before .before .before .before .before .before
-    .before .before .before in
-    let at = c .before .before .before .before .before .before .before .before .before .before .before
-    .loop in
-    let test = c .before .before .before .before .before .before .before .before .before .before .loop-test in
+    .before .before .before .before .before in
+    let at = c .before .before .before .before .before .before .before .before .before .before .before .before
+    .before .loop in
+    let test = c .before .before .before .before .before .before .before .before .before .before .before
+    .before .loop-test in
     let town = s .pre .0 .ready .primed .town in
     let held = s .pre .1 .0 .0 in
     let h = listed town held (test .taken) in
-    let w = c .before .before .before .before .before .before .before .before .travels-to .ensures .0
-    .worked in (
+    let told = c .before .before .before .before .before .before .before .before .before .travels-to .ensures
+    in
+    let w = told .0 .worked in (
       (town .small, put-kept (s .pre .1 .0 .1) (at .inv .3)),
       (
-        (omega arith, rows-low town h w),
+        (told .1 ∙ at .inv .1 ∙ s .pre .1 .1 .0, rows-low town h w),
         (
           profiles-room town held (test .taken) refl,
           points-room town held (test .taken) w (at .inv .2),
@@ -100,10 +107,9 @@ put-rows-requires c κs =
 add-i : tie.Need-add-i Inv-loop μ-loop
 add-i c =
     let s = c .before .before .before .before .before .before .before .before .before .before .before .before
-    .before .before .before .before .before .before in
+    .before .before .before .before .before .before .before .before in
     let test = c .before .before .before .before .before .before .before .before .before .before .before
-    .before
-    .before .loop-test in
+    .before .before .before .before .loop-test in
     omega (
       arith,
       border-index (s .pre .0) (listed (s .pre .0 .ready .primed .town) (s .pre .1 .0 .0) (test .taken)),
@@ -115,22 +121,19 @@ loop-less c = search needs
 loop-again : tie.Need-loop-again Inv-loop μ-loop
 loop-again c =
     let s = c .before .before .before .before .before .before .before .before .before .before .before .before
-    .before .before .before .before .before .before in
+    .before .before .before .before .before .before .before .before in
     let at = c .before .before .before .before .before .before .before .before .before .before .before .before
-    .before .before .loop in
+    .before .before .before .before .loop in
     let test = c .before .before .before .before .before .before .before .before .before .before .before
-    .before
-    .before .loop-test in
+    .before .before .before .before .loop-test in
     let town = s .pre .0 .ready .primed .town in
-    let aimed = c .before .before .before .before .before .before .before .before .before .before .before
-    .travels-to .ensures .0 in
-    let long = c .before .before .before .before .before .before .before .before .before .before .before
-    .travels-to .ensures .1 in
-    let flags = rw (aimed .border) at (c .before .before .before .before .before .before .flag-border
-    .ensures) in
-    let m = put-more town (s .pre .1 .0 .0) (test .taken) (aimed .worked) (at .inv .3) flags refl (at .inv .2)
-    (c .before .before .put-rows .ensures) in
-    (omega arith, long ∙ at .inv .1, m .0, m .1)
+    let told = c .before .before .before .before .before .before .before .before .before .before .before
+    .before .travels-to .ensures in
+    let done = c .before .before .before .before .before .before .flag-border .ensures in
+    let flags = rw (told .0 .border) at (done .0) in
+    let m = put-more town (s .pre .1 .0 .0) (test .taken) (told .0 .worked) (at .inv .3) flags refl
+    (at .inv .2) (c .before .before .put-rows .ensures) in
+    (omega arith, told .1 ∙ at .inv .1, m .0, m .1, omega (arith, told .2, done .1, at .inv .4))
 
 same-length : tie.Need-same-length Inv-loop μ-loop
 same-length c = c .before .loop .inv .1

@@ -19,9 +19,13 @@ wide-requires c κs = search needs
 
 least-travels-requires : tie.Need-least-travels-requires
 least-travels-requires c κs =
-    let s = c .before .before .before .before .before in (
+    let s = c .before .before .before .before .before .before in (
       (s .pre .0 .ready, s .pre .0 .leasts),
-      (border-node (s .pre .0) (s .pre .1 .0) (c .before .wide .ensures .0), s .pre .1 .1),
+      (
+        border-node (s .pre .0) (s .pre .1 .0) (c .before .before .wide .ensures .0),
+        s .pre .1 .1,
+        s .pre .1 .2,
+      ),
     )
 
 same-length : tie.Need-same-length
@@ -29,10 +33,13 @@ same-length c = search needs
 
 returns : tie.Need-returns
 returns c =
-    let s = c .before .before .before .before .before .before .before .before in
-    let aimed = border-aimed (s .pre .0) (s .pre .1 .0) (c .before .before .before .before .wide .ensures .0)
-    (c .before .before .least-travels .ensures) in
-    (aimed, omega arith)
+    let s = c .before .before .before .before .before .before .before .before .before in
+    let done = c .before .before .least-travels .ensures in (
+      border-aimed (s .pre .0) (s .pre .1 .0) (c .before .before .before .before .before .wide .ensures .0)
+          (done .0),
+      omega arith,
+      done .1,
+    )
 
 pub travels-to-spec : {M : Type 1} → statement M
 travels-to-spec =
