@@ -8,12 +8,13 @@ use Rattle.file_fields.specs.Block.{blockSize}
 use Rattle.file_fields.specs.Put.{put, put-join}
 use Rattle.file_blocks.specs.Kind.{flagPer, flagSize, countPer, countSize, profilePointPer, profilePointSize}
 use Rattle.file_blocks.specs.Place.{offset, blocks, entry-in}
+use Rattle.file_frames.specs.Framed.{FrameRoom}
 use Rattle.network.specs.Limits.{mostArcs}
 use Rattle.plan.specs.declared.header.PlanHeader.{PlanHeader}
 use Rattle.plan.specs.declared.header.PlanLayout.{PlanLayout}
 use Rattle.plan.specs.PlanDecode.{LaidPlan, layout-plan}
 use Rattle.plan.specs.PlanHeader.{PlanWithin}
-use Rattle.plan.specs.PlanLayout.{planLayoutOf, plan-few}
+use Rattle.plan.specs.PlanLayout.{planLayoutOf, planBlocks, plan-few}
 use Rattle.plan.specs.PlanLimits.{mostPlanBlocks}
 
 -- for entries: the runs one behind the other, few blocks, and room for them
@@ -36,6 +37,9 @@ pub record PlanWritable (k : PlanHeader) (l : PlanLayout) (room : ℕ) : Type 0 
 module _ {k : PlanHeader} {l : PlanLayout} {room : ℕ} (w : PlanWritable k l room) where
   pub laid-by : LaidPlan k l
   laid-by = layout-plan (w .is)
+
+  pub blocks-fit : blockSize * planBlocks k ≤ room
+  blocks-fit = omega (arith, laid-by, w .whole)
 
   pub plan-room : PlanRoom l room
   plan-room = record {
@@ -64,11 +68,44 @@ module _ {l : PlanLayout} {room : ℕ} (p : PlanRoom l room) {q : ℕ} where
     entry-in (l .pointblock) profilePointPer profilePointSize (lit< tt) (lit≤ tt) (l .points) q m,
   )
 
--- FOR THE CODE, which has worked the place out
-module _ (s t : List ℕ) (o p : ℕ) (e : o ≡ p) where
-  pub put-at : (w v : ℕ) → t ≡ put w s o v → t ≡ put w s p v
-  put-at w v f = rw e at f
+-- and so do the frames of each run, in a list of the same length
+module _ {k : PlanHeader} {l : PlanLayout} {long room : ℕ} (w : PlanWritable k l long)
+    (same : room ≡ long) where
+  abbrev p : PlanRoom l long
+  p = plan-room w
 
-  pub point-put : (u : List ℕ) (x y : ℕ) → x < 65536 → t ≡ put 2 s o x → u ≡ put 4 t (o + 2) y
-      → u ≡ put 6 s p (x + 65536 * y)
-  point-put u x y l f g = rw (← e) (put-join 2 4 s t u o x y l f g)
+  pub header-room : FrameRoom 0 1 1 room
+  header-room =
+      record { pos = lit< tt; most = lit≤ tt; few = lit< tt; near = lit≤ tt; whole = omega (arith, p) }
+
+  pub flags-room : FrameRoom 1 flagPer (l .arcs) room
+  flags-room = record {
+    pos = lit< tt;
+    most = lit≤ tt;
+    few = omega (arith, p);
+    near = omega (arith, p);
+    whole = omega (arith, p);
+  }
+
+  pub counts-room : FrameRoom (l .countblock) countPer (l .profiles) room
+  counts-room = record {
+    pos = lit< tt;
+    most = lit≤ tt;
+    few = omega (arith, p);
+    near = omega (arith, p);
+    whole = omega (arith, p);
+  }
+
+  pub points-room : FrameRoom (l .pointblock) profilePointPer (l .points) room
+  points-room = record {
+    pos = lit< tt;
+    most = lit≤ tt;
+    few = omega (arith, p);
+    near = omega (arith, p);
+    whole = omega (arith, p);
+  }
+
+-- FOR THE CODE, which has worked the place out: a point's two fields as one number
+pub point-put : (s t : List ℕ) (o p : ℕ) → o ≡ p → (u : List ℕ) (x y : ℕ) → x < 65536 → t ≡ put 2 s o x
+    → u ≡ put 4 t (o + 2) y → u ≡ put 6 s p (x + 65536 * y)
+point-put s t o p e u x y l f g = rw (← e) (put-join 2 4 s t u o x y l f g)

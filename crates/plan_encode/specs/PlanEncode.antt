@@ -2,22 +2,19 @@
 -- the profiles' points and one for the points, each with its check. An entry is one number, its fields one
 -- behind the other, low byte first. `PlanProper` says which plans fit into these fields.
 use mathlib.Core.Path.{_≡_, _∙_}
-use mathlib.Core.Bool.{cond}
 use mathlib.Core.List.{List}
-use Prim.Native.Nat.{ℕ, _+_, _*_, _^_, _≤_, _<_}
+use Prim.Native.Nat.{ℕ, _+_, _*_, _^_, _<_}
 use native.Mathlib.Omega.{arith}
 use lib.ListN.{length, getD}
-use lib.Dec.{ltb}
-use borrow.Author.Tests.{lt-ltb, le-ltb}
 use Rattle.file_fields.specs.Fields.{byteOf, byteOf-low, byteOf-high}
 use Rattle.file_blocks.specs.Bytes.{fileOf}
-use Rattle.file_blocks.specs.Run.{runBody}
 use Rattle.file_blocks.specs.Kind.{planKind, planSize, flagKind, flagPer, flagSize, countKind, countPer}
 use Rattle.file_blocks.specs.Kind.{countSize, profilePointKind, profilePointPer, profilePointSize}
+use Rattle.file_frames.specs.Runs.{Shape, runsBody}
 use Rattle.plan.specs.declared.header.PlanHeader.{PlanHeader}
 use Rattle.plan.specs.Plan.{Plan}
 use Rattle.plan.specs.PlanHeader.{PlanWithin}
-use Rattle.plan.specs.PlanLayout.{profileCount, countBlock, planPointBlock, planBlocks}
+use Rattle.plan.specs.PlanLayout.{profileCount, planBlocks}
 
 -- the header's entry as one number: the field of two bytes before the points is zero
 abbrev pub planHeaderNumber : PlanHeader → ℕ
@@ -40,18 +37,24 @@ countByte counts q r = byteOf (getD counts q 0) r
 unfoldable pub profilePointByte : List ℕ → List ℕ → ℕ → ℕ → ℕ
 profilePointByte ticks travels q r = byteOf (getD ticks q 0 + 65536 * getD travels q 0) r
 
--- byte o of block b but its check, by the run that it belongs to; each run by its entries' bytes
-unfoldable pub runsBody : PlanHeader → (header flags counts points : ℕ → ℕ → ℕ) → ℕ → ℕ → ℕ
-runsBody k header flags counts points b =
-    cond (ltb b 1) (runBody planKind 1 planSize 1 header 0 b)
-    (cond (ltb b (countBlock k)) (runBody flagKind flagPer flagSize (k .arcs) flags 1 b)
-    (cond (ltb b (planPointBlock k))
-    (runBody countKind countPer countSize (profileCount k) counts (countBlock k) b)
-    (runBody profilePointKind profilePointPer profilePointSize (k .points) points (planPointBlock k) b)))
+-- a header, flag words, counts and points
+abbrev pub planShape : PlanHeader → Shape
+planShape k = record {
+  kind = planKind;
+  size = planSize;
+  first = record { kind = flagKind; per = flagPer; size = flagSize; count = k .arcs };
+  second = record { kind = countKind; per = countPer; size = countSize; count = profileCount k };
+  third = record {
+    kind = profilePointKind;
+    per = profilePointPer;
+    size = profilePointSize;
+    count = k .points;
+  };
+}
 
--- the same with the header k
+-- byte o of block b but its check, the tables by their entries' bytes
 abbrev pub planBody : PlanHeader → (flags counts points : ℕ → ℕ → ℕ) → ℕ → ℕ → ℕ
-planBody k = runsBody k (λ _. planHeaderByte k)
+planBody k = runsBody (planShape k) (λ _. planHeaderByte k)
 
 -- the file of a plan
 unfoldable pub encodePlan : PlanHeader → Plan → List ℕ
@@ -72,33 +75,6 @@ pub record PlanProper (k : PlanHeader) (p : Plan) : Type 0 where
   pub counts-fit : (q : ℕ) → getD (p .counts) q 0 < 65536
   pub ticks-fit : (q : ℕ) → getD (p .ticks) q 0 < 65536
   pub travels-fit : (q : ℕ) → getD (p .travels) q 0 < 2 ^ 32
-
--- WHICH RUN a block belongs to
-module _ (k : PlanHeader) (H F C P : ℕ → ℕ → ℕ) (b : ℕ) where
-  pub header-body : b < 1 → runsBody k H F C P b ≡ runBody planKind 1 planSize 1 H 0 b
-  unfolding runsBody
-  header-body l = rw (lt-ltb b 1 l)
-
-  pub flags-body : 1 ≤ b → b < countBlock k
-      → runsBody k H F C P b ≡ runBody flagKind flagPer flagSize (k .arcs) F 1 b
-  unfolding runsBody
-  flags-body l m = rw (le-ltb b 1 l, lt-ltb b (countBlock k) m)
-
-  pub counts-body : countBlock k ≤ b → b < planPointBlock k
-      → runsBody k H F C P b ≡ runBody countKind countPer countSize (profileCount k) C (countBlock k) b
-  unfolding runsBody
-  counts-body l m =
-      rw (le-ltb b 1 (omega arith), le-ltb b (countBlock k) l, lt-ltb b (planPointBlock k) m)
-
-  pub points-body : planPointBlock k ≤ b
-      → runsBody k H F C P b
-      ≡ runBody profilePointKind profilePointPer profilePointSize (k .points) P (planPointBlock k) b
-  unfolding runsBody
-  points-body l = rw (
-    le-ltb b 1 (omega arith),
-    le-ltb b (countBlock k) (omega arith),
-    le-ltb b (planPointBlock k) l,
-  )
 
 -- WHICH BYTES a field has
 module _ (s : List ℕ) (i r : ℕ) where

@@ -18,6 +18,7 @@ use Rattle.file_blocks.specs.Place.{offset, blocks}
 use Rattle.file_blocks.specs.Run.{RunLaid}
 use Rattle.file_blocks.specs.RunLaws.{file-run, formed-run, run-table}
 use Rattle.file_blocks.specs.Table.{entry16, entry32, entry64}
+use Rattle.file_frames.specs.Runs.{header-body, first-body, second-body, third-body}
 use Rattle.network.specs.declared.header.Header.{Header}
 use Rattle.network.specs.Network.{Network}
 use Rattle.network.specs.Town.{partitionOf}
@@ -31,9 +32,8 @@ use Rattle.plan.specs.PlanMatch.{Matches}
 use Rattle.plan.specs.PlanValid.{ValidPlan}
 use Rattle.plan.specs.WellFormed.{WellFormed}
 use Rattle.plan_encode.specs.PlanEncode.{planHeaderByte, flagByte, countByte, profilePointByte}
-use Rattle.plan_encode.specs.PlanEncode.{planBody}
-use Rattle.plan_encode.specs.PlanEncode.{encodePlan, PlanProper, header-body, flags-body, counts-body}
-use Rattle.plan_encode.specs.PlanEncode.{points-body, flag-byte, count-byte, tick-byte, travel-byte}
+use Rattle.plan_encode.specs.PlanEncode.{planShape, planBody, encodePlan, PlanProper}
+use Rattle.plan_encode.specs.PlanEncode.{flag-byte, count-byte, tick-byte, travel-byte}
 use Rattle.plan_encode.specs.PlanEncode.{number-byte, period-byte, nodes-byte, arcs-byte, cells-byte}
 use Rattle.plan_encode.specs.PlanEncode.{borders-byte, zero-byte, points-byte}
 
@@ -54,13 +54,14 @@ module _ (k : PlanHeader) (p : Plan) where
   header-laid : RunLaid (encodePlan k p) 0 planKind 1 planSize 1 (λ _. planHeaderByte k) 0
   unfolding encodePlan
   header-laid = file-run (planBody k F C P) (planBlocks k) 0 planKind 1 planSize 1 H (lit< tt) (lit< tt)
-      (lit≤ tt) 0 (omega arith) (header-body k H F C P 0 (lit< tt))
+      (lit≤ tt) 0 (omega arith) (header-body (planShape k) H F C P 0 (lit< tt))
 
   flags-laid : (j : ℕ) → j < blocks flagPer (k .arcs)
       → RunLaid (encodePlan k p) 1 flagKind flagPer flagSize (k .arcs) (flagByte (p .flagWords)) j
   unfolding encodePlan
   flags-laid j l = file-run (planBody k F C P) (planBlocks k) 1 flagKind flagPer flagSize (k .arcs) F
-      (lit< tt) (lit< tt) (lit≤ tt) j (omega arith) (flags-body k H F C P (1 + j) (omega arith) (omega arith))
+      (lit< tt) (lit< tt) (lit≤ tt) j (omega arith)
+      (first-body (planShape k) H F C P (1 + j) (omega arith) (omega arith))
 
   counts-laid : (j : ℕ) → j < blocks countPer (profileCount k)
       → RunLaid (encodePlan k p) (countBlock k) countKind countPer countSize (profileCount k)
@@ -68,7 +69,7 @@ module _ (k : PlanHeader) (p : Plan) where
   unfolding encodePlan
   counts-laid j l = file-run (planBody k F C P) (planBlocks k) (countBlock k) countKind countPer countSize
       (profileCount k) C (lit< tt) (lit< tt) (lit≤ tt) j (omega arith)
-      (counts-body k H F C P (countBlock k + j) (omega arith) (omega arith))
+      (second-body (planShape k) H F C P (countBlock k + j) (omega arith) (omega arith))
 
   points-laid : (j : ℕ) → j < blocks profilePointPer (k .points)
       → RunLaid (encodePlan k p) (planPointBlock k) profilePointKind profilePointPer profilePointSize
@@ -76,7 +77,7 @@ module _ (k : PlanHeader) (p : Plan) where
   unfolding encodePlan
   points-laid j l = file-run (planBody k F C P) (planBlocks k) (planPointBlock k) profilePointKind
       profilePointPer profilePointSize (k .points) P (lit< tt) (lit< tt) (lit≤ tt) j (omega arith)
-      (points-body k H F C P (planPointBlock k + j) (omega arith))
+      (third-body (planShape k) H F C P (planPointBlock k + j) (omega arith))
 
   pub encode-plan-long : length (encodePlan k p) ≡ blockSize * planBlocks k
   unfolding encodePlan

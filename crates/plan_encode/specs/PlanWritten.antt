@@ -9,6 +9,8 @@ use Rattle.theory_loops.specs.Fill.{overwritten}
 use Rattle.file_fields.specs.Put.{put}
 use Rattle.file_blocks.specs.Kind.{flagPer, flagSize, countPer, countSize, profilePointPer, profilePointSize}
 use Rattle.file_blocks.specs.Place.{offset}
+use Rattle.file_frames.specs.Laid.{none, upTo, entriesPut}
+use Rattle.file_frames.specs.Sealed.{sealedTo}
 use Rattle.plan.specs.declared.header.PlanHeader.{PlanHeader}
 use Rattle.plan.specs.declared.header.PlanLayout.{PlanLayout}
 use Rattle.plan.specs.Plan.{Plan, pointCount}
@@ -16,7 +18,6 @@ use Rattle.plan.specs.PlanDecode.{flagWord, pointTick, pointTravel}
 use Rattle.plan.specs.PlanLayout.{profileCount}
 use Rattle.plan_encode.specs.PlanEncode.{flagByte, countByte, profilePointByte, encodePlan}
 use Rattle.plan_encode.specs.Places.{PlanWritable, laid-by}
-use Rattle.plan_encode.specs.Laid.{none, upTo, entriesPut, sealedTo}
 use Rattle.plan_encode.specs.Laying.{Laying, framed-laying, count-more, point-more, flags-laying}
 use Rattle.plan_encode.specs.Laying.{laying-whole}
 

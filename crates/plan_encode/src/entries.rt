@@ -14,8 +14,8 @@ ghost use Rattle.file_fields.specs.Put.{put};
 ghost use Rattle.file_blocks.specs.Kind.{flagPer, flagSize, countPer, countSize};
 ghost use Rattle.file_blocks.specs.Kind.{profilePointPer, profilePointSize};
 ghost use Rattle.file_blocks.specs.Place;
+ghost use Rattle.file_frames.specs.Laid.{entriesPut};
 ghost use Rattle.plan_encode.specs.Places.{PlanRoom};
-ghost use Rattle.plan_encode.specs.Laid.{entriesPut};
 
 // The count of points of profile q.
 pub fn put_count(out: &mut [u8], l: PlanLayout, q: usize, count: u16)

@@ -13,6 +13,8 @@ use Rattle.file_fields.specs.Fields.{byteOf}
 use Rattle.file_fields.specs.Put.{put-stores}
 use Rattle.file_blocks.specs.Kind.{flagPer, flagSize}
 use Rattle.file_blocks.specs.Place.{offset}
+use Rattle.file_frames.specs.Laid.{none, entriesPut}
+use Rattle.file_frames.specs.Sealed.{sealedTo}
 use Rattle.file_refusals.specs.declared.Refusal.{Refusal}
 use Rattle.file_refusals.specs.declared.writing.Writing.{Writing}
 use Rattle.file_refusals.specs.declared.writing.Writing.the-variants.{Written, Refused}
@@ -37,7 +39,6 @@ use Rattle.plan.specs.PlanHeader.{PlanWithin}
 use Rattle.plan.specs.PlanLayout.{planLayoutOf, plan-few}
 use Rattle.plan.specs.PlanLimits.{mostProfilePoints, mostPlanBlocks}
 use Rattle.plan.specs.PlanMatch.{matches-within, borders-few, valid-headed}
-use Rattle.plan_encode.specs.Laid.{none, entriesPut, sealedTo}
 use Rattle.plan_encode.specs.Laying.{Laying}
 use Rattle.plan_encode.specs.Places.{PlanRoom, PlanWritable}
 use Rattle.plan_encode.specs.PlanRoundTrip.{encode-plan-long}

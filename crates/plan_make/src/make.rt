@@ -2,6 +2,7 @@
 use crate::rounds::count_points;
 use crate::rounds::put_borders;
 use file_fields::BLOCK;
+use file_frames::checks::write_checks;
 use file_refusals::number;
 use file_refusals::writing::Length;
 use file_refusals::writing::Writing;
@@ -16,7 +17,6 @@ use plan::borders::list_borders;
 use plan::header::PlanHeader;
 use plan::header::PlanLayout;
 use plan::limits::MOST_POINTS;
-use plan_encode::checks::write_checks;
 use plan_encode::entries::put_flags;
 use plan_encode::frames::write_frames;
 use plan_flags::inside_words;

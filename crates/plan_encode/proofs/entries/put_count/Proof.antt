@@ -1,6 +1,7 @@
 -- `plan_encode::entries::put_count` meets its contract: the entry stands in the list.
 use native.Mathlib.Omega.{arith}
-use Rattle.plan_encode.specs.Places.{count-fits, put-at}
+use Rattle.file_frames.specs.Laid.{put-at}
+use Rattle.plan_encode.specs.Places.{count-fits}
 use borrow.Author.Needs.{needs}
 use Rattle.plan_encode.proofs.entries.put_count.Statement.{statement}
 use Rattle.plan_encode.proofs.entries.put_count.Tie as tie

@@ -4,7 +4,7 @@ use Prim.Native.Nat.{_-_, _≤_, _<_}
 use native.Mathlib.Omega.{arith}
 use lib.ListN.{length}
 use Rattle.file_blocks.specs.Kind.{flagPer, flagSize}
-use Rattle.plan_encode.specs.Laid.{entriesPut, put-none, put-more, put-end}
+use Rattle.file_frames.specs.Laid.{entriesPut, put-none, put-more, put-end}
 use Rattle.plan_encode.specs.Places.{flag-fits}
 use borrow.Author.Needs.{needs}
 use Rattle.plan_encode.proofs.entries.put_flags.Statement.{statement}

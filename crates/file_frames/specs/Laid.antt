@@ -1,8 +1,7 @@
--- A file in the making, block by block, whatever its entries mean. First every block has its head and zeros
--- (`frame-more`), then entries come one by one at their places (`entry-laid`), and at last every block its
--- check (`laid-sealed`). In between, the bytes of each block but its check are those of a body.
+-- A file in the making, block by block, whatever its entries mean: the bytes of each block but its check are
+-- those of a body (`BodyLaid`), and an entry put at its place makes the body that has it too (`entry-laid`).
 use mathlib.Core.Path.{_≡_, refl, sym, _∙_, ap}
-use mathlib.Core.Bool.{Bool, true, false, cond}
+use mathlib.Core.Bool.{cond}
 use mathlib.Core.List.{List}
 use Prim.Native.Nat.{ℕ, zero, suc, _+_, _-_, _*_, _/_, _%_, _≤_, _<_}
 use native.Mathlib.Nat.{mul-le-mul-left, mod-lt, div-add-mod}
@@ -11,17 +10,14 @@ use native.Mathlib.Decide.{decLt}
 use lib.ListN.{length, getD}
 use lib.Dec.{ltb}
 use borrow.Author.Tests.{lt-ltb, le-ltb}
-use Rattle.theory_loops.specs.Fill.{Filled, fill-none, fill-within, fill-join, filled-list, length-tab}
-use Rattle.theory_loops.specs.Fill.{overwritten}
+use Rattle.theory_loops.specs.Fill.{Filled}
 use Rattle.file_fields.specs.Block.{blockSize, summedSize, headSize, entriesSize}
 use Rattle.file_fields.specs.Fields.{byteOf}
 use Rattle.file_fields.specs.Put.{put, put-filled}
-use Rattle.file_blocks.specs.Bytes.{fileByte, fileOf, fileByte-at, stored-body}
 use Rattle.file_blocks.specs.Place.{offset, blocks, entriesIn, index-in, index-block, index-entry}
 use Rattle.file_blocks.specs.Place.{block-below}
-use Rattle.file_blocks.specs.Run.{headByte, entryByte, runBody}
+use Rattle.file_blocks.specs.Run.{entryByte, runBody}
 use Rattle.file_blocks.specs.RunLaws.{entry-byte}
-use Rattle.file_blocks.specs.Write.{headed, sealed, headed-filled, sealed-block}
 
 -- the first n blocks of a list have the body's bytes, what stands in their checks is anything, and the rest
 -- is old
@@ -29,6 +25,10 @@ pub record BodyLaid (body : ℕ → ℕ → ℕ) (n : ℕ) (old new : List ℕ) 
   pub long : length new ≡ length old
   pub bytes : (b o : ℕ) → b < n → o < summedSize → getD new (blockSize * b + o) 0 ≡ body b o
   pub after : (i : ℕ) → blockSize * n ≤ i → getD new i 0 ≡ getD old i 0
+
+pub laid-start : (body : ℕ → ℕ → ℕ) (s : List ℕ) → BodyLaid body 0 s s
+laid-start body s =
+    record { long = refl; bytes = λ b o l m. absurd (omega arith); after = λ i l. refl }
 
 pub laid-same : (body other : ℕ → ℕ → ℕ) (n : ℕ) (old new : List ℕ)
     → ((b o : ℕ) → b < n → o < summedSize → body b o ≡ other b o)
@@ -61,66 +61,6 @@ module _ (f : ℕ → ℕ → ℕ) where
     | yes l ↦ rw (lt-ltb i q l, lt-ltb i (q + 1) (omega arith))
     | no l ↦ rw (le-ltb i q (omega arith), le-ltb i (q + 1) (omega arith))
   ]
-
--- A BLOCK WITH NO ENTRIES YET: byte o of it, and the same byte by its place in the file
-unfoldable pub frameByte : ℕ → ℕ → ℕ → ℕ → ℕ
-frameByte kind entries b o = cond (ltb o headSize) (headByte kind entries b o) 0
-
-unfoldable pub blockByte : (ℕ → ℕ → ℕ) → ℕ → ℕ → ℕ
-blockByte body b i = body b (i - blockSize * b)
-
-zero-either : (t : Bool) → _≡_ {A = ℕ} (cond t 0 0) 0
-zero-either true = refl
-zero-either false = refl
-
-pub frame-body : (kind per size n from b : ℕ)
-    → frameByte kind (entriesIn per n (b - from)) b ≡ runBody kind per size n none from b
-unfolding frameByte runBody entryByte
-frame-body kind per size n from b = λ x o. at o x
-  where
-    at : (o : ℕ) → frameByte kind (entriesIn per n (b - from)) b o ≡ runBody kind per size n none from b o
-    at o = rw (zero-either (ltb ((o - headSize) / size) (entriesIn per n (b - from))))
-
--- a head and zeros behind it
-pub frame-written : (s t u : List ℕ) (b kind entries : ℕ) → kind < 256 → blockSize * b + blockSize ≤ length s
-    → t ≡ headed s b kind entries
-    → Filled (blockSize * b + headSize) (blockSize * b + summedSize) (λ _. 0) t u
-    → Filled (blockSize * b) (blockSize * b + summedSize) (blockByte (frameByte kind entries) b) s u
-unfolding blockByte frameByte
-frame-written s t u b kind entries q l e h =
-    let f : ℕ → ℕ = blockByte (frameByte kind entries) b in
-    fill-join f (blockSize * b) (blockSize * b + headSize) (blockSize * b + summedSize) s t u (omega arith)
-    (omega arith)
-    (rw e (fill-within _ f (blockSize * b) (blockSize * b + headSize) s (headed s b kind entries)
-    (λ i m n. rw (lt-ltb (i - blockSize * b) headSize (omega arith)))
-    (headed-filled s b kind entries q (omega arith))))
-    (fill-within _ f (blockSize * b + headSize) (blockSize * b + summedSize) t u
-    (λ i m n. rw (le-ltb (i - blockSize * b) headSize (omega arith))) h)
-
--- FOR THE LOOP over the blocks
-pub frame-start : (body : ℕ → ℕ → ℕ) (s : List ℕ) → BodyLaid body 0 s s
-frame-start body s =
-    record { long = refl; bytes = λ b o l m. absurd (omega arith); after = λ i l. refl }
-
-pub frame-more : (body : ℕ → ℕ → ℕ) (b : ℕ) (old s t : List ℕ) → BodyLaid body b old s
-    → Filled (blockSize * b) (blockSize * b + summedSize) (blockByte body b) s t → BodyLaid body (b + 1) old t
-unfolding blockByte
-frame-more body b old s t h w =
-    record {
-      long = w .long ∙ h .long;
-      bytes = λ c o l m. elim (decLt c b) [
-        | yes p ↦ w .before (blockSize * c + o) (omega arith) ∙ h .bytes c o p m
-        | no p ↦
-            let e : c ≡ b = omega arith in
-            let z : blockSize * b + o - blockSize * b ≡ o = omega arith in
-            rw e (w .written (blockSize * b + o) (omega arith) (omega arith) ∙ ap (body b) z)
-      ];
-      after = λ i l. w .after i (omega arith) ∙ h .after i (omega arith);
-    }
-
-pub frame-end : (body : ℕ → ℕ → ℕ) (b n : ℕ) (old new : List ℕ) → BodyLaid body b old new → b ≤ n → n ≤ b
-    → BodyLaid body n old new
-frame-end body b n old new h l m = let e : b ≡ n = omega arith in rw e at h
 
 -- AN ENTRY AT ITS PLACE: entry q of a run of n, put as one number. Said once over the kind: `body` is the run
 -- with the entries before q, `other` with entry q too, and outside of the run's blocks the two are one.
@@ -221,6 +161,10 @@ module _ (kind per size n : ℕ) (f : ℕ → ℕ → ℕ) (from q : ℕ) (pos :
           after = λ i m. w .after i (omega arith) ∙ h .after i m;
         })
 
+-- for code that has worked the place out
+pub put-at : (s t : List ℕ) (o p : ℕ) → o ≡ p → (w v : ℕ) → t ≡ put w s o v → t ≡ put w s p v
+put-at s t o p e w v f = rw e at f
+
 -- the first n of these values put one after the other, each as an entry of a run
 unfoldable pub entriesPut : ℕ → ℕ → ℕ → List ℕ → ℕ → List ℕ → List ℕ
 entriesPut from per size values zero s = s
@@ -243,54 +187,3 @@ module _ (from per size : ℕ) (values s : List ℕ) where
   pub put-end : (i n : ℕ) (t : List ℕ) → t ≡ entriesPut from per size values i s → i ≤ n → n ≤ i
       → t ≡ entriesPut from per size values n s
   put-end i n t e l m = let z : i ≡ n = omega arith in rw z at e
-
--- THE CHECKS of the first n blocks
-unfoldable pub sealedTo : ℕ → List ℕ → List ℕ
-sealedTo zero s = s
-sealedTo (suc b) s = sealed (sealedTo b s) b
-
-pub sealed-none : (s : List ℕ) → s ≡ sealedTo 0 s
-unfolding sealedTo
-sealed-none s = refl
-
-pub sealed-more : (b : ℕ) (s t u : List ℕ) → t ≡ sealedTo b s → u ≡ sealed t b → u ≡ sealedTo (b + 1) s
-unfolding sealedTo
-sealed-more b s t u e f = let z : b + 1 ≡ suc b = omega arith in rw (z, sealedTo, ← e) f
-
-pub sealed-end : (b n : ℕ) (s t : List ℕ) → t ≡ sealedTo b s → b ≤ n → n ≤ b → t ≡ sealedTo n s
-sealed-end b n s t e l m = let z : b ≡ n = omega arith in rw z at e
-
-module _ (body : ℕ → ℕ → ℕ) (n : ℕ) (old s : List ℕ) (h : BodyLaid body n old s)
-    (room : blockSize * n ≤ length old) where
-  sealed-part : (b : ℕ) → b ≤ n → Filled 0 (blockSize * b) (fileByte body) s (sealedTo b s)
-  unfolding sealedTo
-  sealed-part zero l = fill-none (fileByte body) s 0
-  sealed-part (suc b) l =
-      let z : b + 1 ≡ suc b = omega arith in
-      let t = sealedTo b s in
-      let g : Filled 0 (blockSize * b) (fileByte body) s (sealedTo b s) = sealed-part b (omega arith) in
-      let here : Filled (blockSize * b) (blockSize * b + summedSize) (fileByte body) t t = record {
-        long = refl;
-        written = λ i p q.
-            let o = i - blockSize * b in
-            let e : blockSize * b + o ≡ i = omega arith in
-            let y : getD s (blockSize * b + o) 0 ≡ fileByte body (blockSize * b + o) =
-            h .bytes b o (omega arith) (omega arith)
-            ∙ sym (fileByte-at body b o (omega arith) ∙ stored-body body b o (omega arith)) in
-            g .after i p ∙ (rw e at y);
-        before = λ i p. refl;
-        after = λ i p. refl;
-      } in
-      fill-join (fileByte body) 0 (blockSize * b) (blockSize * suc b) s t (sealed t b) (omega arith)
-      (omega arith) g (rw z at (sealed-block body b t t (omega (arith, g .long, h .long)) here))
-
-  pub laid-sealed : (t : List ℕ) → t ≡ sealedTo n s → t ≡ overwritten (fileOf body n) old
-  laid-sealed t e =
-      let g = sealed-part n (omega arith) in
-      let w : Filled 0 (blockSize * n) (fileByte body) old (sealedTo n s) = record {
-        long = g .long ∙ h .long;
-        written = g .written;
-        before = λ i p. absurd (omega arith);
-        after = λ i p. g .after i p ∙ h .after i p;
-      } in
-      e ∙ rw length-tab (filled-list (fileByte body) (blockSize * n) old (sealedTo n s) room w)

@@ -4,7 +4,7 @@ ghost use mathlib.Core.Path.{_≡_};
 ghost use Prim.Native.Nat.{_*_, _≤_};
 ghost use lib.ListN.{length};
 ghost use Rattle.file_fields.specs.Block.{blockSize};
-ghost use Rattle.plan_encode.specs.Laid.{sealedTo};
+ghost use Rattle.file_frames.specs.Sealed.{sealedTo};
 
 // The check of every block, in their order.
 pub fn write_checks(out: &mut [u8], blocks: usize)

@@ -1,8 +1,8 @@
--- `plan_encode::frames::write_frame` meets its contract: a head, and zeros behind it.
-use Rattle.plan_encode.specs.Laid.{frame-written}
+-- `file_frames::frames::write_frame` meets its contract: a head, and zeros behind it.
+use Rattle.file_frames.specs.Framed.{frame-written}
 use borrow.Author.Needs.{needs}
-use Rattle.plan_encode.proofs.frames.write_frame.Statement.{statement}
-use Rattle.plan_encode.proofs.frames.write_frame.Tie as tie
+use Rattle.file_frames.proofs.frames.write_frame.Statement.{statement}
+use Rattle.file_frames.proofs.frames.write_frame.Tie as tie
 
 write-head-requires : tie.Need-write-head-requires
 write-head-requires c κs = search needs

@@ -1,11 +1,11 @@
--- `plan_encode::checks::write_checks` meets its contract: the blocks passed have their checks.
+-- `file_frames::checks::write_checks` meets its contract: the blocks passed have their checks.
 use mathlib.Core.Path.{_≡_}
 use Prim.Native.Nat.{_-_, _≤_}
 use lib.ListN.{length}
-use Rattle.plan_encode.specs.Laid.{sealedTo, sealed-none, sealed-more, sealed-end}
+use Rattle.file_frames.specs.Sealed.{sealedTo, sealed-none, sealed-more, sealed-end}
 use borrow.Author.Needs.{needs}
-use Rattle.plan_encode.proofs.checks.write_checks.Statement.{statement}
-use Rattle.plan_encode.proofs.checks.write_checks.Tie as tie
+use Rattle.file_frames.proofs.checks.write_checks.Statement.{statement}
+use Rattle.file_frames.proofs.checks.write_checks.Tie as tie
 
 abbrev Inv-loop : tie.InvT-loop
 Inv-loop out₀ blocks b₀ out b = (b ≤ blocks) × (length out ≡ length out₀) × (out ≡ sealedTo b out₀)
