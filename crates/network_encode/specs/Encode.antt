@@ -29,11 +29,15 @@ headerOf n = record {
   points = points n;
 }
 
+-- the header's entry as one number
+abbrev pub headerNumber : Header → ℕ
+headerNumber h =
+    h .number + 2 ^ 32
+    * (h .period + 65536 * (h .nodes + 65536 * (h .arcs + 65536 * (h .cells + 65536 * h .points))))
+
 -- byte r of the header, of the cell of node v, of arc a and of point q
 unfoldable pub headerByte : Header → ℕ → ℕ
-headerByte h r = byteOf
-    (h .number + 2 ^ 32
-    * (h .period + 65536 * (h .nodes + 65536 * (h .arcs + 65536 * (h .cells + 65536 * h .points))))) r
+headerByte h r = byteOf (headerNumber h) r
 
 unfoldable pub cellByte : List ℕ → ℕ → ℕ → ℕ
 cellByte cells v r = byteOf (getD cells v 0) r

@@ -42,7 +42,7 @@ module _ (size : ℕ) (f : ℕ → ℕ → ℕ) (base first : ℕ) where
       omega arith in rw z (fill-none (partByte size f base first) old base)
 
   -- a field of w bytes at byte `at` of entry e; the first field; and on to the next entry
-  pub entry-field : (w e at v : ℕ) (old new t : List ℕ)
+  entry-field : (w e at v : ℕ) (old new t : List ℕ)
       → Filled base (base + size * e + at) (partByte size f base first) old new → at + w ≤ size
       → base + size * e + (at + w) ≤ length old → ((k : ℕ) → k < w → f (first + e) (at + k) ≡ byteOf v k)
       → t ≡ put w new (base + size * e + at) v
@@ -59,7 +59,7 @@ module _ (size : ℕ) (f : ℕ → ℕ → ℕ) (base first : ℕ) where
       (omega arith)
       (omega arith))
 
-  pub entry-first : (w e v : ℕ) (old new t : List ℕ)
+  entry-first : (w e v : ℕ) (old new t : List ℕ)
       → Filled base (base + size * e) (partByte size f base first) old new → w ≤ size
       → base + size * e + w ≤ length old → ((k : ℕ) → k < w → f (first + e) (0 + k) ≡ byteOf v k)
       → t ≡ put w new (base + size * e) v

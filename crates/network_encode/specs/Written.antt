@@ -7,24 +7,22 @@ use Prim.Native.Nat.{ℕ, _+_, _*_, _^_, _≤_, _<_}
 use native.Mathlib.Omega.{arith}
 use lib.ListN.{length, getD, take}
 use lib.Seq.{getD-take, length-take-le}
-use lib.Dec.{lit<, lit≤}
+use lib.Dec.{lit<}
 use Rattle.theory_loops.specs.Fill.{Filled, filled-list, length-tab, overwritten, fill-join}
 use Rattle.file_blocks.specs.Bytes.{fileByte}
 use Rattle.file_blocks.specs.Run.{runBody, headerBody}
 use Rattle.file_blocks.specs.RunLaws.{same-body}
-use Rattle.file_fields.specs.Put.{put}
+use Rattle.file_fields.specs.Put.{put, put-join}
 use Rattle.network.specs.declared.header.Header.{Header}
 use Rattle.network.specs.declared.header.Layout.{Layout}
 use Rattle.network.specs.Limits.{WithinLimits}
 use Rattle.network.specs.Layout.{arcBlock, pointBlock, allBlocks, mostBlocks, LaidBlocks, layout-blocks}
 use Rattle.network.specs.Network.{Network}
 use Rattle.network.specs.Tables.{Tables, networkOf}
-use Rattle.network_encode.specs.Encode.{headerOf, encodeBy, encode, headerByte, cellByte, arcByte}
-use Rattle.network_encode.specs.Encode.{pointByte, bodyBy, header-body, cells-body, arcs-body}
-use Rattle.network_encode.specs.Encode.{points-body, number-byte, period-byte, nodes-byte, arcs-byte}
-use Rattle.network_encode.specs.Encode.{cells-byte, points-byte}
-use Rattle.network_encode.specs.Entries.{partByte, InRun, entry-none, entry-first, entry-field}
-use Rattle.network_encode.specs.Entries.{entry-put}
+use Rattle.network_encode.specs.Encode.{headerOf, encodeBy, encode, headerNumber, headerByte, cellByte}
+use Rattle.network_encode.specs.Encode.{arcByte, pointByte, bodyBy, header-body, cells-body, arcs-body}
+use Rattle.network_encode.specs.Encode.{points-body}
+use Rattle.network_encode.specs.Entries.{partByte, InRun, entry-none, entry-put}
 use Rattle.network_encode.specs.BlockWritten.{same-block}
 use Rattle.network_encode.specs.Packable.{Packable}
 use Rattle.file_fields.specs.Block.{blockSize, headSize}
@@ -58,26 +56,25 @@ module _ (base first m e : ℕ) (old s₀ s₁ : List ℕ) (l : e < m) where
   unfolding pointByte
   point-put t v h r p = entry-put pointSize (pointByte t v) base first m e _ old s₀ s₁ h l r (λ k. refl) p
 
--- the header's one entry
+-- the header's fields, put one behind the other, are one number, and that is its one entry
 pub header-put : (h : Header) → WithinLimits h → h .number < 2 ^ 32 → (old s₁ s₂ s₃ s₄ s₅ s₆ : List ℕ)
-    → headSize + networkSize ≤ length old → s₁ ≡ put 4 old 8 (h .number)
-    → s₂ ≡ put 2 s₁ 12 (h .period) → s₃ ≡ put 2 s₂ 14 (h .nodes) → s₄ ≡ put 2 s₃ 16 (h .arcs)
-    → s₅ ≡ put 2 s₄ 18 (h .cells) → s₆ ≡ put 4 s₅ 20 (h .points)
-    → Filled headSize (headSize + networkSize) (partByte networkSize (λ _. headerByte h) headSize 0) old s₆
-header-put h w l old s₁ s₂ s₃ s₄ s₅ s₆ r e₁ e₂ e₃ e₄ e₅ e₆ =
-    let f : ℕ → ℕ → ℕ = λ _. headerByte h in
-    let number = entry-first networkSize f headSize 0 4 0 _ old old s₁
-    (entry-none networkSize f headSize 0 old) (lit≤ tt) (omega arith) (number-byte h w l) e₁ in
-    let period = entry-field networkSize f headSize 0 2 0 4 _ old s₁ s₂ number (lit≤ tt) (omega arith)
-    (period-byte h w l) e₂ in
-    let nodes = entry-field networkSize f headSize 0 2 0 6 _ old s₂ s₃ period (lit≤ tt) (omega arith)
-    (nodes-byte h w l) e₃ in
-    let arcs = entry-field networkSize f headSize 0 2 0 8 _ old s₃ s₄ nodes (lit≤ tt) (omega arith)
-    (arcs-byte h w l) e₄ in
-    let cells = entry-field networkSize f headSize 0 2 0 10 _ old s₄ s₅ arcs (lit≤ tt) (omega arith)
-    (cells-byte h w l) e₅ in
-    entry-field networkSize f headSize 0 4 0 12 _ old s₅ s₆ cells (lit≤ tt) (omega arith)
-    (λ k n. points-byte h w l k) e₆
+    → s₁ ≡ put 4 old 8 (h .number) → s₂ ≡ put 2 s₁ 12 (h .period) → s₃ ≡ put 2 s₂ 14 (h .nodes)
+    → s₄ ≡ put 2 s₃ 16 (h .arcs) → s₅ ≡ put 2 s₄ 18 (h .cells) → s₆ ≡ put 4 s₅ 20 (h .points)
+    → s₆ ≡ put networkSize old 8 (headerNumber h)
+header-put h w l old s₁ s₂ s₃ s₄ s₅ s₆ e₁ e₂ e₃ e₄ e₅ e₆ =
+    put-join 4 12 old s₁ s₆ 8 (h .number) _ l e₁
+    (put-join 2 10 s₁ s₂ s₆ 12 (h .period) _ (omega (arith, w)) e₂
+    (put-join 2 8 s₂ s₃ s₆ 14 (h .nodes) _ (omega (arith, w)) e₃
+    (put-join 2 6 s₃ s₄ s₆ 16 (h .arcs) _ (omega (arith, w)) e₄
+    (put-join 2 4 s₄ s₅ s₆ 18 (h .cells) (h .points) (omega (arith, w)) e₅ e₆))))
+
+pub header-entry : (h : Header) (old new : List ℕ) → headSize + networkSize ≤ length old
+    → new ≡ put networkSize old 8 (headerNumber h)
+    → Filled headSize (headSize + networkSize) (partByte networkSize (λ _. headerByte h) headSize 0) old new
+unfolding headerByte
+header-entry h old new r p =
+    entry-put networkSize (λ _. headerByte h) headSize 0 1 0 (headerNumber h) old old new
+    (entry-none networkSize (λ _. headerByte h) headSize 0 old) (lit< tt) r (λ k. refl) p
 
 -- A BLOCK stands in its run
 module _ {h : Header} {l : Layout} {t : Tables} (p : Packable h l t) (b room : ℕ)

@@ -25,7 +25,8 @@ ghost use Rattle.file_fields.specs.Put.{put};
 ghost use Rattle.file_blocks.specs.Run.{runBody, headerBody};
 ghost use Rattle.network.specs.Limits.{WithinLimits};
 ghost use Rattle.network.specs.Tables.{tables, networkOf};
-ghost use Rattle.network_encode.specs.Encode.{headerByte, cellByte, arcByte, pointByte, bodyBy, encode};
+ghost use Rattle.network_encode.specs.Encode.{headerNumber, headerByte, cellByte, arcByte};
+ghost use Rattle.network_encode.specs.Encode.{pointByte, bodyBy, encode};
 ghost use Rattle.network_encode.specs.Entries.{partByte, InRun};
 ghost use Rattle.network_encode.specs.Packable.{Packable};
 
@@ -33,7 +34,7 @@ ghost use Rattle.network_encode.specs.Packable.{Packable};
 const USED: usize = HEAD + kind::NETWORK_SIZE;
 
 // Two fields of two bytes, one behind the other.
-fn put_two(out: &mut [u8], o: usize, x: u16, y: u16)
+pub fn put_two(out: &mut [u8], o: usize, x: u16, y: u16)
     requires { ⌜ o + 4 ≤ length (now out) ⌝ }
     ensures { λ _. ⌜ now (out .exit) ≡ put 4 (now (out .entry)) o (x + 65536 * y) ⌝ }
 {
@@ -42,7 +43,7 @@ fn put_two(out: &mut [u8], o: usize, x: u16, y: u16)
 }
 
 // Three of them.
-fn put_three(out: &mut [u8], o: usize, x: u16, y: u16, z: u16)
+pub fn put_three(out: &mut [u8], o: usize, x: u16, y: u16, z: u16)
     requires { ⌜ o + 6 ≤ length (now out) ⌝ }
     ensures { λ _. ⌜ now (out .exit) ≡ put 6 (now (out .entry)) o (x + 65536 * (y + 65536 * z)) ⌝ }
 {
@@ -51,12 +52,10 @@ fn put_three(out: &mut [u8], o: usize, x: u16, y: u16, z: u16)
 }
 
 // The header's fields, as the one entry of block 0.
-fn put_header(out: &mut [u8], h: Header)
+pub fn put_header(out: &mut [u8], h: Header)
     requires { ⌜ WithinLimits h ⌝ }
     requires { ⌜ (h .number < 2 ^ 32) × (headSize + networkSize ≤ length (now out)) ⌝ }
-    ensures { λ _. ⌜ Filled headSize (headSize + networkSize)
-        (partByte networkSize (λ _. headerByte h) headSize 0)
-        (now (out .entry)) (now (out .exit)) ⌝ }
+    ensures { λ _. ⌜ now (out .exit) ≡ put networkSize (now (out .entry)) 8 (headerNumber h) ⌝ }
 {
     put32(out, 8, h.number);
     put16(out, 12, h.period);

@@ -1,8 +1,10 @@
 -- `network_encode::encode::header_block` meets its contract.
 use mathlib.Core.Path.{refl}
+use native.Mathlib.Omega.{arith}
 use lib.Dec.{lit<, lit≤}
 use Rattle.network_encode.specs.Encode.{headerByte}
 use Rattle.network_encode.specs.BlockWritten.{block-written}
+use Rattle.network_encode.specs.Written.{header-entry}
 use borrow.Author.Needs.{needs}
 use Rattle.network_encode.proofs.encode.header_block.Statement.{statement}
 use Rattle.network_encode.proofs.encode.header_block.Tie as tie
@@ -25,15 +27,13 @@ same-length c = search needs
 
 returns : tie.Need-returns
 returns c =
-    block-written networkKind 1 networkSize 1
-    (λ _. headerByte (c .before .before .before .before .before .before .before .before .before .before
-    .before .before .before .before .before .before .before .args .h)) 0 0 1 (lit< tt) refl (lit≤ tt) _ _
-    _ _ _ (lit< tt) (c .before .before .before .before .before .before .before .before .before .before
-    .before .before .before .before .before .before .before .pre .1 .1)
-    (c .before .before .before .before .before .before .before .before .before .before .before .before
-    .before .before .write-head .ensures)
-    (c .before .before .before .before .before .before .before .before .before .before .put-header
-    .ensures) (c .before .before .before .before .before .before .write-zeros .ensures)
+    let far = c .before .before .before .before .before .before .before .before .before .before in
+    let start = far .before .before .before .before .before .before .before in
+    block-written networkKind 1 networkSize 1 (λ _. headerByte (start .args .h)) 0 0 1 (lit< tt) refl
+    (lit≤ tt) _ _ _ _ _ (lit< tt) (start .pre .1 .1)
+    (far .before .before .before .before .write-head .ensures)
+    (header-entry _ _ _ (omega arith) (far .put-header .ensures))
+    (c .before .before .before .before .before .before .write-zeros .ensures)
     (c .before .before .write-check .ensures)
 
 pub header-block-spec : {M : Type 1} → statement M

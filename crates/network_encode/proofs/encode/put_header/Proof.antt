@@ -30,7 +30,7 @@ returns c =
     let far = c .before .before .before .before .before .before .before .before .before .before in
     let farther = far .before .before .before .before .before .before .before .before .before .before in
     let pre = farther .before .before .before .before .before .pre in
-    header-put _ (pre .0) (pre .1 .0) _ _ _ _ _ _ _ (pre .1 .1)
+    header-put _ (pre .0) (pre .1 .0) _ _ _ _ _ _ _
     (farther .before .before .put32 .ensures)
     (far .before .before .before .before .before .before .before .before .put16 .ensures)
     (far .before .before .before .before .put162 .ensures)
