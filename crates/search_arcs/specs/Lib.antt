@@ -2,5 +2,6 @@
 -- (Halves), and when they end (Times).
 pub mod Chain
 pub mod Town
+pub mod Tables
 pub mod Halves
 pub mod Times

@@ -247,8 +247,8 @@ module _ {g : Graph} {p : Permit} {s x : ℕ} where
           }
 
 -- the labels are as many as the nodes, and as they were
-module _ {file mask starts L K Q P : List ℕ} {l : Layout} {p : Permit} {s x n : ℕ}
-    (w : Ready file l mask starts)
+module _ {file mask heads starts L K Q P : List ℕ} {l : Layout} {p : Permit} {s x n : ℕ}
+    (w : Ready file l mask heads starts)
     (c : Searching (graphOf (decode file)) p s x L K Q P n) where
   pub search-size : length L ≡ l .nodes
   search-size = c .kept .size ∙ sym (w .town .sizes .nodes)

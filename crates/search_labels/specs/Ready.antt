@@ -1,6 +1,6 @@
--- What every function of a search rests on: a town, the mask of permitted arcs and the table of the arcs'
--- first points (`Ready`); and a graph that is left within the first period, so that no label is late
--- (`Leaving`).
+-- What every function of a search rests on: a town, the mask of permitted arcs and the tables of the arcs'
+-- heads and first points (`Ready`); and a graph that is left within the first period, so that no label is
+-- late (`Leaving`).
 use mathlib.Core.Path.{_≡_}
 use mathlib.Core.List.{List}
 use Prim.Native.Nat.{ℕ, _≤_, _<_}
@@ -8,14 +8,14 @@ use native.Mathlib.Nat.{mul-le-mul}
 use native.Mathlib.Omega.{arith}
 use lib.ListN.{length, getD}
 use lib.Dec.{eqb}
-use Rattle.theory_loops.specs.Fill.{Filled}
 use Rattle.theory_paths.specs.Graph.{Graph, Lawful, Bounded, Permit}
 use Rattle.network.specs.declared.header.Layout.{Layout}
 use Rattle.network.specs.Limits.{mostPeriod, mostNodes, mostArcs}
-use Rattle.network.specs.Network.{start}
+use Rattle.network.specs.Network.{head, start}
 use Rattle.network.specs.Decode.{decode}
 use Rattle.network.specs.Town.{graphOf, town-bounded}
 use Rattle.search_arcs.specs.Town.{Town, lawful, head-node}
+use Rattle.search_arcs.specs.Tables.{Tabled}
 use Rattle.search_labels.specs.Settle.{latest}
 use Rattle.search_labels.specs.Frontier.{lastLabel}
 
@@ -23,10 +23,11 @@ use Rattle.search_labels.specs.Frontier.{lastLabel}
 abbrev pub permitOf : List ℕ → Permit
 permitOf mask a = eqb (getD mask a 0) 1
 
--- A town, with a mask for its arcs and a table of their first points.
-pub record Ready (file : List ℕ) (l : Layout) (mask starts : List ℕ) : Type 0 where
+-- A town, with a mask for its arcs and tables of their heads and first points.
+pub record Ready (file : List ℕ) (l : Layout) (mask heads starts : List ℕ) : Type 0 where
   pub town : Town file l
   pub masked : l .arcs ≤ length mask
+  pub head-at : (a : ℕ) → a < l .arcs → getD heads a 0 ≡ head (decode file) a
   pub first : (a : ℕ) → a < l .arcs → getD starts a 0 ≡ start (decode file) a
 
 -- s is left at tick x, in a lawful graph with few nodes and arcs, and early enough for its longest travel
@@ -40,9 +41,14 @@ pub record Leaving (g : Graph) (s x : ℕ) : Type 0 where
   pub node : s < g .nodes
   pub early : latest g most x ≤ lastLabel
 
-pub ready-of : {file : List ℕ} {l : Layout} {mask old starts : List ℕ} → Town file l → l .arcs ≤ length mask
-    → Filled 0 (l .arcs) (start (decode file)) old starts → Ready file l mask starts
-ready-of t m f = record { town = t; masked = m; first = λ a h. f .written a (omega arith) h }
+pub ready-of : {file : List ℕ} {l : Layout} {mask heads starts : List ℕ} → Town file l
+    → l .arcs ≤ length mask → Tabled (decode file) (l .arcs) 0 heads starts → Ready file l mask heads starts
+ready-of t m f = record {
+  town = t;
+  masked = m;
+  head-at = λ a h. f .head-at a (omega arith) h;
+  first = λ a h. f .start-at a (omega arith) h;
+}
 
 pub leaving : {file : List ℕ} {l : Layout} (t : Town file l) {s x : ℕ} → s < l .nodes → x < l .period
     → Leaving (graphOf (decode file)) s x
@@ -61,8 +67,8 @@ leaving {file} t h k = record {
 }
 
 -- of an arc's entry in the table of first points
-pub first-read : {file : List ℕ} {l : Layout} {mask starts : List ℕ} → Ready file l mask starts → (a : ℕ)
-    → a < l .arcs → getD starts a 0 ≡ start (decode file) a
+pub first-read : {file : List ℕ} {l : Layout} {mask heads starts : List ℕ} → Ready file l mask heads starts
+    → (a : ℕ) → a < l .arcs → getD starts a 0 ≡ start (decode file) a
 first-read w = w .first
 
 -- of a node's place in the labels

@@ -66,9 +66,9 @@ pub record Spread (g : Graph) (p : Permit) (u : ℕ) (L M H K Q R S : List ℕ) 
 
 -- In the loop: the walk over the arcs out of u, taken at tick y and bringing notes from b on, stands at arc
 -- a, or past the last.
-pub record Walking (file : List ℕ) (l : Layout) (mask starts first next : List ℕ) (u y b a : ℕ)
+pub record Walking (file : List ℕ) (l : Layout) (mask heads starts first next : List ℕ) (u y b a : ℕ)
     (L M H K Q R S : List ℕ) (n m : ℕ) : Type 0 where
-  pub ready : Ready file l mask starts
+  pub ready : Ready file l mask heads starts
   pub tables : Chained (tail (decode file)) (l .nodes) (l .arcs) 0 first next
   pub early : y ≤ lastLabel
   pub at : y ≡ label L u
@@ -83,8 +83,8 @@ pub record Walking (file : List ℕ) (l : Layout) (mask starts first next : List
   pub above : Open M R m y
 
 -- at the start u is taken out of the frontier
-module _ {file : List ℕ} {l : Layout} {mask starts L Q P : List ℕ} {n u : ℕ} (w : Ready file l mask starts)
-    (f : Frontier L Q P n) (e : length L ≡ l .nodes)
+module _ {file : List ℕ} {l : Layout} {mask heads starts L Q P : List ℕ} {n u : ℕ}
+    (w : Ready file l mask heads starts) (f : Frontier L Q P n) (e : length L ≡ l .nodes)
     (o : Held Q n u) where
   pub settle-node : u < l .nodes
   settle-node = omega (arith, entry-in f (o .place) u (o .inside) (sym (o .is)))
@@ -107,7 +107,7 @@ module _ {file : List ℕ} {l : Layout} {mask starts L Q P : List ℕ} {n u : �
   pub walking-start : {first next H R S : List ℕ} (a b : ℕ) → Taken Q P n u R S → Open L Q n (label L u)
       → Chained (tail (decode file)) (l .nodes) (l .arcs) 0 first next → label L u ≤ lastLabel
       → a ≡ getD first u 0 → b ≡ longer (note H u) → hopsIn H u < mostNodes → length H ≡ mostNodes
-      → Walking file l mask starts first next u (getD L u 0) b a L L H H R R S (n - 1) (n - 1)
+      → Walking file l mask heads starts first next u (getD L u 0) b a L L H H R R S (n - 1) (n - 1)
   walking-start {R = R} a b q p c k d r v m =
       let z = label-at L u settle-label in
       let j : NextArc (tail (decode file)) (graphOf (decode file) .arcs) u 0 a =
@@ -129,27 +129,32 @@ module _ {file : List ℕ} {l : Layout} {mask starts L Q P : List ℕ} {n u : �
       }
 
 -- a step
-pub arc-place : {file : List ℕ} {l : Layout} {mask starts : List ℕ} (a : ℕ) → Ready file l mask starts
+pub arc-place : {file : List ℕ} {l : Layout} {mask heads starts : List ℕ} (a : ℕ)
+    → Ready file l mask heads starts
     → a < l .arcs → a < mostArcs
 arc-place a w h = omega (arith, w .town .small .arcs-most)
 
-pub arc-scaled : {file : List ℕ} {l : Layout} {mask starts : List ℕ} (a : ℕ) → Ready file l mask starts
+pub arc-scaled : {file : List ℕ} {l : Layout} {mask heads starts : List ℕ} (a : ℕ)
+    → Ready file l mask heads starts
     → a < l .arcs → Fits w64 (a * 2)
 arc-scaled a w h = omega (arith, w .town .small .arcs-most)
 
 -- FOR `relax`: a node has a place among the notes, and an arc never ends before it is taken
-pub node-place : {file : List ℕ} {l : Layout} {mask starts : List ℕ} (v : ℕ) → Ready file l mask starts
+pub node-place : {file : List ℕ} {l : Layout} {mask heads starts : List ℕ} (v : ℕ)
+    → Ready file l mask heads starts
     → v < l .nodes → v < mostNodes
 node-place v w h = omega (arith, w .town .small .nodes-most)
 
-pub note-fits : {file : List ℕ} {l : Layout} {mask starts : List ℕ} (b a : ℕ) → Ready file l mask starts
+pub note-fits : {file : List ℕ} {l : Layout} {mask heads starts : List ℕ} (b a : ℕ)
+    → Ready file l mask heads starts
     → a < l .arcs → b ≤ mostNote → Fits w32 (b + a)
 note-fits b a w h o = omega (arith, w .town .small .arcs-most)
 
 pub tick-early : (y : ℕ) → y ≤ lastLabel → y ≤ lastTick
 tick-early y h = omega arith
 
-pub end-small : {file : List ℕ} {l : Layout} {mask starts : List ℕ} (y a e : ℕ) → Ready file l mask starts
+pub end-small : {file : List ℕ} {l : Layout} {mask heads starts : List ℕ} (y a e : ℕ)
+    → Ready file l mask heads starts
     → a < l .arcs → permitOf mask a ≡ true
     → y ≤ lastLabel → e ≡ ends (graphOf (decode file)) a y → e ≤ lastEnd
 end-small {file} {mask = mask} y a e w h c o q =
@@ -162,17 +167,17 @@ end-small {file} {mask = mask} y a e w h c o q =
       w .town .small .period-most,
     )
 
-pub notes-before : {file : List ℕ} {l : Layout} {mask starts : List ℕ} (y b a v : ℕ) (N K : List ℕ)
-    → Ready file l mask starts → a < l .arcs → permitOf mask a ≡ true
+pub notes-before : {file : List ℕ} {l : Layout} {mask heads starts : List ℕ} (y b a v : ℕ) (N K : List ℕ)
+    → Ready file l mask heads starts → a < l .arcs → permitOf mask a ≡ true
     → v ≡ graphOf (decode file) .head a → v < length N → getD N v 0 ≤ y
     → K ≡ notesAt (graphOf (decode file)) (permitOf mask) y b a N K
 notes-before {file} {mask = mask} y b a v N K w c h q l m =
     note-early (graphOf (decode file)) (permitOf mask) y b a N K (lawful (w .town))
     (omega (arith, w .town .sizes .arcs)) v h q l m
 
-module _ {file : List ℕ} {l : Layout} {mask starts first next L H Q : List ℕ} {n : ℕ} where
+module _ {file : List ℕ} {l : Layout} {mask heads starts first next L H Q : List ℕ} {n : ℕ} where
   module _ {u y b a : ℕ} {M K R S : List ℕ} {m : ℕ}
-      (k : Walking file l mask starts first next u y b a L M H K Q R S n m) (h : a < l .arcs) where
+      (k : Walking file l mask heads starts first next u y b a L M H K Q R S n m) (h : a < l .arcs) where
     module _ (j : ℕ) (e : j ≡ getD next a 0) where
       after : NextArc (tail (decode file)) (l .arcs) u (a + 1) j
       after = rw e
@@ -184,7 +189,7 @@ module _ {file : List ℕ} {l : Layout} {mask starts first next L H Q : List ℕ
 
       pub walking-next : {N J T U : List ℕ} {r : ℕ}
           → Stepped (graphOf (decode file)) (permitOf mask) y b a M N K J R T U m r
-          → Walking file l mask starts first next u y b j L N H J Q T U n r
+          → Walking file l mask heads starts first next u y b j L N H J Q T U n r
       walking-next s =
           let t = k .ready .town in
           let i : getD (decode file .heads) a 0 < length M =
@@ -212,10 +217,10 @@ module _ {file : List ℕ} {l : Layout} {mask starts first next L H Q : List ℕ
           }
 
 -- at the end; the walk started from the labels L and the rest of the frontier
-pub walking-end : {file : List ℕ} {l : Layout} {mask starts first next L H Q P R₀ S₀ : List ℕ} {n u y b a : ℕ}
-    {M K R S : List ℕ} {m : ℕ}
+pub walking-end : {file : List ℕ} {l : Layout} {mask heads starts first next L H Q P R₀ S₀ : List ℕ}
+    {n u y b a : ℕ} {M K R S : List ℕ} {m : ℕ}
     → Frontier L Q P n → Held Q n u → Taken Q P n u R₀ S₀
-    → Walking file l mask starts first next u y b a L M H K R₀ R S (n - 1) m → l .arcs ≤ a
+    → Walking file l mask heads starts first next u y b a L M H K R₀ R S (n - 1) m → l .arcs ≤ a
     → Spread (graphOf (decode file)) (permitOf mask) u L M H K Q R S n m
 walking-end {a = a} f o w k h = record {
   relaxed = walk-last a _ (k .walked) (k .at) (omega (arith, k .ready .town .sizes .arcs));

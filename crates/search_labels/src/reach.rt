@@ -8,9 +8,8 @@ use network::header::Layout;
 use network::limits::MOST_ARCS;
 use network::limits::MOST_NODES;
 use network::limits::NEVER;
-use network::read;
 use search_arcs::chain;
-use search_arcs::chain::End;
+use search_arcs::tables;
 use search_arcs::times;
 use search_arcs::wide;
 ghost use mathlib.Core.Path.{_≡_};
@@ -18,15 +17,32 @@ ghost use Prim.Native.Nat.{_≤_, _<_};
 ghost use lib.ListN.{length, replicate};
 ghost use Rattle.theory_paths.specs.Labels.{label};
 ghost use Rattle.network.specs.Limits.{mostNodes};
-ghost use Rattle.network.specs.Network.{tail};
+ghost use Rattle.network.specs.Network.{tail, head};
 ghost use Rattle.network.specs.Decode.{decode};
 ghost use Rattle.network.specs.Town.{graphOf};
 ghost use Rattle.search_labels.specs.Ready.{Ready, permitOf};
+ghost use Rattle.search_arcs.specs.Town.{Town};
 ghost use Rattle.search_arcs.specs.Chain.{Chained};
 ghost use Rattle.search_labels.specs.Frontier.{lastLabel, Held, Frontier, Open};
 ghost use Rattle.search_labels.specs.Notes.{hopsIn, mostNote};
 ghost use Rattle.search_labels.specs.Walk.{Stepped, Spread};
 ghost use Rattle.search_labels.specs.Reach.{Started, Reached};
+
+// The head of an arc, by the table: its entry in the file would have to be found first.
+fn head_of(
+    file: &[u8],
+    l: Layout,
+    mask: &[u8],
+    heads: &[u16; MOST_ARCS],
+    starts: &[u16; MOST_ARCS],
+    arc: usize,
+) -> usize
+    requires { ⌜ Ready (now file) l (now mask) (now heads) (now starts) ⌝ }
+    requires { ⌜ arc < l .arcs ⌝ }
+    ensures { λ r. ⌜ (r ≡ head (decode (now (file .entry))) arc) × (r < 65536) ⌝ }
+{
+    wide(heads[arc])
+}
 
 // Relaxes one arc, taken at a tick and bringing its note from `base` on: of two notes for one label the
 // lesser stays, and a head that gets its first label goes into the frontier. Answers the frontier's size.
@@ -34,6 +50,7 @@ fn relax(
     file: &[u8],
     l: Layout,
     mask: &[u8],
+    heads: &[u16; MOST_ARCS],
     starts: &[u16; MOST_ARCS],
     arc: usize,
     tick: u32,
@@ -44,7 +61,7 @@ fn relax(
     places: &mut [u16; MOST_NODES],
     size: usize,
 ) -> usize
-    requires { ⌜ Ready (now file) l (now mask) (now starts) ⌝ }
+    requires { ⌜ Ready (now file) l (now mask) (now heads) (now starts) ⌝ }
     requires { ⌜ (arc < l .arcs) × (tick ≤ lastLabel) × (base ≤ mostNote) ×
         (length (now labels) ≡ l .nodes) ⌝ }
     requires { ⌜ Frontier (now labels) (now keys) (now places) size ×
@@ -56,7 +73,7 @@ fn relax(
     if mask[arc] != 1 {
         return size;
     }
-    let v = read::head(file, l, arc);
+    let v = head_of(file, l, mask, heads, starts, arc);
     let old = labels[v];
     // An arc never ends before it is taken.
     if old <= tick {
@@ -91,6 +108,7 @@ fn settle(
     file: &[u8],
     l: Layout,
     mask: &[u8],
+    heads: &[u16; MOST_ARCS],
     starts: &[u16; MOST_ARCS],
     first: &[u16; MOST_NODES],
     next: &[u16; MOST_ARCS],
@@ -101,7 +119,7 @@ fn settle(
     places: &mut [u16; MOST_NODES],
     size: usize,
 ) -> usize
-    requires { ⌜ Ready (now file) l (now mask) (now starts) ⌝ }
+    requires { ⌜ Ready (now file) l (now mask) (now heads) (now starts) ⌝ }
     requires { ⌜ Chained (tail (decode (now file))) (l .nodes) (l .arcs) 0 (now first) (now next) ⌝ }
     requires { ⌜ (length (now labels) ≡ l .nodes) × (label (now labels) u ≤ lastLabel) ⌝ }
     requires { ⌜ (hopsIn (now notes) u < mostNodes) × (length (now notes) ≡ mostNodes) ⌝ }
@@ -121,6 +139,7 @@ fn settle(
             file,
             l,
             mask,
+            heads,
             starts,
             a,
             tick,
@@ -153,6 +172,7 @@ fn settle_all(
     file: &[u8],
     l: Layout,
     mask: &[u8],
+    heads: &[u16; MOST_ARCS],
     starts: &[u16; MOST_ARCS],
     first: &[u16; MOST_NODES],
     next: &[u16; MOST_ARCS],
@@ -160,7 +180,7 @@ fn settle_all(
     labels: &mut [u32],
     notes: &mut [u32; MOST_NODES],
 )
-    requires { ⌜ Ready (now file) l (now mask) (now starts) ⌝ }
+    requires { ⌜ Ready (now file) l (now mask) (now heads) (now starts) ⌝ }
     requires { ⌜ Chained (tail (decode (now file))) (l .nodes) (l .arcs) 0 (now first) (now next) ⌝ }
     requires { ⌜ (q .source < l .nodes) × (q .departure < l .period) ⌝ }
     requires { ⌜ Started (l .nodes) (q .source) (q .departure) (now labels) ×
@@ -182,6 +202,7 @@ fn settle_all(
             file,
             l,
             mask,
+            heads,
             starts,
             first,
             next,
@@ -200,21 +221,33 @@ pub fn reach(
     file: &[u8],
     l: Layout,
     mask: &[u8],
-    starts: &[u16; MOST_ARCS],
     q: Query,
     labels: &mut [u32],
     notes: &mut [u32; MOST_NODES],
 )
-    requires { ⌜ Ready (now file) l (now mask) (now starts) ⌝ }
+    requires { ⌜ Town (now file) l × (l .arcs ≤ length (now mask)) ⌝ }
     requires { ⌜ (q .source < l .nodes) × (q .departure < l .period) × (length (now labels) ≡ l .nodes) ×
         (now notes ≡ replicate mostNodes 0) ⌝ }
     ensures { λ _. ⌜ Reached (graphOf (decode (now (file .entry))))
         (permitOf (now (mask .entry))) (q .source) (q .target) (now (labels .exit)) (now (notes .exit)) ×
         (label (now (labels .exit)) (q .source) ≡ q .departure) ⌝ }
 {
+    let mut heads = [0u16; MOST_ARCS];
+    let mut starts = [0u16; MOST_ARCS];
     let mut first = [chain::NONE; MOST_NODES];
     let mut next = [chain::NONE; MOST_ARCS];
-    chain::chain(file, l, End::Tail, &mut first, &mut next);
+    tables::fill(file, l, &mut heads, &mut starts, &mut first, &mut next);
     start(labels, q);
-    settle_all(file, l, mask, starts, &first, &next, q, labels, notes);
+    settle_all(
+        file,
+        l,
+        mask,
+        &heads,
+        &starts,
+        &first,
+        &next,
+        q,
+        labels,
+        notes,
+    );
 }

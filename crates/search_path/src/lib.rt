@@ -3,18 +3,16 @@
 // specs/Promise, specs/Shows).
 //   answer what a trip answers
 //   path   the chosen path, from the notes that the search left
-// It may call `search_labels` for the labels and notes, `search_arcs` for the arcs' first points, `network`
-// for the entries of the file and `file_refusals` to refuse; it cites `theory_loops` and `theory_paths`.
+// It may call `search_labels` for the labels and notes, `network` for the entries of the file and
+// `file_refusals` to refuse; it cites `search_arcs`, `theory_loops` and `theory_paths`.
 use crate::answer::Answer;
 use crate::answer::Arrival;
 use file_refusals::number::NO_WAY;
 use file_refusals::number::ROADS_SHORT;
 use file_refusals::refuse;
 use network::header::Layout;
-use network::limits::MOST_ARCS;
 use network::limits::MOST_NODES;
 use network::limits::NEVER;
-use search_arcs::times;
 use search_labels::query::Query;
 use search_labels::reach::reach;
 
@@ -104,10 +102,8 @@ fn search_nodes(
         (permitOf (now (mask .entry))) (q .source) (q .departure) (q .target) (now (labels .entry))
         (now (labels .exit)) (now (roads .entry)) (now (roads .exit)) r ⌝ }
 {
-    let mut starts = [0u16; MOST_ARCS];
-    times::first_points(file, l, &mut starts);
     let mut notes = [0u32; MOST_NODES];
-    reach(file, l, mask, &starts, q, labels, &mut notes);
+    reach(file, l, mask, q, labels, &mut notes);
     let target = q.target as usize;
     let answer = tell(file, l, labels, &notes, target, roads);
     trim(labels, target);

@@ -1,16 +1,12 @@
 -- `search_path::search_nodes` meets its contract: what is told by the labels and notes that the search left
 -- is told by the true labels.
 use Rattle.search_path.specs.Answering.{tellable, answered}
-use Rattle.search_labels.specs.Ready.{ready-of}
 use borrow.Author.Needs.{needs}
 use Rattle.search_path.proofs.search_nodes.Statement.{statement}
 use Rattle.search_path.proofs.search_nodes.Tie as tie
 
-first-points-requires : tie.Need-first-points-requires
-first-points-requires c κs = search needs
-
 reach-requires : tie.Need-reach-requires
-reach-requires c κs = (search ready-of, search needs)
+reach-requires c κs = search needs
 
 cast-target : tie.Need-cast-target
 cast-target c = search needs
@@ -18,14 +14,14 @@ cast-target c = search needs
 tell-requires : tie.Need-tell-requires
 tell-requires c κs =
     let r = c .before .before .before .before .before .before in
-    let s = r .before .before .before .before .before .before .before .before .before .before .pre in
+    let s = r .before .before .before .before .before .before .before .pre in
     let n = s .1 .1 in
     (s .0, tellable (s .0) (n .0) (n .1) (n .2) (r .reach .ensures .0))
 
 trim-requires : tie.Need-trim-requires
 trim-requires c κs =
     let r = c .before .before .before .before .before .before .before .before .before .before in
-    let s = r .before .before .before .before .before .before .before .before .before .before .pre in
+    let s = r .before .before .before .before .before .before .before .pre in
     let n = s .1 .1 in
     tellable (s .0) (n .0) (n .1) (n .2) (r .reach .ensures .0) .inside
 
@@ -40,7 +36,7 @@ returns c =
     let t = c .before .before in
     let o = t .before .before .before .before in
     let r = o .before .before .before .before .before .before .before in
-    let s = r .before .before .before .before .before .before .before .before .before .before in
+    let s = r .before .before .before .before .before .before .before in
     let n = s .pre .1 .1 in
     answered (s .args .mask .now) (s .pre .0) (n .0) (n .1) (n .2) (s .pre .1 .0 .1) (r .reach .ensures)
     (o .tell .ensures) (t .trim .ensures)
@@ -49,7 +45,6 @@ pub search-nodes-spec : {M : Type 1} → statement M
 search-nodes-spec =
     tie.close
     (tie.spec
-    first-points-requires
     reach-requires
     cast-target
     tell-requires

@@ -1,23 +1,26 @@
--- `search_labels::reach::reach` meets its contract: by the chain of the arcs out of each node, and from the
--- source's label alone, all is settled.
+-- `search_labels::reach::reach` meets its contract: by the tables of the arcs, and from the source's label
+-- alone, all is settled.
 use Rattle.search_arcs.specs.Town.{fresh-tables}
+use Rattle.search_labels.specs.Ready.{ready-of}
 use borrow.Author.Needs.{needs}
 use Rattle.search_labels.proofs.reach.reach.Statement.{statement}
 use Rattle.search_labels.proofs.reach.reach.Tie as tie
 
-chain-requires : tie.Need-chain-requires
-chain-requires c κs = (search needs, search fresh-tables)
+fill-requires : tie.Need-fill-requires
+fill-requires c κs = (search needs, (search fresh-tables, search needs, search needs))
 
 start-requires : tie.Need-start-requires
 start-requires c κs = search needs
 
 settle-all-requires : tie.Need-settle-all-requires
 settle-all-requires c κs =
-    let r = c .before .before .before .before .before .before in
-    let h = r .before .before in
-    let s = h .before .before .before .before .before .before .pre in
-    let n = s .1 in
-    (s .0, (h .chain .ensures, ((n .0, n .1), (rw (n .2) at (r .start .ensures), n .3))))
+    let r = c .before .before .before .before .before .before .before .before in
+    let f = r .before .before in
+    let s = f .before .before .before .before .before .before .before .before .pre in
+    let n = s .1 in (
+      ready-of (s .0 .0) (s .0 .1) (f .fill .ensures .1),
+      (f .fill .ensures .0, ((n .0, n .1), (rw (n .2) at (r .start .ensures), n .3))),
+    )
 
 same-length : tie.Need-same-length
 same-length c = search needs
@@ -27,4 +30,4 @@ returns c = c .before .before .settle-all .ensures
 
 pub reach-spec : {M : Type 1} → statement M
 reach-spec =
-    tie.close (tie.spec chain-requires start-requires settle-all-requires same-length returns)
+    tie.close (tie.spec fill-requires start-requires settle-all-requires same-length returns)

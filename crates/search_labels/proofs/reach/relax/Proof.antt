@@ -29,8 +29,8 @@ returns c = record {
   front = search needs;
 }
 
-head-requires : tie.Need-head-requires
-head-requires c κs = search needs
+head-of-requires : tie.Need-head-of-requires
+head-of-requires c κs = search needs
 
 mul-old : tie.Need-mul-old
 mul-old c = search needs
@@ -151,7 +151,7 @@ relax-spec =
     (tie.spec
     shared-slice-read-if1
     returns
-    head-requires
+    head-of-requires
     mul-old
     slice-read-old
     returns-2

@@ -7,16 +7,14 @@ use Rattle.search_labels.proofs.reach.settle.Statement.{statement}
 use Rattle.search_labels.proofs.reach.settle.Tie as tie
 
 abbrev Inv-loop : tie.InvT-loop
-Inv-loop file l mask starts first next u labels₀ notes₀ keys₀ places₀ size tick base held₀ a₀ labels notes
-    keys places
-    held a =
-    Walking file l mask starts first next u tick base a labels₀ labels notes₀ notes keys₀ keys places
+Inv-loop file l mask heads starts first next u labels₀ notes₀ keys₀ places₀ size tick base held₀ a₀ labels
+    notes keys places held a =
+    Walking file l mask heads starts first next u tick base a labels₀ labels notes₀ notes keys₀ keys places
     (size - 1) held
 
 abbrev μ-loop : tie.MeasureT-loop
-μ-loop file l mask starts first next u labels₀ notes₀ keys₀ places₀ size tick base held₀ a₀ labels notes keys
-    places
-    held a = l .arcs - a
+μ-loop file l mask heads starts first next u labels₀ notes₀ keys₀ places₀ size tick base held₀ a₀ labels
+    notes keys places held a = l .arcs - a
 
 take-requires : tie.Need-take-requires Inv-loop μ-loop
 take-requires c κs = (search walks, search walks, search walks, search walks)

@@ -11,12 +11,13 @@ use Rattle.search_labels.proofs.reach.settle_all.Statement.{statement}
 use Rattle.search_labels.proofs.reach.settle_all.Tie as tie
 
 abbrev Inv-loop : tie.InvT-loop
-Inv-loop file l mask starts first next q labels₀ notes₀ keys₀ places₀ size₀ labels notes keys places size =
+Inv-loop file l mask heads starts first next q labels₀ notes₀ keys₀ places₀ size₀ labels notes keys places
+    size =
     Searching (graphOf (decode file)) (permitOf mask) (q .source) (q .departure) labels notes keys places size
 
 abbrev μ-loop : tie.MeasureT-loop
-μ-loop file l mask starts first next q labels₀ notes₀ keys₀ places₀ size₀ labels notes keys places size =
-    size + unknown labels
+μ-loop file l mask heads starts first next q labels₀ notes₀ keys₀ places₀ size₀ labels notes keys places
+    size = size + unknown labels
 
 cast-put : tie.Need-cast-put Inv-loop μ-loop
 cast-put c = search needs
