@@ -17,6 +17,7 @@ use Rattle.network.specs.Network.{head, cell, start}
 use Rattle.network.specs.Decode.{decode}
 use Rattle.network.specs.Town.{graphOf, partitionOf, travelAt}
 use Rattle.search_arcs.specs.Town.{head-node}
+use Rattle.search_arcs.specs.Times.{NextStart, next-start}
 use Rattle.plan_values.specs.declared.value.Value.{Value}
 use Rattle.plan_tests.specs.declared.tests.Layouts.{Layouts}
 use Rattle.plan_tests.specs.declared.tests.Target.{Target}
@@ -136,6 +137,9 @@ module _ {network plan : List ℕ} {l : Layouts} {points starts : List ℕ} {b :
     pub first-point : getD points a 0 ≡ start (decode network) a
     first-point = w .first a h
 
+    pub next-point : NextStart (decode network) (l .network .arcs) points a
+    next-point = next-start (w .first) a
+
     pub head-in : {y : ℕ} → y ≡ head (decode network) a → y < l .plan .nodes
     head-in {y} e = omega (arith, head-node (w .check .town) a y h e, w .check .nodes)
 
@@ -165,6 +169,7 @@ pub ruleset givings = (
   profile-same,
   profile-is,
   first-point,
+  next-point,
   head-in,
   end-after,
   end-reduced,

@@ -1,25 +1,33 @@
 -- The laws by which code reads when an arc ends: where the arc's points start, that they are a day's points,
 -- and the travel on their line. Also what fits: first points 16 bits, travels and arrivals 32, with never to
 -- spare.
-use mathlib.Core.Path.{_≡_, sym, _∙_}
+use mathlib.Core.Path.{_≡_, refl, sym, _∙_}
 use mathlib.Core.List.{List}
-use Prim.Native.Nat.{ℕ, _+_, _%_, _≤_, _<_}
+use Prim.Native.Nat.{ℕ, _+_, _-_, _%_, _≤_, _<_}
 use native.Mathlib.Nat.{mod-lt, mod-eq-of-lt}
 use native.Mathlib.Omega.{arith}
 use lib.ListN.{length, getD}
 use mir.Val.{Fits}
 use mir.Syntax.{w32, w64}
-use Rattle.theory_loops.specs.Total.{total, total-part}
+use Rattle.theory_loops.specs.Total.{total, total-part, total-more}
 use Rattle.theory_paths.specs.Graph.{ends}
 use Rattle.theory_paths.specs.Earliest.{never}
 use Rattle.theory_travel.specs.Day.{Day}
 use Rattle.theory_travel.specs.Table.{entryAt, valueAt}
 use Rattle.network.specs.Limits.{mostPeriod}
 use Rattle.network.specs.declared.header.Layout.{Layout}
-use Rattle.network.specs.Network.{count, start}
+use Rattle.network.specs.Network.{Network, count, start}
 use Rattle.network.specs.Decode.{decode}
 use Rattle.network.specs.Town.{graphOf, travelAt, town-bounded}
 use Rattle.search_arcs.specs.Town.{Town, lastTick}
+
+-- The table has the first point of the arc after arc a, where there is one.
+pub record NextStart (n : Network) (arcs : ℕ) (starts : List ℕ) (a : ℕ) : Type 0 where
+  pub entry : a + 1 < arcs → getD starts (a + 1) 0 ≡ start n (a + 1)
+
+pub next-start : {n : Network} {arcs : ℕ} {starts : List ℕ}
+    → ((a : ℕ) → a < arcs → getD starts a 0 ≡ start n a) → (a : ℕ) → NextStart n arcs starts a
+next-start f a = record { entry = λ h. f (a + 1) h }
 
 -- a tick of the first day is reduced
 pub first-day : (y period : ℕ) → y < period → y ≡ y % period
@@ -50,6 +58,38 @@ module _ {file : List ℕ} {l : Layout} (t : Town file l) where
 
     pub sum-fits : (s m : ℕ) → s ≡ total a (count (decode file)) → m < 65536 → Fits w64 (s + m)
     sum-fits s m e q = omega (arith, start-small s e)
+
+    -- `from` was read in the table of first points: the arc's points end where the next arc's start, or all do
+    module _ (starts : List ℕ) (from : ℕ) (d : from ≡ getD starts a 0)
+        (e : getD starts a 0 ≡ start (decode file) a) where
+      counted : start (decode file) (a + 1) ≡ from + count (decode file) a
+      unfolding start
+      counted =
+          omega (
+            arith,
+            total-more (count (decode file)) (total a (count (decode file))) (count (decode file) a) a refl refl,
+            d ∙ e,
+          )
+
+      module _ (to : ℕ) (next : NextStart (decode file) (l .arcs) starts a) (o : a + 1 < l .arcs)
+          (q : to ≡ getD starts (a + 1) 0) where
+        pub count-above : from ≤ to
+        count-above = omega (arith, counted, q, next .entry o)
+
+        pub count-between : to - from ≡ count (decode file) a
+        count-between = omega (arith, counted, q, next .entry o)
+
+      module _ (o : l .arcs ≤ a + 1) where
+        all : start (decode file) (a + 1) ≡ l .points
+        all =
+            let p : a + 1 ≡ length (decode file .tails) = omega (arith, t .sizes .arcs) in
+            rw p (omega (arith, t .sound .sum, t .sizes .points))
+
+        pub last-above : from ≤ l .points
+        last-above = omega (arith, counted, all)
+
+        pub last-between : l .points - from ≡ count (decode file) a
+        last-between = omega (arith, counted, all)
 
     -- `from` was read in the table of first points, and m is the count of the arc's points
     module _ (starts : List ℕ) (from m : ℕ) (d : from ≡ getD starts a 0)

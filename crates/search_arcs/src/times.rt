@@ -15,10 +15,11 @@ ghost use Rattle.theory_travel.specs.Line;
 ghost use Rattle.theory_travel.specs.Search.{Sorted, Last};
 ghost use Rattle.theory_travel.specs.Day.{Day};
 ghost use Rattle.theory_travel.specs.Table.{entryAt, valueAt};
-ghost use Rattle.network.specs.Network.{start};
+ghost use Rattle.network.specs.Network.{count, start};
 ghost use Rattle.network.specs.Decode.{decode, Laid};
 ghost use Rattle.network.specs.Town.{graphOf};
 ghost use Rattle.search_arcs.specs.Town.{Town, lastTick};
+ghost use Rattle.search_arcs.specs.Times.{NextStart};
 
 // The first point of each arc.
 pub fn first_points(file: &[u8], l: Layout, starts: &mut [u16; MOST_ARCS])
@@ -96,15 +97,32 @@ pub fn in_period(tick: u32, period: usize) -> usize
     x % period
 }
 
+// How many points an arc has, by the table: as many as stand before the next arc's first, or before the end.
+fn count_of(file: &[u8], l: Layout, starts: &[u16; MOST_ARCS], arc: usize) -> usize
+    requires { ⌜ Town (now file) l ⌝ }
+    requires { ⌜ arc < l .arcs ⌝ }
+    requires { ⌜ (getD (now starts) arc 0 ≡ start (decode (now file)) arc)
+        × NextStart (decode (now file)) (l .arcs) (now starts) arc ⌝ }
+    ensures { λ r. ⌜ r ≡ count (decode (now (file .entry))) arc ⌝ }
+{
+    let from = wide(starts[arc]);
+    let after = arc + 1;
+    if after < l.arcs {
+        return wide(starts[after]) - from;
+    }
+    l.points - from
+}
+
 // The tick at which an arc, taken at a tick, ends.
 pub fn ends_at(file: &[u8], l: Layout, starts: &[u16; MOST_ARCS], arc: usize, tick: u32) -> u32
     requires { ⌜ Town (now file) l ⌝ }
     requires { ⌜ (arc < l .arcs) × (tick ≤ lastTick) ⌝ }
-    requires { ⌜ getD (now starts) arc 0 ≡ start (decode (now file)) arc ⌝ }
+    requires { ⌜ (getD (now starts) arc 0 ≡ start (decode (now file)) arc)
+        × NextStart (decode (now file)) (l .arcs) (now starts) arc ⌝ }
     ensures { λ r. ⌜ (r ≡ ends (graphOf (decode (now (file .entry)))) arc tick) × (r < never) ⌝ }
 {
     let from = wide(starts[arc]);
-    let count = read::count(file, l, arc);
+    let count = count_of(file, l, starts, arc);
     let x = in_period(tick, l.period);
     tick + travel_at(file, l, from, count, x) as u32
 }

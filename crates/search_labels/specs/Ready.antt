@@ -16,6 +16,7 @@ use Rattle.network.specs.Decode.{decode}
 use Rattle.network.specs.Town.{graphOf, town-bounded}
 use Rattle.search_arcs.specs.Town.{Town, lawful, head-node}
 use Rattle.search_arcs.specs.Tables.{Tabled}
+use Rattle.search_arcs.specs.Times.{NextStart, next-start}
 use Rattle.search_labels.specs.Settle.{latest}
 use Rattle.search_labels.specs.Frontier.{lastLabel}
 
@@ -71,9 +72,13 @@ pub first-read : {file : List ℕ} {l : Layout} {mask heads starts : List ℕ} �
     → (a : ℕ) → a < l .arcs → getD starts a 0 ≡ start (decode file) a
 first-read w = w .first
 
+pub next-read : {file : List ℕ} {l : Layout} {mask heads starts : List ℕ} → Ready file l mask heads starts
+    → (a : ℕ) → NextStart (decode file) (l .arcs) starts a
+next-read w = next-start (w .first)
+
 -- of a node's place in the labels
 pub node-label : (l : Layout) (L : List ℕ) (v : ℕ) → length L ≡ l .nodes → v < l .nodes → v < length L
 node-label l L v e h = omega arith
 
 -- for `search (ready-reads, needs)` where code has read the file
-pub ruleset ready-reads = (head-node, first-read, node-label)
+pub ruleset ready-reads = (head-node, first-read, next-read, node-label)

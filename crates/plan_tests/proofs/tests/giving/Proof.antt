@@ -9,7 +9,7 @@ cast-tick : tie.Need-cast-tick
 cast-tick c = search needs
 
 ends-at-requires : tie.Need-ends-at-requires
-ends-at-requires c κs = (search needs, ((search needs, search needs), search givings))
+ends-at-requires c κs = (search needs, ((search needs, search needs), (search givings, search givings)))
 
 head-requires : tie.Need-head-requires
 head-requires c κs = search needs

@@ -14,8 +14,8 @@ element-copy-out-wide c = search needs
 wide-requires : tie.Need-wide-requires
 wide-requires c κs = search needs
 
-count-requires : tie.Need-count-requires
-count-requires c κs = search needs
+count-of-requires : tie.Need-count-of-requires
+count-of-requires c κs = search needs
 
 in-period-requires : tie.Need-in-period-requires
 in-period-requires c κs = search needs
@@ -39,7 +39,7 @@ ends-at-spec =
     mul-wide
     element-copy-out-wide
     wide-requires
-    count-requires
+    count-of-requires
     in-period-requires
     travel-at-requires
     cast-result

@@ -47,7 +47,8 @@ returns-2 c = record {
 }
 
 ends-at-requires : tie.Need-ends-at-requires
-ends-at-requires c κs = (search needs, ((search needs, search tick-early), search ready-reads))
+ends-at-requires c κs =
+    (search needs, ((search needs, search tick-early), (search ready-reads, search ready-reads)))
 
 returns-3 : tie.Need-returns-3
 returns-3 c = record {
