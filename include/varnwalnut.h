@@ -14,7 +14,7 @@
  * numbers in lists of uint16_t and uint32_t are the machine's own.
  *
  * Threads: the functions have no state and may run at once on any number of threads, also on the same files.
- * Stack: below 21 KB for each function but two: varnwalnut_make_plan needs below 56 KB, and
+ * Stack: below 24 KB for each function but two: varnwalnut_make_plan needs below 56 KB, and
  * varnwalnut_pack_network about 280 KB.
  *
  * Link with libvarnwalnut.a: cc program.c -Iinclude target/staticlib/libvarnwalnut.a

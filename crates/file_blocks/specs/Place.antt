@@ -1,7 +1,7 @@
 -- Where the entries of a kind stand. A kind's blocks are a run from block `from` on, with `per` entries of
 -- `size` bytes a block, all blocks but the last full: entry i is entry i % per of block from + i / per.
 -- Nothing here says what an entry means.
-use mathlib.Core.Path.{_≡_, sym, _∙_}
+use mathlib.Core.Path.{_≡_, sym, _∙_, ap}
 use mathlib.Core.List.{List}
 use Prim.Native.Nat.{ℕ, _+_, _-_, _*_, _/_, _%_, _^_, _≤_, _<_, min}
 use native.Mathlib.Nat.{mod-lt, mul-le-mul-left, le-div-iff-mul-le, div-mul-le-self, div-add-mod, mul-add-div}
@@ -40,6 +40,18 @@ module _ (from per size : ℕ) (pos : 0 < per) (fit : size * per ≤ entriesSize
   pub offset-in : (i : ℕ) → offset from per size i + size ≤ blockSize * (from + i / per) + summedSize
   unfolding offset
   offset-in i = omega (arith, mul-le-mul-left size (mod-lt i pos))
+
+  -- the entries before it and what its blocks have beside entries, counted apart
+  pub offset-apart : (i more : ℕ) → more ≡ blockSize - size * per
+      → blockSize * from + headSize + size * i + more * (i / per) ≡ offset from per size i
+  unfolding offset
+  offset-apart i more e =
+      let whole : more + size * per ≡ blockSize = omega arith in
+      let blocked : (more + size * per) * (i / per) ≡ blockSize * (i / per) =
+      ap (λ (z : ℕ). z * (i / per)) whole in
+      let counted : size * (per * (i / per) + i % per) ≡ size * i =
+      ap (λ (z : ℕ). size * z) (div-add-mod i per) in
+      omega (arith, blocked, counted)
 
   -- its block is one of the run's
   pub block-below : (n i : ℕ) → i < n → i / per < blocks per n

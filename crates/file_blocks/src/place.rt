@@ -12,12 +12,14 @@ ghost use Rattle.file_blocks.specs.Place;
 ghost use Rattle.file_blocks.specs.Place.{RunInFile, EntryInFile, entriesIn};
 ghost use Rattle.file_blocks.specs.Table.{entry16, part16};
 
-// The byte at which entry i starts.
+// The byte at which entry i starts. Entries are counted on through the blocks before it, each of which has
+// some bytes more than entries: that takes one division, and no remainder.
 pub fn offset(from: usize, per: usize, size: usize, i: usize) -> usize
     requires { ⌜ (0 < per) × (size * per ≤ entriesSize) × (from + i / per < 2 ^ 54) ⌝ }
     ensures { λ r. ⌜ r ≡ Place.offset from per size i ⌝ }
 {
-    BLOCK * (from + i / per) + HEAD + size * (i % per)
+    let more = BLOCK - size * per;
+    BLOCK * from + HEAD + size * i + more * (i / per)
 }
 
 // The 16-bit field at byte `at` of entry i.

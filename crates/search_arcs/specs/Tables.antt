@@ -1,5 +1,5 @@
--- The tables that a search reads of the arcs: each arc's head and its first point. They are filled from the last
--- arc to the first, as the chains are, with the number of points before the arcs passed carried along.
+-- The tables that a search reads of the arcs: each arc's head and its first point. They are filled from the
+-- last arc to the first, as the chains are, with the number of points before the arcs passed carried along.
 use mathlib.Core.Path.{_≡_, refl}
 use mathlib.Core.List.{List}
 use Prim.Native.Nat.{ℕ, _+_, _-_, _≤_, _<_}
@@ -7,7 +7,7 @@ use native.Mathlib.Decide.{ℕ-discrete}
 use native.Mathlib.Omega.{arith}
 use lib.ListN.{length, getD, set, length-set}
 use lib.Seq.{getD-set-same, getD-set-other}
-use Rattle.theory_loops.specs.Total.{total-part, total-more}
+use Rattle.theory_loops.specs.Total.{total-more}
 use Rattle.network.specs.declared.header.Layout.{Layout}
 use Rattle.network.specs.Network.{Network, head, count, start}
 use Rattle.network.specs.Decode.{decode}

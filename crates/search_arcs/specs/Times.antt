@@ -59,7 +59,8 @@ module _ {file : List ℕ} {l : Layout} (t : Town file l) where
     pub sum-fits : (s m : ℕ) → s ≡ total a (count (decode file)) → m < 65536 → Fits w64 (s + m)
     sum-fits s m e q = omega (arith, start-small s e)
 
-    -- `from` was read in the table of first points: the arc's points end where the next arc's start, or all do
+    -- `from` was read in the table of first points: the arc's points end where the next arc's start, or all
+    -- do
     module _ (starts : List ℕ) (from : ℕ) (d : from ≡ getD starts a 0)
         (e : getD starts a 0 ≡ start (decode file) a) where
       counted : start (decode file) (a + 1) ≡ from + count (decode file) a
@@ -67,7 +68,8 @@ module _ {file : List ℕ} {l : Layout} (t : Town file l) where
       counted =
           omega (
             arith,
-            total-more (count (decode file)) (total a (count (decode file))) (count (decode file) a) a refl refl,
+            total-more (count (decode file)) (total a (count (decode file))) (count (decode file) a) a refl
+                refl,
             d ∙ e,
           )
 

@@ -1,5 +1,5 @@
-// The tables of the arcs that a search reads, filled in one pass: each arc's head and first point, and the chain
-// of the arcs out of each node. An arc's entry is found once for all of them.
+// The tables of the arcs that a search reads, filled in one pass: each arc's head and first point, and the
+// chain of the arcs out of each node. An arc's entry is found once for all of them.
 use network::header::Layout;
 use network::limits::MOST_ARCS;
 use network::limits::MOST_NODES;

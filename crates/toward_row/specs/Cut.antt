@@ -123,7 +123,3 @@ cut-join f g old mid new a b c r s p q l m e = record {
         }
   ];
 }
-
--- as many as there are entries, at most
-pub cut-few : (f : ℕ → ℕ) (old new : List ℕ) (a b r : ℕ) → Cut a b f old new r → r ≤ b - a
-cut-few f old new a b r c = c .few

@@ -1,5 +1,5 @@
--- `search_arcs::tables::fill` meets its contract: all tables are as they should be for the arcs passed, from the
--- last on, and the sum is that of the points before them.
+-- `search_arcs::tables::fill` meets its contract: all tables are as they should be for the arcs passed, from
+-- the last on, and the sum is that of the points before them.
 use mathlib.Core.Path.{_≡_}
 use Prim.Native.Nat.{_≤_, _<_, _-_}
 use native.Mathlib.Omega.{arith}
@@ -24,7 +24,14 @@ abbrev μ-loop : tie.MeasureT-loop
 μ-loop file l heads₀ starts₀ first₀ next₀ arcs sum₀ k₀ heads starts first next sum k = arcs - k
 
 loop-holds : tie.Need-loop-holds Inv-loop μ-loop
-loop-holds c = (search needs, search needs, search needs, search sum-all, search chain-none, search tabled-none)
+loop-holds c = (
+  search needs,
+  search needs,
+  search needs,
+  search sum-all,
+  search chain-none,
+  search tabled-none,
+)
 
 sub-i : tie.Need-sub-i Inv-loop μ-loop
 sub-i c = search needs

@@ -1,4 +1,5 @@
--- `search_arcs::times::count_of` meets its contract: the arc's points end where the next arc's start, or all do.
+-- `search_arcs::times::count_of` meets its contract: the arc's points end where the next arc's start, or
+-- all do.
 use Rattle.search_arcs.specs.Times.{count-above, count-between, last-above, last-between}
 use borrow.Author.Needs.{needs}
 use Rattle.search_arcs.proofs.times.count_of.Statement.{statement}
