@@ -1,0 +1,212 @@
+// day_runs: a day's values as runs of equal value, put after one another: at most one division for each piece
+// of the line, none for a tick or a run. Run i holds the ticks from starts[i] up to starts[i + 1]. A piece
+// whose first value is that of the last run takes that run up again (`back`). Rounding stands in `rising` and
+// `falling` alone, and in `climb` and `sink` for lines with a new value at each tick.
+// It may call `travel_runs` for steps, and cites `theory_travel` for the line.
+ghost use mathlib.Core.Path.{_≡_};
+ghost use mathlib.Core.Logic.{_⊎_};
+ghost use Prim.Native.Nat.{_+_, _-_, _*_, _/_, _≤_, _<_};
+ghost use lib.ListN.{length, getD, set};
+ghost use Rattle.theory_travel.specs.Pieces.{lineAt};
+ghost use Rattle.day_runs.specs.Held.{Added, Room, Extended};
+
+// Puts run n: from where run n - 1 ends up to tick e.
+fn put(starts: &mut [u16], values: &mut [u32], n: usize, e: usize, v: u32)
+    requires { ⌜ (n + 1 < length (now starts)) × (n < length (now values)) × (e ≤ 65535) ⌝ }
+    ensures { λ _. ⌜ (now (starts .exit) ≡ set (now (starts .entry)) (n + 1) e)
+        × (now (values .exit) ≡ set (now (values .entry)) n v) ⌝ }
+{
+    starts[n + 1] = e as u16;
+    values[n] = v;
+}
+
+// The wholes of so many parts.
+fn wholes(parts: u64) -> usize
+    ensures { λ r. ⌜ r ≡ parts / 4294967296 ⌝ }
+{
+    (parts / 4294967296) as usize
+}
+
+// The same as a value.
+fn whole_value(parts: u64) -> u32
+    ensures { λ r. ⌜ r ≡ parts / 4294967296 ⌝ }
+{
+    (parts / 4294967296) as u32
+}
+
+// Runs of a line that rises by less than its ticks: value v + j begins at the `ceiled`-th tick of j.
+fn rising(
+    starts: &mut [u16],
+    values: &mut [u32],
+    n: usize,
+    a: usize,
+    v: u32,
+    b: usize,
+    w: u32,
+) -> usize
+    requires { ⌜ Room (now starts) (now values) n a b ⌝ }
+    requires { ⌜ (v < w) × (w - v < b - a) ⌝ }
+    ensures { λ r. ⌜ Added (now (starts .entry)) (now (values .entry)) (now (starts .exit))
+        (now (values .exit)) n r a v b (lineAt a v b w) ⌝ }
+{
+    let rise = (w - v) as usize;
+    let last = rise - 1;
+    let step = travel_runs::step_down((b - a) as u32, rise);
+    let mut parts = 4294967295;
+    for j in 0..last {
+        parts += step;
+        let e = a + wholes(parts);
+        put(starts, values, n + j, e, v + j as u32);
+    }
+    put(starts, values, n + last, b, w - 1);
+    n + rise
+}
+
+// Runs of a line that falls by less than its ticks: value v - (j + 1) begins after the `floored`-th tick of j.
+fn falling(
+    starts: &mut [u16],
+    values: &mut [u32],
+    n: usize,
+    a: usize,
+    v: u32,
+    b: usize,
+    w: u32,
+) -> usize
+    requires { ⌜ Room (now starts) (now values) n a b ⌝ }
+    requires { ⌜ (w < v) × (v - w < b - a) ⌝ }
+    ensures { λ r. ⌜ Added (now (starts .entry)) (now (values .entry)) (now (starts .exit))
+        (now (values .exit)) n r a v b (lineAt a v b w) ⌝ }
+{
+    let fall = (v - w) as usize;
+    let step = travel_runs::step_up((b - a) as u32, fall);
+    let mut parts = 0;
+    for j in 0..fall {
+        let e = a + 1 + wholes(parts);
+        put(starts, values, n + j, e, v - j as u32);
+        parts += step;
+    }
+    put(starts, values, n + fall, b, w);
+    n + fall + 1
+}
+
+// Runs of a line that rises by its ticks or more: one for each tick.
+fn climb(
+    starts: &mut [u16],
+    values: &mut [u32],
+    n: usize,
+    a: usize,
+    v: u32,
+    b: usize,
+    w: u32,
+) -> usize
+    requires { ⌜ Room (now starts) (now values) n a b ⌝ }
+    requires { ⌜ v < w ⌝ }
+    ensures { λ r. ⌜ Added (now (starts .entry)) (now (values .entry)) (now (starts .exit))
+        (now (values .exit)) n r a v b (lineAt a v b w) ⌝ }
+{
+    let start = v as u64 * 4294967296;
+    let step = travel_runs::step_up(w - v, b - a);
+    let last = b - 1;
+    let mut parts = start;
+    for x in a..last {
+        put(starts, values, n + (x - a), x + 1, whole_value(parts));
+        parts += step;
+    }
+    put(starts, values, n + (last - a), b, whole_value(parts));
+    n + (b - a)
+}
+
+// The same of one that falls.
+fn sink(
+    starts: &mut [u16],
+    values: &mut [u32],
+    n: usize,
+    a: usize,
+    v: u32,
+    b: usize,
+    w: u32,
+) -> usize
+    requires { ⌜ Room (now starts) (now values) n a b ⌝ }
+    requires { ⌜ w < v ⌝ }
+    ensures { λ r. ⌜ Added (now (starts .entry)) (now (values .entry)) (now (starts .exit))
+        (now (values .exit)) n r a v b (lineAt a v b w) ⌝ }
+{
+    let start = v as u64 * 4294967296;
+    let step = travel_runs::step_down(v - w, b - a);
+    let last = b - 1;
+    let mut parts = start;
+    for x in a..last {
+        put(starts, values, n + (x - a), x + 1, whole_value(parts));
+        parts -= step;
+    }
+    put(starts, values, n + (last - a), b, whole_value(parts));
+    n + (b - a)
+}
+
+// Runs of any line: at most ONE division.
+fn piece(
+    starts: &mut [u16],
+    values: &mut [u32],
+    n: usize,
+    a: usize,
+    v: u32,
+    b: usize,
+    w: u32,
+) -> usize
+    requires { ⌜ Room (now starts) (now values) n a b ⌝ }
+    ensures { λ r. ⌜ Added (now (starts .entry)) (now (values .entry)) (now (starts .exit))
+        (now (values .exit)) n r a v b (lineAt a v b w) ⌝ }
+{
+    if v == w {
+        put(starts, values, n, b, v);
+        return n + 1;
+    }
+    if b == a + 1 {
+        put(starts, values, n, b, v);
+        return n + 1;
+    }
+    let ticks = (b - a) as u32;
+    if v < w {
+        if w - v < ticks {
+            return rising(starts, values, n, a, v, b, w);
+        }
+        return climb(starts, values, n, a, v, b, w);
+    }
+    if v - w < ticks {
+        return falling(starts, values, n, a, v, b, w);
+    }
+    sink(starts, values, n, a, v, b, w)
+}
+
+// The runs to go on from where a piece begins with value v: without the last, if it has that value.
+fn back(values: &[u32], n: usize, v: u32) -> usize
+    requires { ⌜ n ≤ length (now values) ⌝ }
+    ensures { λ r. ⌜ (n ≡ r) ⊎ ((n ≡ r + 1) × (getD (now (values .entry)) r 0 ≡ v)) ⌝ }
+{
+    if n == 0 {
+        return n;
+    }
+    if values[n - 1] == v {
+        return n - 1;
+    }
+    n
+}
+
+// The runs of a day up to tick `a`, n of them, and those of the line from (a, v) to (b, w) after them.
+// Answers their number.
+pub fn extend(
+    starts: &mut [u16],
+    values: &mut [u32],
+    n: usize,
+    a: usize,
+    v: u32,
+    b: usize,
+    w: u32,
+) -> usize
+    requires { ⌜ Room (now starts) (now values) n a b ⌝ }
+    ensures { λ r. ⌜ Extended (now (starts .entry)) (now (values .entry)) (now (starts .exit))
+        (now (values .exit)) n r a b (lineAt a v b w) ⌝ }
+{
+    let kept = back(values, n, v);
+    piece(starts, values, kept, a, v, b, w)
+}
