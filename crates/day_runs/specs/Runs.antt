@@ -51,6 +51,20 @@ pub starts-within : {starts : List ℕ} {n period : ℕ} → Grid starts n perio
     → getD starts i 0 ≤ period
 starts-within {starts} {n} {period} g i l = starts-from starts n period g (n - i) i (omega arith)
 
+-- the same values in another list
+pub runs-copied : {starts values copy : List ℕ} {n period : ℕ} {f : ℕ → ℕ} → Runs starts values n period f
+    → ((i : ℕ) → i < n → getD copy i 0 ≡ getD values i 0) → Runs starts copy n period f
+runs-copied h e = record { grid = h .grid; held = λ i x l lo hi. h .held i x l lo hi ∙ sym (e i l) }
+
+-- what holds of f at every tick holds of every run's value
+pub runs-all : {starts values : List ℕ} {n period : ℕ} {f : ℕ → ℕ} (P : ℕ → Type 0)
+    → Runs starts values n period f
+    → ((x : ℕ) → x < period → P (f x)) → (i : ℕ) → i < n → P (getD values i 0)
+runs-all {starts} P h all i l =
+    let m = h .grid .rise i l in
+    rw (← h .held i (getD starts i 0) l (omega arith) m)
+    (all (getD starts i 0) (omega (arith, starts-within (h .grid) (i + 1) (omega arith))))
+
 -- FOR CODE that puts run after run
 module _ (f : ℕ → ℕ) where
   pub runs-none : (starts values : List ℕ) → getD starts 0 0 ≡ 0 → Runs starts values 0 0 f

@@ -5,7 +5,7 @@
 // It may call `travel_runs` for steps, and cites `theory_travel` for the line.
 ghost use mathlib.Core.Path.{_≡_};
 ghost use mathlib.Core.Logic.{_⊎_};
-ghost use Prim.Native.Nat.{_+_, _-_, _*_, _/_, _≤_, _<_};
+ghost use Prim.Native.Nat.{_+_, _-_, _*_, _/_, _≤_, _<_, min, max};
 ghost use lib.ListN.{length, getD, set};
 ghost use Rattle.theory_travel.specs.Pieces.{lineAt};
 ghost use Rattle.day_runs.specs.Held.{Added, Room, Extended};
@@ -62,7 +62,8 @@ fn rising(
     n + rise
 }
 
-// Runs of a line that falls by less than its ticks: value v - (j + 1) begins after the `floored`-th tick of j.
+// Runs of a line that falls by less than its ticks: value v - (j + 1) begins after the `floored`-th tick of
+// j.
 fn falling(
     starts: &mut [u16],
     values: &mut [u32],
@@ -209,4 +210,18 @@ pub fn extend(
 {
     let kept = back(values, n, v);
     piece(starts, values, kept, a, v, b, w)
+}
+
+// For a reader that looks for the least or the greatest value: the lesser of two.
+pub fn lesser(a: u32, b: u32) -> u32
+    ensures { λ r. ⌜ r ≡ min a b ⌝ }
+{
+    if a < b { a } else { b }
+}
+
+// The greater of two.
+pub fn greater(a: u32, b: u32) -> u32
+    ensures { λ r. ⌜ r ≡ max a b ⌝ }
+{
+    if a < b { b } else { a }
 }

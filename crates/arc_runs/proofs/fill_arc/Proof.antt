@@ -1,0 +1,93 @@
+-- `arc_runs::fill_arc` meets its contract: the arc's points are read where the table says.
+use native.Mathlib.Omega.{arith}
+use denote.Ref.{now}
+use Rattle.arc_runs.specs.Travels.{points-day, points-in, runs-narrow, runs-told, runs-short}
+use Rattle.day_runs.specs.Runs.{runs-few}
+use borrow.Author.Needs.{needs}
+use Rattle.arc_runs.proofs.fill_arc.Statement.{statement}
+use Rattle.arc_runs.proofs.fill_arc.Tie as tie
+
+mul-wide : tie.Need-mul-wide
+mul-wide c = search needs
+
+element-copy-out-wide : tie.Need-element-copy-out-wide
+element-copy-out-wide c = search needs
+
+wide-requires : tie.Need-wide-requires
+wide-requires c κs = search needs
+
+count-requires : tie.Need-count-requires
+count-requires c κs = search needs
+
+fill-points-requires : tie.Need-fill-points-requires
+fill-points-requires c κs =
+    let s = c .before .before .before .before .before .before .before .before .before in
+    let from = c .before .before .before .wide .ensures .0 in
+    let count = c .before .before .count .ensures .0 in (
+      s .pre .0 .laid,
+      (
+        (
+          points-day (s .pre .0) (s .pre .1 .0 .0) (now (s .args .points)) _ _ from (s .pre .1 .0 .1) count,
+          points-in (s .pre .0) (s .pre .1 .0 .0) (now (s .args .points)) _ _ from (s .pre .1 .0 .1) count,
+        ),
+        s .pre .1 .1 .0,
+      ),
+    )
+
+narrow-requires : tie.Need-narrow-requires
+narrow-requires c κs =
+    let s =
+    c .before .before .before .before .before .before .before .before .before .before .before .before
+    .before .before .before .before in
+    let r = c .before .before .before .before .before .before .fill-points .ensures in
+    let k = c .before .before .before .before .before .before .fill-points .kept .1 .1 .1 .1 .1 .0 in
+    let p = s .pre .1 .1 in (
+      omega (arith, runs-few (r .grid), k, p .0 .in-v),
+      omega (arith, runs-few (r .grid), p .1),
+      runs-narrow (s .pre .0) (s .pre .1 .0 .0) (now (s .args .points)) _ _
+          (c .before .before .before .before .before .before .before .before .before .before .wide .ensures
+          .0)
+          (s .pre .1 .0 .1) (c .before .before .before .before .before .before .before .before .before .count
+          .ensures .0) r,
+    )
+
+same-length : tie.Need-same-length
+same-length c = search needs
+
+same-length-2 : tie.Need-same-length-2
+same-length-2 c = search needs
+
+same-length-3 : tie.Need-same-length-3
+same-length-3 c = search needs
+
+returns : tie.Need-returns
+returns c =
+    let s =
+    c .before .before .before .before .before .before .before .before .before .before .before .before
+    .before .before .before .before .before .before .before in
+    let r = c .before .before .before .before .before .before .before .before .before .fill-points .ensures in
+    let f = c .before .before .narrow .ensures in
+    let from =
+    c .before .before .before .before .before .before .before .before .before .before .before .before .before
+    .wide .ensures .0 in
+    let count =
+    c .before .before .before .before .before .before .before .before .before .before .before .before .count
+    .ensures .0 in (
+      runs-told (s .pre .0) (s .pre .1 .0 .0) (now (s .args .points)) _ _ from (s .pre .1 .0 .1) count r f,
+      runs-short (s .pre .0) (s .pre .1 .0 .0) (now (s .args .points)) _ _ from (s .pre .1 .0 .1) count r f,
+    )
+
+pub fill-arc-spec : {M : Type 1} → statement M
+fill-arc-spec =
+    tie.close
+    (tie.spec
+    mul-wide
+    element-copy-out-wide
+    wide-requires
+    count-requires
+    fill-points-requires
+    narrow-requires
+    same-length
+    same-length-2
+    same-length-3
+    returns)

@@ -1,0 +1,123 @@
+// arc_runs: the travel of an arc over the day, from its points as the network file has them: as runs of equal
+// travel, and its least. Each point is read once, so a call finds as many segments as the arc has points.
+// It may call `network` for the entries of the file, `day_runs` for runs and `search_arcs` for widths; it
+// cites `theory_travel` for the line and `theory_loops` for filled parts.
+use network::header::Layout;
+use network::limits::MOST_ARCS;
+use network::read;
+use search_arcs::wide;
+ghost use mathlib.Core.Path.{_≡_};
+ghost use Prim.Native.Nat.{ℕ, _+_, _≤_, _<_};
+ghost use lib.ListN.{length, getD};
+ghost use Rattle.theory_loops.specs.Fill.{Filled};
+ghost use Rattle.theory_travel.specs.Day.{Day};
+ghost use Rattle.theory_travel.specs.Table.{entryAt, valueAt};
+ghost use Rattle.network.specs.Network.{start};
+ghost use Rattle.network.specs.Decode.{decode, Laid};
+ghost use Rattle.network.specs.Town.{travelAt};
+ghost use Rattle.search_arcs.specs.Town.{Town};
+ghost use Rattle.day_runs.specs.Runs.{Runs};
+ghost use Rattle.day_runs.specs.Filling.{Space};
+ghost use Rattle.day_runs.specs.Bounds.{Least, Floor};
+ghost use Rattle.arc_runs.specs.Travels.{Narrow, Short, entries};
+
+// The travel of point q.
+fn travel(file: &[u8], l: Layout, q: usize) -> u32
+    requires { ⌜ Laid (now file) l ⌝ }
+    requires { ⌜ q < l .points ⌝ }
+    ensures { λ r. ⌜ r ≡ getD (decode (now (file .entry)) .travels) q 0 ⌝ }
+{
+    read::travel(file, l, q) as u32
+}
+
+// The runs of the day by `count` points from `from` on. Answers their number.
+fn fill_points(
+    file: &[u8],
+    l: Layout,
+    from: usize,
+    count: usize,
+    starts: &mut [u16],
+    values: &mut [u32],
+) -> usize
+    requires { ⌜ Laid (now file) l ⌝ }
+    requires { ⌜ Day (entryAt (decode (now file) .ticks) from) count (l .period)
+        × (from + count ≤ l .points) ⌝ }
+    requires { ⌜ Space (now starts) (now values) (l .period) ⌝ }
+    ensures { λ r. ⌜ Runs (now (starts .exit)) (now (values .exit)) r (l .period)
+        (valueAt (decode (now (file .entry)) .ticks) (decode (now (file .entry)) .travels) from count
+        (l .period)) ⌝ }
+{
+    let last = count - 1;
+    let begin = travel(file, l, from);
+    starts[0] = 0;
+    let mut n = 0;
+    let mut a = 0;
+    let mut v = begin;
+    for k in 0..last {
+        let b = read::tick(file, l, from + (k + 1));
+        let w = travel(file, l, from + (k + 1));
+        n = day_runs::extend(starts, values, n, a, v, b, w);
+        a = b;
+        v = w;
+    }
+    day_runs::extend(starts, values, n, a, v, l.period, begin)
+}
+
+// The first n values as numbers of 16 bits.
+fn narrow(values: &[u32], n: usize, travels: &mut [u16])
+    requires { ⌜ (n ≤ length (now values)) × (n ≤ length (now travels)) × Narrow (now values) n ⌝ }
+    ensures { λ _. ⌜ Filled 0 n (entries (now (values .entry))) (now (travels .entry))
+        (now (travels .exit)) ⌝ }
+{
+    for i in 0..n {
+        travels[i] = values[i] as u16;
+    }
+}
+
+// The runs of an arc's travel: where they begin, and their travels. Answers their number. `values` is room
+// that is left with nothing of use; a travel is at most a period, so that 16 bits hold it.
+pub fn fill_arc(
+    file: &[u8],
+    l: Layout,
+    points: &[u16; MOST_ARCS],
+    arc: usize,
+    starts: &mut [u16],
+    values: &mut [u32],
+    travels: &mut [u16],
+) -> usize
+    requires { ⌜ Town (now file) l ⌝ }
+    requires { ⌜ (arc < l .arcs) × (getD (now points) arc 0 ≡ start (decode (now file)) arc) ⌝ }
+    requires { ⌜ Space (now starts) (now values) (l .period) × (l .period ≤ length (now travels)) ⌝ }
+    ensures { λ r. ⌜ Runs (now (starts .exit)) (now (travels .exit)) r (l .period)
+        (travelAt (decode (now (file .entry))) arc) × Short (now (travels .exit)) r (l .period) ⌝ }
+{
+    let from = wide(points[arc]);
+    let count = read::count(file, l, arc);
+    let n = fill_points(file, l, from, count, starts, values);
+    narrow(values, n, travels);
+    n
+}
+
+// The least travel of `count` points from `from` on.
+fn least_point(file: &[u8], l: Layout, from: usize, count: usize) -> u32
+    requires { ⌜ Laid (now file) l ⌝ }
+    requires { ⌜ (0 < count) × (from + count ≤ l .points) ⌝ }
+    ensures { λ r. ⌜ Least (entryAt (decode (now (file .entry)) .travels) from) count r ⌝ }
+{
+    let mut least = travel(file, l, from);
+    for k in 1..count {
+        least = day_runs::lesser(least, travel(file, l, from + k));
+    }
+    least
+}
+
+// A travel that an arc's is never below: the least of its points.
+pub fn least_travel(file: &[u8], l: Layout, points: &[u16; MOST_ARCS], arc: usize) -> u32
+    requires { ⌜ Town (now file) l ⌝ }
+    requires { ⌜ (arc < l .arcs) × (getD (now points) arc 0 ≡ start (decode (now file)) arc) ⌝ }
+    ensures { λ r. ⌜ Floor (travelAt (decode (now (file .entry))) arc) (l .period) r ⌝ }
+{
+    let from = wide(points[arc]);
+    let count = read::count(file, l, arc);
+    least_point(file, l, from, count)
+}

@@ -1,0 +1,149 @@
+-- `profile_runs::fill_points` meets its contract: before point k the runs are the day's.
+use Prim.Native.Nat.{_+_, _-_, _≤_, _<_}
+use native.Mathlib.Omega.{arith}
+use Rattle.theory_travel.specs.Table.{entryAt, entry-start}
+use Rattle.plan.specs.PlanDecode.{decodePlan}
+use Rattle.day_runs.specs.Filling.{Space, Filling, space-on, filling-start, room-next, room-last}
+use Rattle.day_runs.specs.Filling.{filling-next, filling-last}
+use lib.ListN.{length, length-set}
+use lib.Seq.{getD-set-same}
+use mathlib.Core.Path.{_≡_, refl, _∙_}
+use borrow.Author.Needs.{needs}
+use Rattle.profile_runs.proofs.fill_points.Statement.{statement}
+use Rattle.profile_runs.proofs.fill_points.Tie as tie
+
+abbrev Inv-loop : tie.InvT-loop
+Inv-loop plan l from count starts₀ values₀ last begin n₀ a₀ v₀ k₀ starts values n a v k =
+    (k ≤ last) × (length starts ≡ length starts₀) × (length values ≡ length values₀)
+    × Space starts values (l .period)
+    × Filling (entryAt (decodePlan plan .ticks) from) (entryAt (decodePlan plan .travels) from) count
+    (l .period)
+    starts
+    values n k a v
+
+abbrev μ-loop : tie.MeasureT-loop
+μ-loop plan l from count starts₀ values₀ last begin n₀ a₀ v₀ k₀ starts values n a v k = last - k
+
+sub-last : tie.Need-sub-last Inv-loop μ-loop
+sub-last c = search needs
+
+travel-requires : tie.Need-travel-requires Inv-loop μ-loop
+travel-requires c κs = search needs
+
+slice-write-starts : tie.Need-slice-write-starts Inv-loop μ-loop
+slice-write-starts c = search needs
+
+loop-holds : tie.Need-loop-holds Inv-loop μ-loop
+loop-holds c = let s = c .before .before .before .before in
+    let z = length-set (s .args .starts .now) 0 0 in
+    let r = s .pre .1 .1 in (
+      search needs,
+      refl,
+      refl,
+      record { short = r .short; in-s = omega (arith, r .in-s, z); in-v = r .in-v },
+      filling-start (s .pre .1 .0 .0) _ _
+          (getD-set-same (s .args .starts .now) 0 0 0 (omega (arith, r .in-s)))
+          (entry-start _ (s .args .from) _ (c .travel .ensures)),
+    )
+
+add-tick : tie.Need-add-tick Inv-loop μ-loop
+add-tick c = search needs
+
+add-tick-2 : tie.Need-add-tick-2 Inv-loop μ-loop
+add-tick-2 c = search needs
+
+tick-requires : tie.Need-tick-requires Inv-loop μ-loop
+tick-requires c κs = search needs
+
+add-travel : tie.Need-add-travel Inv-loop μ-loop
+add-travel c = search needs
+
+add-travel-2 : tie.Need-add-travel-2 Inv-loop μ-loop
+add-travel-2 c = search needs
+
+travel-requires-2 : tie.Need-travel-requires-2 Inv-loop μ-loop
+travel-requires-2 c κs = search needs
+
+extend-requires : tie.Need-extend-requires Inv-loop μ-loop
+unfolding entryAt
+extend-requires c κs =
+    let s = c .before .before .before .before .before .before .before .before .before .before in
+    let l = c .before .before .before .before .before .loop in
+    let h : l .k + 1 < s .args .count = omega arith in
+    room-next (s .pre .1 .0 .0) _ (l .inv .4) _ (l .inv .3) (c .before .before .before .tick .ensures .0) h
+
+add-k : tie.Need-add-k Inv-loop μ-loop
+add-k c = search needs
+
+loop-less : tie.Need-loop-less Inv-loop μ-loop
+loop-less c = search needs
+
+loop-again : tie.Need-loop-again Inv-loop μ-loop
+unfolding entryAt
+loop-again c =
+    let s =
+    c .before .before .before .before .before .before .before .before .before .before .before .before
+    .before .before .before in
+    let l = c .before .before .before .before .before .before .before .before .before .before .loop in
+    let e = c .before .before .before .before .extend .ensures in
+    let h : l .k + 1 < s .args .count = omega arith in (
+      search needs,
+      e .long-s ∙ l .inv .1,
+      e .long-v ∙ l .inv .2,
+      space-on (l .inv .3) e,
+      filling-next (s .pre .1 .0 .0) _ (l .inv .4) e
+          (c .before .before .before .before .before .before .before .before .tick .ensures .0)
+          (c .before .before .before .before .before .before .before .travel2 .ensures) h,
+    )
+
+extend-requires-2 : tie.Need-extend-requires-2 Inv-loop μ-loop
+extend-requires-2 c κs = let s = c .before .before .before .before .before .before .before .before in
+    let l = c .before .before .before .loop in
+    room-last (s .pre .1 .0 .0) _ (l .inv .4) (l .inv .3) (omega (arith, s .pre .1 .0 .0 .some, l .inv .0))
+
+same-length : tie.Need-same-length Inv-loop μ-loop
+same-length c =
+    c .before .before .before .before .extend2 .ensures .long-s ∙ c .before .before .before .before .before
+    .before .before .before .loop .inv .1 ∙ length-set
+    (c .before .before .before .before .before .before .before .before .before .before .before .before
+    .before .args .starts .now) 0 0
+
+same-length-2 : tie.Need-same-length-2 Inv-loop μ-loop
+same-length-2 c = search needs
+
+returns : tie.Need-returns Inv-loop μ-loop
+returns c =
+    let s =
+    c .before .before .before .before .before .before .before .before .before .before .before .before
+    .before in
+    let l = c .before .before .before .before .before .before .before .before .loop in
+    filling-last (s .pre .1 .0 .0) _ (l .inv .4) (c .before .before .before .before .extend2 .ensures) refl
+    (entry-start _ (s .args .from) _
+    (c .before .before .before .before .before .before .before .before .before .travel .ensures))
+    (omega (arith, s .pre .1 .0 .0 .some, l .inv .0))
+    (omega (arith, c .before .before .before .before .before .before .before .loop-test .left))
+
+pub fill-points-spec : {M : Type 1} → statement M
+fill-points-spec =
+    tie.close
+    (tie.spec
+    Inv-loop
+    μ-loop
+    sub-last
+    travel-requires
+    slice-write-starts
+    loop-holds
+    add-tick
+    add-tick-2
+    tick-requires
+    add-travel
+    add-travel-2
+    travel-requires-2
+    extend-requires
+    add-k
+    loop-less
+    loop-again
+    extend-requires-2
+    same-length
+    same-length-2
+    returns)

@@ -1,0 +1,150 @@
+// profile_runs: the numbers of a profile over the day, from its points as the plan file has them: as runs of
+// equal value, their least and their greatest. Each point is read once, so a call finds as many segments as
+// the profile has points. A profile without points has no numbers, and is not asked for.
+// It may call `plan` for the entries of the file and `day_runs` for runs; it cites `plan_values` and
+// `theory_paths` for profiles and `theory_travel` for the line.
+use network::limits::MOST_NODES;
+use plan::header::PlanLayout;
+use plan::read;
+ghost use mathlib.Core.Path.{_≡_};
+ghost use Prim.Native.Nat.{_+_, _*_, _≤_, _<_};
+ghost use Rattle.theory_travel.specs.Day.{Day};
+ghost use Rattle.theory_travel.specs.Table.{entryAt, valueAt};
+ghost use Rattle.plan.specs.Plan.{pointCount};
+ghost use Rattle.plan.specs.PlanDecode.{PlanLaid, decodePlan};
+ghost use Rattle.plan_values.specs.Formed.{Formed};
+ghost use Rattle.plan_values.specs.Starts.{Started};
+ghost use Rattle.day_runs.specs.Runs.{Runs};
+ghost use Rattle.day_runs.specs.Filling.{Space};
+ghost use Rattle.day_runs.specs.Bounds.{Least, Most, Floor, Ceiling};
+ghost use Rattle.profile_runs.specs.Numbers.{numberAt};
+
+// An entry of the table of starts as a size.
+fn wide(x: u32) -> usize
+    ensures { λ r. ⌜ r ≡ x ⌝ }
+{
+    x as usize
+}
+
+// The runs of the day by `count` points from `from` on. Answers their number.
+fn fill_points(
+    plan: &[u8],
+    l: PlanLayout,
+    from: usize,
+    count: usize,
+    starts: &mut [u16],
+    values: &mut [u32],
+) -> usize
+    requires { ⌜ PlanLaid (now plan) l ⌝ }
+    requires { ⌜ Day (entryAt (decodePlan (now plan) .ticks) from) count (l .period)
+        × (from + count ≤ l .points) ⌝ }
+    requires { ⌜ Space (now starts) (now values) (l .period) ⌝ }
+    ensures { λ r. ⌜ Runs (now (starts .exit)) (now (values .exit)) r (l .period)
+        (valueAt (decodePlan (now (plan .entry)) .ticks) (decodePlan (now (plan .entry)) .travels) from count
+        (l .period)) ⌝ }
+{
+    let last = count - 1;
+    let begin = read::travel(plan, l, from);
+    starts[0] = 0;
+    let mut n = 0;
+    let mut a = 0;
+    let mut v = begin;
+    for k in 0..last {
+        let b = read::tick(plan, l, from + (k + 1));
+        let w = read::travel(plan, l, from + (k + 1));
+        n = day_runs::extend(starts, values, n, a, v, b, w);
+        a = b;
+        v = w;
+    }
+    day_runs::extend(starts, values, n, a, v, l.period, begin)
+}
+
+// The runs of the profile of border number i and node u, which has points: `firsts` is the table of where
+// that border's profiles start. Answers their number.
+pub fn fill_profile(
+    plan: &[u8],
+    l: PlanLayout,
+    firsts: &[u32; MOST_NODES],
+    i: usize,
+    u: usize,
+    starts: &mut [u16],
+    values: &mut [u32],
+) -> usize
+    requires { ⌜ Formed (now plan) l ⌝ }
+    requires { ⌜ Started (now plan) l i (now firsts) ⌝ }
+    requires { ⌜ (i < l .borders) × (u < l .nodes)
+        × (0 < pointCount (decodePlan (now plan)) (i * l .nodes + u)) ⌝ }
+    requires { ⌜ Space (now starts) (now values) (l .period) ⌝ }
+    ensures { λ r. ⌜ Runs (now (starts .exit)) (now (values .exit)) r (l .period)
+        (numberAt (l .period) (decodePlan (now (plan .entry))) (i * l .nodes + u)) ⌝ }
+{
+    let from = wide(firsts[u]);
+    let count = read::point_count(plan, l, i * l.nodes + u);
+    fill_points(plan, l, from, count, starts, values)
+}
+
+// The least value of `count` points from `from` on.
+fn least_point(plan: &[u8], l: PlanLayout, from: usize, count: usize) -> u32
+    requires { ⌜ PlanLaid (now plan) l ⌝ }
+    requires { ⌜ (0 < count) × (from + count ≤ l .points) ⌝ }
+    ensures { λ r. ⌜ Least (entryAt (decodePlan (now (plan .entry)) .travels) from) count r ⌝ }
+{
+    let mut least = read::travel(plan, l, from);
+    for k in 1..count {
+        least = day_runs::lesser(least, read::travel(plan, l, from + k));
+    }
+    least
+}
+
+// The greatest.
+fn greatest_point(plan: &[u8], l: PlanLayout, from: usize, count: usize) -> u32
+    requires { ⌜ PlanLaid (now plan) l ⌝ }
+    requires { ⌜ (0 < count) × (from + count ≤ l .points) ⌝ }
+    ensures { λ r. ⌜ Most (entryAt (decodePlan (now (plan .entry)) .travels) from) count r ⌝ }
+{
+    let mut greatest = read::travel(plan, l, from);
+    for k in 1..count {
+        greatest = day_runs::greater(greatest, read::travel(plan, l, from + k));
+    }
+    greatest
+}
+
+// A number that a profile with points is never below: the least of its points.
+pub fn least_value(
+    plan: &[u8],
+    l: PlanLayout,
+    firsts: &[u32; MOST_NODES],
+    i: usize,
+    u: usize,
+) -> u32
+    requires { ⌜ Formed (now plan) l ⌝ }
+    requires { ⌜ Started (now plan) l i (now firsts) ⌝ }
+    requires { ⌜ (i < l .borders) × (u < l .nodes)
+        × (0 < pointCount (decodePlan (now plan)) (i * l .nodes + u)) ⌝ }
+    ensures { λ r. ⌜ Floor (numberAt (l .period) (decodePlan (now (plan .entry))) (i * l .nodes + u))
+        (l .period) r ⌝ }
+{
+    let from = wide(firsts[u]);
+    let count = read::point_count(plan, l, i * l.nodes + u);
+    least_point(plan, l, from, count)
+}
+
+// A number that it is never above: the greatest of its points.
+pub fn greatest_value(
+    plan: &[u8],
+    l: PlanLayout,
+    firsts: &[u32; MOST_NODES],
+    i: usize,
+    u: usize,
+) -> u32
+    requires { ⌜ Formed (now plan) l ⌝ }
+    requires { ⌜ Started (now plan) l i (now firsts) ⌝ }
+    requires { ⌜ (i < l .borders) × (u < l .nodes)
+        × (0 < pointCount (decodePlan (now plan)) (i * l .nodes + u)) ⌝ }
+    ensures { λ r. ⌜ Ceiling (numberAt (l .period) (decodePlan (now (plan .entry))) (i * l .nodes + u))
+        (l .period) r ⌝ }
+{
+    let from = wide(firsts[u]);
+    let count = read::point_count(plan, l, i * l.nodes + u);
+    greatest_point(plan, l, from, count)
+}
