@@ -13,7 +13,7 @@ use Rattle.network.specs.Decode.{decode}
 use Rattle.network.specs.Town.{travelAt, town-bounded}
 use Rattle.search_arcs.specs.Town.{Town}
 use Rattle.search_arcs.specs.Times.{arc-points, arc-day}
-use Rattle.day_runs.specs.Runs.{Runs, runs-copied, runs-all}
+use Rattle.day_runs.specs.Runs.{Runs, Short, runs-copied, runs-all}
 use Rattle.day_runs.specs.Bounds.{Least, Floor, least-day}
 
 -- the entries of a list as a function
@@ -23,10 +23,6 @@ entries list i = getD list i 0
 -- n values of 16 bits
 pub record Narrow (values : List ℕ) (n : ℕ) : Type 0 where
   pub small : (i : ℕ) → i < n → getD values i 0 < 65536
-
--- n travels of at most a period
-pub record Short (travels : List ℕ) (n period : ℕ) : Type 0 where
-  pub most : (i : ℕ) → i < n → getD travels i 0 ≤ period
 
 -- FOR CODE that has read where the points of an arc start, and how many it has
 module _ {file : List ℕ} {l : Layout} (t : Town file l) {a : ℕ} (h : a < l .arcs) (points : List ℕ)

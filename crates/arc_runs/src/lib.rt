@@ -16,10 +16,10 @@ ghost use Rattle.network.specs.Network.{start};
 ghost use Rattle.network.specs.Decode.{decode, Laid};
 ghost use Rattle.network.specs.Town.{travelAt};
 ghost use Rattle.search_arcs.specs.Town.{Town};
-ghost use Rattle.day_runs.specs.Runs.{Runs};
+ghost use Rattle.day_runs.specs.Runs.{Runs, Short};
 ghost use Rattle.day_runs.specs.Filling.{Space};
 ghost use Rattle.day_runs.specs.Bounds.{Least, Floor};
-ghost use Rattle.arc_runs.specs.Travels.{Narrow, Short, entries};
+ghost use Rattle.arc_runs.specs.Travels.{Narrow, entries};
 
 // The travel of point q.
 fn travel(file: &[u8], l: Layout, q: usize) -> u32

@@ -32,10 +32,6 @@ pub record Span (so : List ℕ) (i : ℕ) (sa : List ℕ) (k : ℕ) (sh : List �
   pub head : to ≤ t + (getD sh (j + 1) 0 - e)
   pub within : to ≤ period
 
--- travels are a period at most
-pub record Short (va : List ℕ) (na period : ℕ) : Type 0 where
-  pub most : (i : ℕ) → i < na → getD va i 0 ≤ period
-
 -- the first run holds the first tick
 pub at-first : (starts : List ℕ) (n period : ℕ) → Grid starts n period → 0 < period → At starts n 0 0
 at-first starts n period g l = elim (ℕ-discrete n 0) [

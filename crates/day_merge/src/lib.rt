@@ -4,12 +4,11 @@
 // painted into a byte for each tick, many spans at once while it stays the same.
 // It calls nothing but its own; it cites `day_runs` for runs and `theory_loops` for filled parts.
 ghost use mathlib.Core.Path.{_≡_};
-ghost use mathlib.Core.Logic.{_⊎_};
-ghost use Prim.Native.Nat.{ℕ, _+_, _-_, _%_, _≤_, _<_, min};
+ghost use Prim.Native.Nat.{_+_, _%_, _≤_, _<_, min};
 ghost use lib.ListN.{length, getD};
 ghost use Rattle.theory_loops.specs.Fill.{Filled};
-ghost use Rattle.day_runs.specs.Runs.{Grid, Runs};
-ghost use Rattle.day_merge.specs.Walk.{At, Listed, Short, Reached, Span};
+ghost use Rattle.day_runs.specs.Runs.{Short};
+ghost use Rattle.day_merge.specs.Walk.{At, Listed, Reached, Span};
 ghost use Rattle.day_merge.specs.Merged;
 ghost use Rattle.day_merge.specs.Merged.{Told, Turned, painted, always};
 

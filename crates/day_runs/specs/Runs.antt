@@ -28,6 +28,10 @@ pub record Pending (starts values : List ℕ) (n a q : ℕ) (f : ℕ → ℕ) : 
   pub runs : Runs starts values n at f
   pub same : (x : ℕ) → at ≤ x → x < a → f x ≡ q
 
+-- n travels of at most a period
+pub record Short (travels : List ℕ) (n period : ℕ) : Type 0 where
+  pub most : (i : ℕ) → i < n → getD travels i 0 ≤ period
+
 -- each run has a tick, so there are no more of them than ticks
 pub starts-few : (starts : List ℕ) (n period : ℕ) → Grid starts n period → (i : ℕ) → i ≤ n
     → i ≤ getD starts i 0
