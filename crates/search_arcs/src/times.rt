@@ -1,6 +1,6 @@
 // When an arc that is taken at a tick ends: the travel by the arc's points, read in place from the file. A
-// travel is read by `ends_at` alone; what it needs of an arc's first point stands in a table that
-// `first_points` fills once.
+// travel is read by `ends_at` alone; what it needs of the arcs' first points stands in a table, which
+// `first_points` fills once, or `tables::fill` for a search.
 use crate::wide;
 use network::header::Layout;
 use network::limits::MOST_ARCS;
