@@ -2,8 +2,8 @@
 -- Bytes
 -- are put together as the answers are, by `||`.
 use mathlib.Core.Path.{_≡_, refl, sym, _∙_, ap}
-use mathlib.Core.Bool.{Bool, true, false, cond, _&&_, _||_}
-use Prim.Native.Nat.{ℕ, _+_, _*_, _≤_, _<_}
+use mathlib.Core.Bool.{Bool, true, false, cond, not, _&&_, _||_}
+use Prim.Native.Nat.{ℕ, _+_, _*_, _/_, _%_, _≤_, _<_}
 use native.Mathlib.Omega.{arith}
 use lib.Dec.{ltb, eqb}
 use lib.Bits.{bitOr, or-block}
@@ -41,8 +41,22 @@ byte-or l s f l' s' f' =
       digit-or f f',
     )
 
+-- the answers by the byte: less; none the same; the same, but none with the flag
+pub byte-answers : (l s f : Bool)
+    → (eqb (byteOf l s f % 2) 1 ≡ l) × (eqb (byteOf l s f / 2 % 2) 0 ≡ not s)
+    × (eqb (byteOf l s f / 2) 1 ≡ s && not f)
+unfolding byteOf digit
+byte-answers true true true = (refl, refl, refl)
+byte-answers true true false = (refl, refl, refl)
+byte-answers true false true = (refl, refl, refl)
+byte-answers true false false = (refl, refl, refl)
+byte-answers false true true = (refl, refl, refl)
+byte-answers false true false = (refl, refl, refl)
+byte-answers false false true = (refl, refl, refl)
+byte-answers false false false = (refl, refl, refl)
+
 -- the bits that a merge sets, where those of the same are 6 with the flag and 2 without
-pub sameBits : Bool → ℕ
+abbrev pub sameBits : Bool → ℕ
 sameBits flagged = cond flagged 6 2
 
 pub bits-byte : (flagged : Bool) (g o : ℕ)
@@ -59,3 +73,10 @@ bits-byte flagged g o = go flagged (ltb g o) (eqb g o) refl refl
     go true false false a b = refl
     go false false true a b = refl
     go false false false a b = refl
+
+-- FOR CODE that has read the flag
+pub same-set : (f t : Bool) → t ≡ f → t ≡ true → 6 ≡ sameBits f
+same-set f t e h = rw (← e, h)
+
+pub same-unset : (f t : Bool) → t ≡ f → t ≡ false → 2 ≡ sameBits f
+same-unset f t e h = rw (← e, h)

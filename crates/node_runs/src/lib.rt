@@ -1,2 +1,258 @@
-// node_runs: the tests 22 to 24 at all ticks of a node.
+// node_runs: the tests 22 to 24 at all ticks of a node, towards one border. Each arc out of the node is met
+// once: its runs and those of its head's profile are filled and merged with the node's own, or it is
+// passed, where its head has no points or where it is too far all day. A byte for each tick then tells
+// which tests fail there.
+// It may call `arc_runs` and `profile_runs` for runs, `day_merge` to merge them, `network`, `plan` and
+// `search_arcs` to read files and tables; it cites `plan_tests` for the tests, `plan_values` for profiles,
+// `day_runs`, `theory_loops` and `theory_paths`.
+use network::limits::MOST_ARCS;
+use network::limits::MOST_NODES;
+use plan::flag::is_set;
+use plan::header::PlanLayout;
+use plan_tests::tests::Layouts;
+use plan_tests::tests::Target;
+use search_arcs::wide;
 ghost use mathlib.Core.Path.{_≡_};
+ghost use mathlib.Core.Bool.{true, false};
+ghost use Prim.Native.Nat.{_+_, _*_, _≤_, _<_};
+ghost use lib.ListN.{length, getD};
+ghost use lib.Dec.{ltb};
+ghost use Rattle.theory_loops.specs.Fill.{Filled};
+ghost use Rattle.network.specs.Limits.{mostCells};
+ghost use Rattle.network.specs.Network;
+ghost use Rattle.network.specs.Decode.{decode};
+ghost use Rattle.network.specs.Town.{partitionOf};
+ghost use Rattle.plan.specs.Plan.{flag, pointCount};
+ghost use Rattle.plan.specs.PlanDecode.{PlanLaid, decodePlan};
+ghost use Rattle.plan_values.specs.Formed.{Formed};
+ghost use Rattle.plan_values.specs.Starts.{Started};
+ghost use Rattle.plan_tests.specs.Giving.{Prepared};
+ghost use Rattle.plan_tests.specs.Failing.{AtBorder};
+ghost use Rattle.day_runs.specs.Filling.{Space};
+ghost use Rattle.day_runs.specs.Bounds.{Ceiling};
+ghost use Rattle.node_runs.specs.Bytes.{sameBits};
+ghost use Rattle.node_runs.specs.Adds.{Met, numbersOf};
+ghost use Rattle.node_runs.specs.Judged.{Judged};
+ghost use Rattle.node_runs.specs.Ready.{Own, Rooms, Low, Lows, unmarked};
+
+// A number that a profile is never below: the least of its points, and 0 where it has none.
+fn low_value(plan: &[u8], l: PlanLayout, firsts: &[u32; MOST_NODES], i: usize, u: usize) -> u32
+    requires { ⌜ Formed (now plan) l ⌝ }
+    requires { ⌜ Started (now plan) l i (now firsts) ⌝ }
+    requires { ⌜ (i < l .borders) × (u < l .nodes) ⌝ }
+    ensures { λ r. ⌜ Low (now (plan .entry)) l (i * l .nodes + u) r ⌝ }
+{
+    if plan::read::point_count(plan, l, i * l.nodes + u) == 0 {
+        return 0;
+    }
+    profile_runs::least_value(plan, l, firsts, i, u)
+}
+
+// The table of such numbers of all nodes, towards border number i.
+pub fn fill_lows(
+    plan: &[u8],
+    l: PlanLayout,
+    firsts: &[u32; MOST_NODES],
+    i: usize,
+    lows: &mut [u32; MOST_NODES],
+)
+    requires { ⌜ Formed (now plan) l ⌝ }
+    requires { ⌜ Started (now plan) l i (now firsts) ⌝ }
+    requires { ⌜ (i < l .borders) × (l .nodes ≤ length (now lows)) ⌝ }
+    ensures { λ _. ⌜ Lows (now (plan .entry)) l i (l .nodes) (now (lows .exit)) ⌝ }
+{
+    let nodes = l.nodes;
+    for u in 0..nodes {
+        lows[u] = low_value(plan, l, firsts, i, u);
+    }
+}
+
+// The bits of a tick at which an arc gives the same.
+fn same_bits(plan: &[u8], l: PlanLayout, arc: usize, cell: usize) -> u8
+    requires { ⌜ PlanLaid (now plan) l ⌝ }
+    requires { ⌜ (arc < l .arcs) × (cell < mostCells) ⌝ }
+    ensures { λ r. ⌜ r ≡ sameBits (flag (decodePlan (now (plan .entry))) arc cell) ⌝ }
+{
+    if is_set(plan::read::flag_word(plan, l, arc), cell) {
+        return 6;
+    }
+    2
+}
+
+// Is even the least travel to the least value more than the greatest?
+fn is_far(top: u32, low: u32, least: u32) -> bool
+    ensures { λ r. ⌜ r ≡ ltb top (low + least) ⌝ }
+{
+    (top as u64) < low as u64 + least as u64
+}
+
+// Takes all marks off.
+fn clear(marks: &mut [u8], period: usize)
+    requires { ⌜ period ≤ length (now marks) ⌝ }
+    ensures { λ _. ⌜ Filled 0 period unmarked (now (marks .entry)) (now (marks .exit)) ⌝ }
+{
+    for x in 0..period {
+        marks[x] = 0;
+    }
+}
+
+// Meets an arc out of a node: its runs and its head's, merged with the node's own, which are `so` and `vo`.
+fn meet(
+    network: &[u8],
+    plan: &[u8],
+    l: Layouts,
+    points: &[u16; MOST_ARCS],
+    firsts: &[u32; MOST_NODES],
+    target: Target,
+    node: usize,
+    arc: usize,
+    head: usize,
+    so: &[u16],
+    vo: &[u32],
+    n: usize,
+    same: u8,
+    sa: &mut [u16],
+    va: &mut [u16],
+    sh: &mut [u16],
+    vh: &mut [u32],
+    marks: &mut [u8],
+)
+    requires { ⌜ Prepared (now network) (now plan) l (now points) (now firsts) target ⌝ }
+    requires { ⌜ (arc < l .network .arcs) × (Network.tail (decode (now network)) arc ≡ node)
+        × (head ≡ Network.head (decode (now network)) arc)
+        × (0 < pointCount (decodePlan (now plan)) (target .number * l .plan .nodes + head)) ⌝ }
+    requires { ⌜ Own (now plan) l target node (now so) (now vo) n
+        × (same ≡ sameBits (flag (decodePlan (now plan)) arc (target .cell))) ⌝ }
+    requires { ⌜ Rooms (l .network .period) (now sa) (now va) (now sh) (now vh) (now marks) ⌝ }
+    ensures { λ _. ⌜ Met (partitionOf (decode (now (network .entry)))) (decodePlan (now (plan .entry)))
+        (target .cell) (target .number) node arc (l .network .period) (now (marks .entry))
+        (now (marks .exit)) ⌝ }
+{
+    let na = arc_runs::fill_arc(network, l.network, points, arc, sa, vh, va);
+    let nh = profile_runs::fill_profile(plan, l.plan, firsts, target.number, head, sh, vh);
+    let period = l.network.period;
+    day_merge::merge(so, vo, n, sa, va, na, sh, vh, nh, period, same, marks);
+}
+
+// Meets an arc out of a node, or passes it. `lows` has a number for each node that its profile is never
+// below, and `top` is one that the node's own is never above.
+fn judge_arc(
+    network: &[u8],
+    plan: &[u8],
+    l: Layouts,
+    points: &[u16; MOST_ARCS],
+    firsts: &[u32; MOST_NODES],
+    lows: &[u32; MOST_NODES],
+    target: Target,
+    node: usize,
+    arc: usize,
+    so: &[u16],
+    vo: &[u32],
+    n: usize,
+    top: u32,
+    sa: &mut [u16],
+    va: &mut [u16],
+    sh: &mut [u16],
+    vh: &mut [u32],
+    marks: &mut [u8],
+)
+    requires { ⌜ Prepared (now network) (now plan) l (now points) (now firsts) target ⌝ }
+    requires { ⌜ Lows (now plan) (l .plan) (target .number) (l .plan .nodes) (now lows) ⌝ }
+    requires { ⌜ (arc < l .network .arcs) × (Network.tail (decode (now network)) arc ≡ node) ⌝ }
+    requires { ⌜ Own (now plan) l target node (now so) (now vo) n
+        × Ceiling (numbersOf (now plan) l target node) (l .network .period) top ⌝ }
+    requires { ⌜ Rooms (l .network .period) (now sa) (now va) (now sh) (now vh) (now marks) ⌝ }
+    ensures { λ _. ⌜ Met (partitionOf (decode (now (network .entry)))) (decodePlan (now (plan .entry)))
+        (target .cell) (target .number) node arc (l .network .period) (now (marks .entry))
+        (now (marks .exit)) ⌝ }
+{
+    let head = network::read::head(network, l.network, arc);
+    if plan::read::point_count(plan, l.plan, target.number * l.plan.nodes + head) == 0 {
+        return;
+    }
+    let least = arc_runs::least_travel(network, l.network, points, arc);
+    if is_far(top, lows[head], least) {
+        return;
+    }
+    let same = same_bits(plan, l.plan, arc, target.cell);
+    meet(
+        network,
+        plan,
+        l,
+        points,
+        firsts,
+        target,
+        node,
+        arc,
+        head,
+        so,
+        vo,
+        n,
+        same,
+        sa,
+        va,
+        sh,
+        vh,
+        marks,
+    );
+}
+
+// Judges a node whose profile towards the target has points: fills its runs, and meets the arcs out of it,
+// which are walked by their chain.
+pub fn judge_node(
+    network: &[u8],
+    plan: &[u8],
+    l: Layouts,
+    points: &[u16; MOST_ARCS],
+    first: &[u16; MOST_NODES],
+    next: &[u16; MOST_ARCS],
+    firsts: &[u32; MOST_NODES],
+    lows: &[u32; MOST_NODES],
+    target: Target,
+    node: usize,
+    so: &mut [u16],
+    vo: &mut [u32],
+    sa: &mut [u16],
+    va: &mut [u16],
+    sh: &mut [u16],
+    vh: &mut [u32],
+    marks: &mut [u8],
+)
+    requires { ⌜ AtBorder (now network) (now plan) l (now points) (now first) (now next) (now firsts) target ⌝ }
+    requires { ⌜ Lows (now plan) (l .plan) (target .number) (l .plan .nodes) (now lows) ⌝ }
+    requires { ⌜ (node < l .network .nodes)
+        × (0 < pointCount (decodePlan (now plan)) (target .number * l .plan .nodes + node)) ⌝ }
+    requires { ⌜ (l .network .period < length (now so)) × (l .network .period ≤ length (now vo)) ⌝ }
+    requires { ⌜ Rooms (l .network .period) (now sa) (now va) (now sh) (now vh) (now marks) ⌝ }
+    ensures { λ _. ⌜ Judged (partitionOf (decode (now (network .entry)))) (decodePlan (now (plan .entry)))
+        (target .number) node (l .network .period) (now (marks .exit)) ⌝ }
+{
+    let n = profile_runs::fill_profile(plan, l.plan, firsts, target.number, node, so, vo);
+    let top = profile_runs::greatest_value(plan, l.plan, firsts, target.number, node);
+    clear(marks, l.network.period);
+    let arcs = l.network.arcs;
+    let mut a = wide(first[node]);
+    while a < arcs {
+        judge_arc(
+            network,
+            plan,
+            l,
+            points,
+            firsts,
+            lows,
+            target,
+            node,
+            a,
+            so,
+            vo,
+            n,
+            top,
+            sa,
+            va,
+            sh,
+            vh,
+            marks,
+        );
+        a = wide(next[a]);
+    }
+}

@@ -3,8 +3,8 @@ use mathlib.Core.Path.{_≡_, sym, _∙_}
 use mathlib.Core.List.{List}
 use Prim.Native.Nat.{ℕ, _+_, _≤_, _<_}
 use native.Mathlib.Omega.{arith}
-use borrow.Author.Tests.{ne-eqb}
-use Rattle.theory_paths.specs.Profiles.{ticks}
+use borrow.Author.Tests.{eq-eqb, ne-eqb}
+use Rattle.theory_paths.specs.Profiles.{unreachable, ticks}
 use Rattle.theory_travel.specs.Day.{Day, dayValue}
 use Rattle.theory_travel.specs.Table.{entryAt, valueAt}
 use Rattle.plan.specs.declared.header.PlanLayout.{PlanLayout}
@@ -24,6 +24,12 @@ pub number-value : (period : ℕ) (p : Plan) (k x : ℕ) → 0 < pointCount p k
     → profileValue period p k x ≡ ticks (numberAt period p k x)
 unfolding profileValue numberAt
 number-value period p k x h = rw (ne-eqb (pointCount p k) 0 (λ e. omega arith))
+
+-- and never where it has none
+pub number-never : (period : ℕ) (p : Plan) (k x : ℕ) → pointCount p k ≡ 0
+    → profileValue period p k x ≡ unreachable
+unfolding profileValue
+number-never period p k x h = rw (eq-eqb (pointCount p k) 0 h)
 
 -- FOR CODE that has read where the points of a profile start, and how many it has
 module _ {plan : List ℕ} {l : PlanLayout} (f : Formed plan l) {k : ℕ} (h : k < l .profiles) {from m : ℕ}

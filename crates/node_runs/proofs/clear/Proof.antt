@@ -1,0 +1,49 @@
+-- `node_runs::clear` meets its contract.
+use Prim.Native.Nat.{_-_, _≤_}
+use Rattle.theory_loops.specs.Fill.{Filled, fills}
+use Rattle.node_runs.specs.Ready.{unmarked}
+use borrow.Author.Needs.{needs}
+use Rattle.node_runs.proofs.clear.Statement.{statement}
+use Rattle.node_runs.proofs.clear.Tie as tie
+
+abbrev Inv-loop : tie.InvT-loop
+Inv-loop marks₀ period x₀ marks x = (x ≤ period) × Filled 0 x unmarked marks₀ marks
+
+abbrev μ-loop : tie.MeasureT-loop
+μ-loop marks₀ period x₀ marks x = period - x
+
+loop-holds : tie.Need-loop-holds Inv-loop μ-loop
+loop-holds c = (search needs, search fills)
+
+slice-write-marks : tie.Need-slice-write-marks Inv-loop μ-loop
+slice-write-marks c = search needs
+
+add-x : tie.Need-add-x Inv-loop μ-loop
+add-x c = search needs
+
+loop-less : tie.Need-loop-less Inv-loop μ-loop
+loop-less c = search needs
+
+loop-again : tie.Need-loop-again Inv-loop μ-loop
+unfolding unmarked
+loop-again c = (search needs, search fills)
+
+same-length : tie.Need-same-length Inv-loop μ-loop
+same-length c = search needs
+
+returns : tie.Need-returns Inv-loop μ-loop
+returns c = search fills
+
+pub clear-spec : {M : Type 1} → statement M
+clear-spec =
+    tie.close
+    (tie.spec
+    Inv-loop
+    μ-loop
+    loop-holds
+    slice-write-marks
+    add-x
+    loop-less
+    loop-again
+    same-length
+    returns)

@@ -1,0 +1,141 @@
+-- `node_runs::meet` meets its contract.
+use native.Mathlib.Omega.{arith}
+use Rattle.plan_tests.specs.Giving.{head-in}
+use Rattle.day_runs.specs.Runs.{runs-few}
+use Rattle.node_runs.specs.Adds.{met-merged}
+use Rattle.node_runs.specs.Ready.{grid-here, runs-here, listed}
+use borrow.Author.Needs.{needs}
+use Rattle.node_runs.proofs.meet.Statement.{statement}
+use Rattle.node_runs.proofs.meet.Tie as tie
+
+fill-arc-requires : tie.Need-fill-arc-requires
+fill-arc-requires c κs =
+    let s =
+    c .before .before .before .before .before .before .before .before .before .before .before .before in
+    let w = s .pre .0 in
+    let r = s .pre .1 .1 .1 in
+    let t = w .check .town in (
+      t,
+      (
+        (s .pre .1 .0 .0, w .first _ (s .pre .1 .0 .0)),
+        (
+          record { short = omega (arith, t .small .period-most); in-s = r .arc-s; in-v = r .head-v },
+          r .arc-v,
+        ),
+      ),
+    )
+
+fill-profile-requires : tie.Need-fill-profile-requires
+fill-profile-requires c κs =
+    let s =
+    c .before .before .before .before .before .before .before .before .before .before .before .before
+    .before .before .before .before .before .before .before .before .before in
+    let w = s .pre .0 in
+    let r = s .pre .1 .1 .1 in
+    let k =
+    c .before .before .before .before .before .before .before .before .fill-arc .kept .1 .1 .1 .1 .1 .0 in
+    let p = w .check .period in (
+      w .check .formed,
+      (
+        w .started,
+        (
+          (w .number, head-in w (s .pre .1 .0 .0) (s .pre .1 .0 .2), s .pre .1 .0 .3),
+          record {
+            short = omega (arith, w .check .town .small .period-most, p);
+            in-s = omega (arith, r .head-s, p);
+            in-v = omega (arith, r .head-v, k, p);
+          },
+        ),
+      ),
+    )
+
+merge-requires : tie.Need-merge-requires
+merge-requires c κs =
+    let s =
+    c .before .before .before .before .before .before .before .before .before .before .before .before
+    .before .before .before .before .before .before .before .before .before .before .before .before
+    .before .before .before .before .before .before .before in
+    let w = s .pre .0 in
+    let r = s .pre .1 .1 .1 in
+    let o = s .pre .1 .1 .0 .0 in
+    let a =
+    c .before .before .before .before .before .before .before .before .before .before .before .before .before
+    .before .before .before .before .before .fill-arc .ensures in
+    let sa =
+    c .before .before .before .before .before .before .before .before .before .before .before .before .before
+    .before .before .before .before .before .fill-arc .kept .1 .1 .1 .1 .0 in
+    let va =
+    c .before .before .before .before .before .before .before .before .before .before .before .before .before
+    .before .before .before .before .before .fill-arc .kept .1 .1 .1 .1 .1 .1 .0 in
+    let vk =
+    c .before .before .before .before .before .before .before .before .before .before .before .before .before
+    .before .before .before .before .before .fill-arc .kept .1 .1 .1 .1 .1 .0 in
+    let h =
+    grid-here w (c .before .before .before .before .before .before .before .before .before .fill-profile
+    .ensures .grid) in
+    let sh =
+    c .before .before .before .before .before .before .before .before .before .fill-profile .kept .1 .1 .1 .1
+    .1 .0 in
+    let vh =
+    c .before .before .before .before .before .before .before .before .before .fill-profile .kept .1 .1 .1 .1
+    .1 .1 .0 in
+    let t = w .check .town .small in (
+      (
+        listed (o .runs .grid) (o .in-s),
+        listed (a .0 .grid) (omega (arith, sa, r .arc-s)),
+        listed h (omega (arith, sh, r .head-s)),
+      ),
+      (
+        (
+          omega (arith, runs-few (o .runs .grid), o .in-v),
+          omega (arith, runs-few (a .0 .grid), va, r .arc-v),
+          omega (arith, runs-few h, vh, vk, r .head-v),
+        ),
+        (a .1, (t .period-some, omega (arith, t .period-most), r .bytes)),
+      ),
+    )
+
+same-length : tie.Need-same-length
+same-length c = search needs
+
+same-length-2 : tie.Need-same-length-2
+same-length-2 c = search needs
+
+same-length-3 : tie.Need-same-length-3
+same-length-3 c = search needs
+
+same-length-4 : tie.Need-same-length-4
+same-length-4 c = search needs
+
+same-length-5 : tie.Need-same-length-5
+same-length-5 c = search needs
+
+returns : tie.Need-returns
+returns c =
+    let s =
+    c .before .before .before .before .before .before .before .before .before .before .before .before
+    .before .before .before .before .before .before .before .before .before .before .before .before
+    .before .before .before .before .before .before .before .before .before .before in
+    let w = s .pre .0 in
+    let p = s .pre .1 .0 in
+    let o = s .pre .1 .1 .0 in
+    met-merged w _ _ _ (p .1) (p .2) (o .0 .some) (p .3) _ _ _ (o .1) (c .before .before .merge .ensures)
+    (o .0 .runs)
+    (c .before .before .before .before .before .before .before .before .before .before .before .before
+    .before .before .before .before .before .before .before .before .before .fill-arc .ensures .0)
+    (runs-here w (c .before .before .before .before .before .before .before .before .before .before .before
+    .before .fill-profile .ensures))
+
+pub meet-spec : {M : Type 1} → statement M
+meet-spec =
+    tie.close
+    (tie.spec
+    fill-arc-requires
+    fill-profile-requires
+    merge-requires
+    same-length
+    same-length-2
+    same-length-3
+    same-length-4
+    same-length-5
+    returns)
