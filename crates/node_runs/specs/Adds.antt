@@ -4,14 +4,13 @@
 use mathlib.Core.Path.{_≡_, refl, sym, _∙_, ap}
 use mathlib.Core.Bool.{Bool, true, false, _&&_}
 use mathlib.Core.List.{List}
-use Prim.Native.Nat.{ℕ, _+_, _*_, _%_, _≤_, _<_}
+use Prim.Native.Nat.{ℕ, _+_, _*_, _%_, _<_}
 use native.Mathlib.Nat.{mod-lt, add-comm}
 use native.Mathlib.Omega.{arith}
 use lib.ListN.{length, getD}
 use lib.Dec.{ltb, eqb}
 use lib.Bits.{bitOr, or-zero-r}
 use borrow.Author.Tests.{eq-eqb, le-ltb, ne-eqb}
-use Rattle.theory_loops.specs.Fill.{Filled}
 use Rattle.theory_paths.specs.Partition.{Partition}
 use Rattle.theory_paths.specs.Profiles.{unreachable, ticks, plus}
 use Rattle.network.specs.Network.{tail, head}

@@ -3,16 +3,15 @@
 -- the tests 22, 23 and 24 fail there.
 use mathlib.Core.Path.{_≡_, refl, sym, _∙_, ap}
 use mathlib.Core.Logic.{_≢_}
-use mathlib.Core.Bool.{Bool, true, false, not, _&&_, _||_}
+use mathlib.Core.Bool.{Bool, true, false, _&&_, _||_}
 use mathlib.Core.List.{List}
-use Prim.Native.Nat.{ℕ, _+_, _-_, _*_, _/_, _%_, _≤_, _<_, min}
+use Prim.Native.Nat.{ℕ, _+_, _-_, _/_, _%_, _≤_, _<_, min}
 use native.Mathlib.Decide.{decLt}
 use native.Mathlib.Omega.{arith}
-use lib.ListN.{length, getD}
+use lib.ListN.{getD}
 use lib.Dec.{eqb}
-use lib.Bits.{bitOr}
 use borrow.Author.Tests.{ne-eqb}
-use Rattle.theory_loops.specs.First.{any, any-clear, any-found, any-more, any-none, yes-any}
+use Rattle.theory_loops.specs.First.{any, any-clear, any-found, any-more, yes-any}
 use Rattle.theory_paths.specs.Graph.{all}
 use Rattle.theory_paths.specs.Partition.{Partition}
 use Rattle.theory_paths.specs.Profiles.{ticks}

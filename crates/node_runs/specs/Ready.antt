@@ -1,6 +1,6 @@
 -- What the code that judges a node rests on: the runs of the node's own profile, the least values of the
 -- border's profiles, and room for the runs of an arc and of its head.
-use mathlib.Core.Path.{_≡_, sym, _∙_, subst}
+use mathlib.Core.Path.{_≡_, _∙_, subst}
 use mathlib.Core.List.{List}
 use Prim.Native.Nat.{ℕ, _+_, _*_, _≤_, _<_}
 use native.Mathlib.Decide.{ℕ-discrete}
@@ -14,7 +14,6 @@ use Rattle.plan_tests.specs.declared.tests.Layouts.{Layouts}
 use Rattle.plan_tests.specs.declared.tests.Target.{Target}
 use Rattle.plan_tests.specs.Giving.{Prepared}
 use Rattle.day_runs.specs.Runs.{Grid, Runs, runs-few}
-use Rattle.day_runs.specs.Filling.{Space}
 use Rattle.day_runs.specs.Bounds.{Floor, Ceiling}
 use Rattle.day_merge.specs.Walk.{Listed}
 use Rattle.profile_runs.specs.Numbers.{numberAt}
@@ -35,9 +34,17 @@ pub record Rooms (period : ℕ) (sa va sh vh marks : List ℕ) : Type 0 where
   pub head-v : period ≤ length vh
   pub bytes : period ≤ length marks
 
--- no mark
-unfoldable pub unmarked : ℕ → ℕ
-unmarked x = 0
+-- no tick has a bit
+pub record Blank (period : ℕ) (marks : List ℕ) : Type 0 where
+  pub none : (x : ℕ) → x < period → getD marks x 0 ≡ 0
+
+-- the lists of room are as long as they were
+pub record Stays (sa va sh vh marks sa' va' sh' vh' marks' : List ℕ) : Type 0 where
+  pub arc-s : length sa' ≡ length sa
+  pub arc-v : length va' ≡ length va
+  pub head-s : length sh' ≡ length sh
+  pub head-v : length vh' ≡ length vh
+  pub bytes : length marks' ≡ length marks
 
 -- a number that profile k is never below, where it has points
 pub record Low (plan : List ℕ) (l : PlanLayout) (k m : ℕ) : Type 0 where
@@ -61,6 +68,19 @@ module _ {plan : List ℕ} {l : PlanLayout} (i : ℕ) where
     ];
   }
 
+-- marks taken off, one after the other
+module _ {marks : List ℕ} where
+  pub blank-none : Blank 0 marks
+  blank-none = record { none = λ x h. absurd (omega arith) }
+
+  pub blank-more : {k : ℕ} → Blank k marks → k < length marks → Blank (k + 1) (set marks k 0)
+  blank-more {k} h o = record {
+    none = λ x l. elim (ℕ-discrete x k) [
+      | yes q ↦ rw q (getD-set-same marks k 0 0 o)
+      | no q ↦ getD-set-other marks k x 0 0 q ∙ h .none x (omega arith)
+    ];
+  }
+
 -- the plan's period is the network's
 module _ {network plan : List ℕ} {l : Layouts} {points starts : List ℕ} {b : Target}
     (w : Prepared network plan l points starts b) where
@@ -80,3 +100,15 @@ module _ {network plan : List ℕ} {l : Layouts} {points starts : List ℕ} {b :
 -- runs as they were filled can be read
 pub listed : {s : List ℕ} {n period : ℕ} → Grid s n period → period < length s → Listed s n period
 listed g h = record { grid = g; long = omega (arith, runs-few g) }
+
+-- room stays room
+pub rooms-stay : {period : ℕ} {sa va sh vh marks sa' va' sh' vh' marks' : List ℕ}
+    → Rooms period sa va sh vh marks → Stays sa va sh vh marks sa' va' sh' vh' marks'
+    → Rooms period sa' va' sh' vh' marks'
+rooms-stay r s = record {
+  arc-s = omega (arith, r .arc-s, s .arc-s);
+  arc-v = omega (arith, r .arc-v, s .arc-v);
+  head-s = omega (arith, r .head-s, s .head-s);
+  head-v = omega (arith, r .head-v, s .head-v);
+  bytes = omega (arith, r .bytes, s .bytes);
+}

@@ -17,7 +17,6 @@ ghost use mathlib.Core.Bool.{true, false};
 ghost use Prim.Native.Nat.{_+_, _*_, _≤_, _<_};
 ghost use lib.ListN.{length, getD};
 ghost use lib.Dec.{ltb};
-ghost use Rattle.theory_loops.specs.Fill.{Filled};
 ghost use Rattle.network.specs.Limits.{mostCells};
 ghost use Rattle.network.specs.Network;
 ghost use Rattle.network.specs.Decode.{decode};
@@ -33,7 +32,7 @@ ghost use Rattle.day_runs.specs.Bounds.{Ceiling};
 ghost use Rattle.node_runs.specs.Bytes.{sameBits};
 ghost use Rattle.node_runs.specs.Adds.{Met, numbersOf};
 ghost use Rattle.node_runs.specs.Judged.{Judged};
-ghost use Rattle.node_runs.specs.Ready.{Own, Rooms, Low, Lows, unmarked};
+ghost use Rattle.node_runs.specs.Ready.{Own, Rooms, Low, Lows, Blank};
 
 // A number that a profile is never below: the least of its points, and 0 where it has none.
 fn low_value(plan: &[u8], l: PlanLayout, firsts: &[u32; MOST_NODES], i: usize, u: usize) -> u32
@@ -89,7 +88,7 @@ fn is_far(top: u32, low: u32, least: u32) -> bool
 // Takes all marks off.
 fn clear(marks: &mut [u8], period: usize)
     requires { ⌜ period ≤ length (now marks) ⌝ }
-    ensures { λ _. ⌜ Filled 0 period unmarked (now (marks .entry)) (now (marks .exit)) ⌝ }
+    ensures { λ _. ⌜ Blank period (now (marks .exit)) ⌝ }
 {
     for x in 0..period {
         marks[x] = 0;
@@ -197,9 +196,8 @@ fn judge_arc(
     );
 }
 
-// Judges a node whose profile towards the target has points: fills its runs, and meets the arcs out of it,
-// which are walked by their chain.
-pub fn judge_node(
+// Meets the arcs out of a node, which are walked by their chain, or passes them, where no tick has a bit yet.
+fn judge_arcs(
     network: &[u8],
     plan: &[u8],
     l: Layouts,
@@ -210,26 +208,26 @@ pub fn judge_node(
     lows: &[u32; MOST_NODES],
     target: Target,
     node: usize,
-    so: &mut [u16],
-    vo: &mut [u32],
+    so: &[u16],
+    vo: &[u32],
+    n: usize,
+    top: u32,
     sa: &mut [u16],
     va: &mut [u16],
     sh: &mut [u16],
     vh: &mut [u32],
     marks: &mut [u8],
 )
-    requires { ⌜ AtBorder (now network) (now plan) l (now points) (now first) (now next) (now firsts) target ⌝ }
+    requires { ⌜ AtBorder (now network) (now plan) l (now points) (now first) (now next) (now firsts)
+        target ⌝ }
     requires { ⌜ Lows (now plan) (l .plan) (target .number) (l .plan .nodes) (now lows) ⌝ }
-    requires { ⌜ (node < l .network .nodes)
-        × (0 < pointCount (decodePlan (now plan)) (target .number * l .plan .nodes + node)) ⌝ }
-    requires { ⌜ (l .network .period < length (now so)) × (l .network .period ≤ length (now vo)) ⌝ }
-    requires { ⌜ Rooms (l .network .period) (now sa) (now va) (now sh) (now vh) (now marks) ⌝ }
+    requires { ⌜ (node < l .network .nodes) × Own (now plan) l target node (now so) (now vo) n
+        × Ceiling (numbersOf (now plan) l target node) (l .network .period) top ⌝ }
+    requires { ⌜ Rooms (l .network .period) (now sa) (now va) (now sh) (now vh) (now marks)
+        × Blank (l .network .period) (now marks) ⌝ }
     ensures { λ _. ⌜ Judged (partitionOf (decode (now (network .entry)))) (decodePlan (now (plan .entry)))
         (target .number) node (l .network .period) (now (marks .exit)) ⌝ }
 {
-    let n = profile_runs::fill_profile(plan, l.plan, firsts, target.number, node, so, vo);
-    let top = profile_runs::greatest_value(plan, l.plan, firsts, target.number, node);
-    clear(marks, l.network.period);
     let arcs = l.network.arcs;
     let mut a = wide(first[node]);
     while a < arcs {
@@ -255,4 +253,60 @@ pub fn judge_node(
         );
         a = wide(next[a]);
     }
+}
+
+// Judges a node whose profile towards the target has points, at all ticks.
+pub fn judge_node(
+    network: &[u8],
+    plan: &[u8],
+    l: Layouts,
+    points: &[u16; MOST_ARCS],
+    first: &[u16; MOST_NODES],
+    next: &[u16; MOST_ARCS],
+    firsts: &[u32; MOST_NODES],
+    lows: &[u32; MOST_NODES],
+    target: Target,
+    node: usize,
+    so: &mut [u16],
+    vo: &mut [u32],
+    sa: &mut [u16],
+    va: &mut [u16],
+    sh: &mut [u16],
+    vh: &mut [u32],
+    marks: &mut [u8],
+)
+    requires { ⌜ AtBorder (now network) (now plan) l (now points) (now first) (now next) (now firsts)
+        target ⌝ }
+    requires { ⌜ Lows (now plan) (l .plan) (target .number) (l .plan .nodes) (now lows) ⌝ }
+    requires { ⌜ (node < l .network .nodes)
+        × (0 < pointCount (decodePlan (now plan)) (target .number * l .plan .nodes + node)) ⌝ }
+    requires { ⌜ (l .network .period < length (now so)) × (l .network .period ≤ length (now vo)) ⌝ }
+    requires { ⌜ Rooms (l .network .period) (now sa) (now va) (now sh) (now vh) (now marks) ⌝ }
+    ensures { λ _. ⌜ Judged (partitionOf (decode (now (network .entry)))) (decodePlan (now (plan .entry)))
+        (target .number) node (l .network .period) (now (marks .exit)) ⌝ }
+{
+    let n = profile_runs::fill_profile(plan, l.plan, firsts, target.number, node, so, vo);
+    let top = profile_runs::greatest_value(plan, l.plan, firsts, target.number, node);
+    clear(marks, l.network.period);
+    judge_arcs(
+        network,
+        plan,
+        l,
+        points,
+        first,
+        next,
+        firsts,
+        lows,
+        target,
+        node,
+        so,
+        vo,
+        n,
+        top,
+        sa,
+        va,
+        sh,
+        vh,
+        marks,
+    );
 }

@@ -1,19 +1,21 @@
 -- `node_runs::clear` meets its contract.
 use Prim.Native.Nat.{_-_, _≤_}
-use Rattle.theory_loops.specs.Fill.{Filled, fills}
-use Rattle.node_runs.specs.Ready.{unmarked}
+use mathlib.Core.Path.{_≡_, refl, _∙_}
+use native.Mathlib.Omega.{arith}
+use lib.ListN.{length, length-set}
+use Rattle.node_runs.specs.Ready.{Blank, blank-none, blank-more}
 use borrow.Author.Needs.{needs}
 use Rattle.node_runs.proofs.clear.Statement.{statement}
 use Rattle.node_runs.proofs.clear.Tie as tie
 
 abbrev Inv-loop : tie.InvT-loop
-Inv-loop marks₀ period x₀ marks x = (x ≤ period) × Filled 0 x unmarked marks₀ marks
+Inv-loop marks₀ period x₀ marks x = (x ≤ period) × (length marks ≡ length marks₀) × Blank x marks
 
 abbrev μ-loop : tie.MeasureT-loop
 μ-loop marks₀ period x₀ marks x = period - x
 
 loop-holds : tie.Need-loop-holds Inv-loop μ-loop
-loop-holds c = (search needs, search fills)
+loop-holds c = (search needs, refl, blank-none)
 
 slice-write-marks : tie.Need-slice-write-marks Inv-loop μ-loop
 slice-write-marks c = search needs
@@ -25,14 +27,19 @@ loop-less : tie.Need-loop-less Inv-loop μ-loop
 loop-less c = search needs
 
 loop-again : tie.Need-loop-again Inv-loop μ-loop
-unfolding unmarked
-loop-again c = (search needs, search fills)
+loop-again c = let l = c .before .loop in (
+  search needs,
+  length-set (l .marks) (l .x) _ ∙ l .inv .1,
+  blank-more (l .inv .2) (omega arith),
+)
 
 same-length : tie.Need-same-length Inv-loop μ-loop
 same-length c = search needs
 
 returns : tie.Need-returns Inv-loop μ-loop
-returns c = search fills
+returns c = let l = c .before .loop in
+    let e : l .x ≡ c .before .before .args .period = omega arith in
+    rw e at (l .inv .2)
 
 pub clear-spec : {M : Type 1} → statement M
 clear-spec =

@@ -1,50 +1,130 @@
+-- `node_runs::judge_arc` meets its contract: an arc that is passed adds nothing.
+use mathlib.Core.Path.{sym, _∙_}
+use native.Mathlib.Omega.{arith}
+use borrow.Author.Tests.{ltb-true}
+use Rattle.plan_values.specs.Formed.{profile-in}
+use Rattle.plan_values.specs.Starts.{product-fits, number-fits}
+use Rattle.plan_tests.specs.Giving.{head-in}
+use Rattle.node_runs.specs.Adds.{met-never, met-far}
+use Rattle.node_runs.specs.Ready.{floor-here}
 use borrow.Author.Needs.{needs}
 use Rattle.node_runs.proofs.judge_arc.Statement.{statement}
 use Rattle.node_runs.proofs.judge_arc.Tie as tie
-use Rattle.node_runs.proofs.judge_arc.Reads as reads
-use Rattle.node_runs.proofs.judge_arc.Lts as lts
-use Rattle.arc_runs.proofs.least_travel.Reads as least-travel-reads
-use Rattle.network.proofs.read.head.Reads as head-reads
-use Rattle.node_runs.proofs.is_far.Reads as is-far-reads
-use Rattle.node_runs.proofs.meet.Reads as meet-reads
-use Rattle.node_runs.proofs.same_bits.Reads as same-bits-reads
-use Rattle.plan.proofs.read.point_count.Reads as point-count-reads
 
 head-requires : tie.Need-head-requires
 head-requires c κs = search needs
 
 mul-point-count : tie.Need-mul-point-count
-mul-point-count c = ?
+mul-point-count c =
+    let s =
+    c .before .before .before .before .before .before .before .before .before .before .before .before in
+    let w = s .pre .0 in
+    product-fits (w .check .formed) (w .number)
+    (head-in w (s .pre .1 .1 .0 .0) (c .before .before .head .ensures .0))
 
 add-point-count : tie.Need-add-point-count
-add-point-count c = ?
+add-point-count c =
+    let s =
+    c .before .before .before .before .before .before .before .before .before .before .before .before in
+    let w = s .pre .0 in
+    number-fits (w .check .formed) (w .number)
+    (head-in w (s .pre .1 .1 .0 .0) (c .before .before .head .ensures .0))
 
 point-count-requires : tie.Need-point-count-requires
-point-count-requires c κs = ?
+point-count-requires c κs =
+    let s =
+    c .before .before .before .before .before .before .before .before .before .before .before .before in
+    let w = s .pre .0 in
+    let h = head-in w (s .pre .1 .1 .0 .0) (c .before .before .head .ensures .0) in
+    (w .check .formed .laid, profile-in (w .check .formed) _ _ (w .number) h)
 
 returns : tie.Need-returns
-returns c = ?
+returns c =
+    let s =
+    c .before .before .before .before .before .before .before .before .before .before .before .before .before
+    .before in
+    met-never (s .pre .0) _ _ _ (s .pre .1 .1 .0 .1) (c .before .before .before .before .head .ensures .0)
+    (s .pre .1 .1 .1 .0 .0 .some) _
+    (sym (c .before .point-count .ensures .0) ∙ c .if1 .taken)
 
 least-travel-requires : tie.Need-least-travel-requires
-least-travel-requires c κs = ?
+least-travel-requires c κs =
+    let s =
+    c .before .before .before .before .before .before .before .before .before .before .before .before .before
+    .before in
+    (s .pre .0 .check .town, (s .pre .1 .1 .0 .0, s .pre .0 .first _ (s .pre .1 .1 .0 .0)))
 
 mul-is-far : tie.Need-mul-is-far
 mul-is-far c = search needs
 
 element-copy-out-is-far : tie.Need-element-copy-out-is-far
-element-copy-out-is-far c = ?
+element-copy-out-is-far c =
+    let s =
+    c .before .before .before .before .before .before .before .before .before .before .before .before .before
+    .before .before in
+    let w = s .pre .0 in
+    omega (
+      arith,
+      head-in w (s .pre .1 .1 .0 .0)
+          (c .before .before .before .before .before .head .ensures .0),
+      w .check .formed .small .nodes-most,
+    )
 
 is-far-requires : tie.Need-is-far-requires
 is-far-requires c κs = search needs
 
 returns-2 : tie.Need-returns-2
-returns-2 c = ?
+returns-2 c =
+    let s =
+    c .before .before .before .before .before .before .before .before .before .before .before .before .before
+    .before .before .before .before .before in
+    let w = s .pre .0 in
+    let o = s .pre .1 .1 .1 .0 in
+    let h = c .before .before .before .before .before .before .before .before .head .ensures .0 in
+    let k = c .before .before .before .before .before .point-count .ensures .0 in
+    let f =
+    s .pre .1 .0 .at _ (head-in w (s .pre .1 .1 .0 .0) h) .floor
+    (omega (arith, k, c .before .before .before .before .if1 .left)) in
+    met-far w _ _ _ (s .pre .1 .1 .0 .1) h (o .0 .some)
+    (omega (arith, k, c .before .before .before .before .if1 .left)) _ _ _ _
+    (ltb-true _ _ (sym (c .before .is-far .ensures) ∙ c .if2 .taken)) (o .1)
+    (c .before .before .before .least-travel .ensures)
+    (floor-here w f)
 
 same-bits-requires : tie.Need-same-bits-requires
-same-bits-requires c κs = ?
+same-bits-requires c κs =
+    let s =
+    c .before .before .before .before .before .before .before .before .before .before .before .before .before
+    .before .before .before .before .before in
+    let w = s .pre .0 in
+    (w .check .formed .laid, (omega (arith, s .pre .1 .1 .0 .0, w .check .arcs), w .aimed .flag))
 
 meet-requires : tie.Need-meet-requires
-meet-requires c κs = ?
+meet-requires c κs =
+    let s =
+    c .before .before .before .before .before .before .before .before .before .before .before .before .before
+    .before .before .before .before .before .before .before .before .before .before .before in
+    let o = s .pre .1 .1 .1 in
+    let k =
+    c .before .before .before .before .before .before .before .before .before .before .before .point-count
+    .ensures .0 in (
+      s .pre .0,
+      (
+        (
+          s .pre .1 .1 .0 .0,
+          s .pre .1 .1 .0 .1,
+          c .before .before .before .before .before .before .before
+              .before .before .before .before .before .before .before .head .ensures .0,
+          omega (
+            arith,
+            k,
+            c .before .before .before .before .before .before .before .before .before .before .if1
+                .left,
+          ),
+        ),
+        ((o .0 .0, c .before .before .before .before .before .same-bits .ensures), o .1),
+      ),
+    )
 
 same-length : tie.Need-same-length
 same-length c = search needs

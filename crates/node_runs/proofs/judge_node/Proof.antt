@@ -1,104 +1,123 @@
+-- `node_runs::judge_node` meets its contract.
+use native.Mathlib.Omega.{arith}
+use Rattle.node_runs.specs.Ready.{runs-here, ceiling-here}
 use borrow.Author.Needs.{needs}
 use Rattle.node_runs.proofs.judge_node.Statement.{statement}
 use Rattle.node_runs.proofs.judge_node.Tie as tie
-use Rattle.node_runs.proofs.judge_node.Reads as reads
-use Rattle.node_runs.proofs.judge_node.Lts as lts
-use Rattle.node_runs.proofs.clear.Reads as clear-reads
-use Rattle.node_runs.proofs.judge_arc.Reads as judge-arc-reads
-use Rattle.profile_runs.proofs.fill_profile.Reads as fill-profile-reads
-use Rattle.profile_runs.proofs.greatest_value.Reads as greatest-value-reads
-use Rattle.search_arcs.proofs.wide.Reads as wide-reads
 
-abbrev Inv-loop : tie.InvT-loop
-Inv-loop network plan l points first next firsts lows target node so vo sa₀ va₀ sh₀ vh₀ marks₀ n top arcs a₀ sa va sh vh marks a =
-    ?
+fill-profile-requires : tie.Need-fill-profile-requires
+fill-profile-requires c κs =
+    let s = c .before .before .before .before .before .before .before .before .before .before .before in
+    let w = s .pre .0 .prepared in
+    let k = s .pre .1 .1 in
+    let p = w .check .period in (
+      w .check .formed,
+      (
+        w .started,
+        (
+          (w .number, omega (arith, k .0 .0, w .check .nodes), k .0 .1),
+          record {
+            short = omega (arith, w .check .town .small .period-most, p);
+            in-s = omega (arith, k .1 .0 .0, p);
+            in-v = omega (arith, k .1 .0 .1, p);
+          },
+        ),
+      ),
+    )
 
-abbrev μ-loop : tie.MeasureT-loop
-μ-loop network plan l points first next firsts lows target node so vo sa₀ va₀ sh₀ vh₀ marks₀ n top arcs a₀ sa va sh vh marks a =
-    ?
+greatest-value-requires : tie.Need-greatest-value-requires
+greatest-value-requires c κs =
+    let s =
+    c .before .before .before .before .before .before .before .before .before .before .before .before
+    .before .before .before .before in
+    let w = s .pre .0 .prepared in
+    let k = s .pre .1 .1 .0 in
+    (w .check .formed, (w .started, (w .number, omega (arith, k .0, w .check .nodes), k .1)))
 
-fill-profile-requires : tie.Need-fill-profile-requires Inv-loop μ-loop
-fill-profile-requires c κs = search needs
+clear-requires : tie.Need-clear-requires
+clear-requires c κs =
+    c .before .before .before .before .before .before .before .before .before .before .before .before .before
+    .before .before .before .before .before .pre .1 .1 .1 .1 .bytes
 
-greatest-value-requires : tie.Need-greatest-value-requires Inv-loop μ-loop
-greatest-value-requires c κs = search needs
+judge-arcs-requires : tie.Need-judge-arcs-requires
+judge-arcs-requires c κs =
+    let s =
+    c .before .before .before .before .before .before .before .before .before .before .before .before
+    .before .before .before .before .before .before .before .before .before .before .before .before
+    .before .before .before .before in
+    let w = s .pre .0 .prepared in
+    let k = s .pre .1 .1 in
+    let so =
+    c .before .before .before .before .before .before .before .before .before .before .before .before .before
+    .before .before .before .fill-profile .kept .1 .1 .1 .1 .1 .0 in
+    let vo =
+    c .before .before .before .before .before .before .before .before .before .before .before .before .before
+    .before .before .before .fill-profile .kept .1 .1 .1 .1 .1 .1 .0 in
+    let marks = c .before .before .before .before .before .before .before .before .before .clear .kept .0 in
+    let r = k .1 .1 in (
+      s .pre .0,
+      (
+        s .pre .1 .0,
+        (
+          (
+            k .0 .0,
+            record {
+              some = k .0 .1;
+              runs =
+                  runs-here w (c .before .before .before .before .before .before .before .before .before
+                  .before .before .before .before .before .before .before .fill-profile .ensures);
+              in-s = omega (arith, so, k .1 .0 .0);
+              in-v = omega (arith, vo, k .1 .0 .1);
+            },
+            ceiling-here w (c .before .before .before .before .before .before .before .before .before .before
+                .before .greatest-value .ensures),
+          ),
+          (
+            record {
+              arc-s = r .arc-s;
+              arc-v = r .arc-v;
+              head-s = r .head-s;
+              head-v = r .head-v;
+              bytes = omega (arith, marks, r .bytes);
+            },
+            c .before .before .before .before .before .before .before .before .before .clear .ensures,
+          ),
+        ),
+      ),
+    )
 
-clear-requires : tie.Need-clear-requires Inv-loop μ-loop
-clear-requires c κs = search needs
-
-mul-wide : tie.Need-mul-wide Inv-loop μ-loop
-mul-wide c = search needs
-
-element-copy-out-wide : tie.Need-element-copy-out-wide Inv-loop μ-loop
-element-copy-out-wide c = search needs
-
-wide-requires : tie.Need-wide-requires Inv-loop μ-loop
-wide-requires c κs = search needs
-
-loop-holds : tie.Need-loop-holds Inv-loop μ-loop
-loop-holds c = search needs
-
-judge-arc-requires : tie.Need-judge-arc-requires Inv-loop μ-loop
-judge-arc-requires c κs = search needs
-
-mul-wide-2 : tie.Need-mul-wide-2 Inv-loop μ-loop
-mul-wide-2 c = search needs
-
-element-copy-out-wide-2 : tie.Need-element-copy-out-wide-2 Inv-loop μ-loop
-element-copy-out-wide-2 c = search needs
-
-wide-requires-2 : tie.Need-wide-requires-2 Inv-loop μ-loop
-wide-requires-2 c κs = search needs
-
-loop-less : tie.Need-loop-less Inv-loop μ-loop
-loop-less c = search needs
-
-loop-again : tie.Need-loop-again Inv-loop μ-loop
-loop-again c = search needs
-
-same-length : tie.Need-same-length Inv-loop μ-loop
+same-length : tie.Need-same-length
 same-length c = search needs
 
-same-length-2 : tie.Need-same-length-2 Inv-loop μ-loop
+same-length-2 : tie.Need-same-length-2
 same-length-2 c = search needs
 
-same-length-3 : tie.Need-same-length-3 Inv-loop μ-loop
+same-length-3 : tie.Need-same-length-3
 same-length-3 c = search needs
 
-same-length-4 : tie.Need-same-length-4 Inv-loop μ-loop
+same-length-4 : tie.Need-same-length-4
 same-length-4 c = search needs
 
-same-length-5 : tie.Need-same-length-5 Inv-loop μ-loop
+same-length-5 : tie.Need-same-length-5
 same-length-5 c = search needs
 
-same-length-6 : tie.Need-same-length-6 Inv-loop μ-loop
+same-length-6 : tie.Need-same-length-6
 same-length-6 c = search needs
 
-same-length-7 : tie.Need-same-length-7 Inv-loop μ-loop
+same-length-7 : tie.Need-same-length-7
 same-length-7 c = search needs
 
-returns : tie.Need-returns Inv-loop μ-loop
+returns : tie.Need-returns
 returns c = search needs
 
 pub judge-node-spec : {M : Type 1} → statement M
 judge-node-spec =
     tie.close
     (tie.spec
-    Inv-loop
-    μ-loop
     fill-profile-requires
     greatest-value-requires
     clear-requires
-    mul-wide
-    element-copy-out-wide
-    wide-requires
-    loop-holds
-    judge-arc-requires
-    mul-wide-2
-    element-copy-out-wide-2
-    wide-requires-2
-    loop-less
-    loop-again
+    judge-arcs-requires
     same-length
     same-length-2
     same-length-3

@@ -1,0 +1,169 @@
+-- `node_runs::judge_arcs` meets its contract: the walk stands at arc a, and the arcs before it are met.
+use mathlib.Core.Path.{refl, _∙_}
+use Prim.Native.Nat.{_-_}
+use native.Mathlib.Omega.{arith}
+use Rattle.plan.specs.PlanDecode.{decodePlan}
+use Rattle.node_runs.specs.Judged.{Judging, judge-first, judge-less, judge-next, judge-end}
+use Rattle.node_runs.specs.Ready.{Stays, rooms-stay}
+use borrow.Author.Needs.{needs}
+use Rattle.node_runs.proofs.judge_arcs.Statement.{statement}
+use Rattle.node_runs.proofs.judge_arcs.Tie as tie
+
+abbrev Inv-loop : tie.InvT-loop
+Inv-loop network plan l points first next firsts lows target node so vo n top
+    sa₀ va₀ sh₀ vh₀ marks₀ arcs a₀ sa va sh vh marks a =
+    Stays sa₀ va₀ sh₀ vh₀ marks₀ sa va sh vh marks
+    × Judging network (l .network) (decodePlan plan) first next (target .cell) (target .number) node
+    (l .network .period) a marks
+
+abbrev μ-loop : tie.MeasureT-loop
+μ-loop network plan l points first next firsts lows target node so vo n top
+    sa₀ va₀ sh₀ vh₀ marks₀ arcs a₀ sa va sh vh marks a =
+    arcs - a
+
+mul-wide : tie.Need-mul-wide Inv-loop μ-loop
+mul-wide c = let s = c .before .before .before .before .before .before .before .before .before in
+    omega (arith, s .pre .1 .1 .0 .0, s .pre .0 .prepared .check .town .small .nodes-most)
+
+element-copy-out-wide : tie.Need-element-copy-out-wide Inv-loop μ-loop
+element-copy-out-wide c =
+    let s = c .before .before .before .before .before .before .before .before .before in
+    omega (arith, s .pre .1 .1 .0 .0, s .pre .0 .prepared .check .town .small .nodes-most)
+
+wide-requires : tie.Need-wide-requires Inv-loop μ-loop
+wide-requires c κs = search needs
+
+loop-holds : tie.Need-loop-holds Inv-loop μ-loop
+loop-holds c =
+    let s = c .before .before .before .before .before .before .before .before .before .before .before in (
+      record { arc-s = refl; arc-v = refl; head-s = refl; head-v = refl; bytes = refl },
+      judge-first (s .pre .0 .prepared .check .town) (s .pre .0 .chained) (s .pre .1 .1 .0 .0)
+          (c .wide .ensures .0)
+          (s .pre .1 .1 .1 .1 .none),
+    )
+
+judge-arc-requires : tie.Need-judge-arc-requires Inv-loop μ-loop
+judge-arc-requires c κs =
+    let s =
+    c .before .before .before .before .before .before .before .before .before .before .before .before
+    .before .before .before .before .before .before in
+    let l = c .before .before .before .before .before .before .loop in
+    let h = c .before .before .before .before .before .loop-test .taken in
+    let o = s .pre .1 .1 .0 in (
+      s .pre .0 .prepared,
+      (s .pre .1 .0, ((h, l .inv .1 .here h), ((o .1, o .2), rooms-stay (s .pre .1 .1 .1 .0) (l .inv .0)))),
+    )
+
+mul-wide-2 : tie.Need-mul-wide-2 Inv-loop μ-loop
+mul-wide-2 c =
+    let s =
+    c .before .before .before .before .before .before .before .before .before .before .before .before
+    .before .before .before .before .before .before .before .before .before .before .before .before
+    .before .before .before .before .before in
+    omega (
+      arith,
+      c .before .before .before .before .before .before .before .before .before .before .before
+          .before .before .before .before .before .loop-test .taken,
+      s .pre .0 .prepared .check .town .small
+          .arcs-most,
+    )
+
+element-copy-out-wide-2 : tie.Need-element-copy-out-wide-2 Inv-loop μ-loop
+element-copy-out-wide-2 c =
+    let s =
+    c .before .before .before .before .before .before .before .before .before .before .before .before
+    .before .before .before .before .before .before .before .before .before .before .before .before
+    .before .before .before .before .before in
+    omega (
+      arith,
+      c .before .before .before .before .before .before .before .before .before .before .before
+          .before .before .before .before .before .loop-test .taken,
+      s .pre .0 .prepared .check .town .small
+          .arcs-most,
+    )
+
+wide-requires-2 : tie.Need-wide-requires-2 Inv-loop μ-loop
+wide-requires-2 c κs = search needs
+
+loop-less : tie.Need-loop-less Inv-loop μ-loop
+loop-less c =
+    judge-less (c .before .before .before .before .before .before .before .before .before .before .before
+    .before .before .before .before .before .before .before .before .loop .inv .1)
+    (c .before .before .before .before .before .before .before .before .before .before .before .before
+    .before .before .before .before .before .before .loop-test .taken) _ (c .wide2 .ensures .0)
+
+loop-again : tie.Need-loop-again Inv-loop μ-loop
+loop-again c =
+    let l =
+    c .before .before .before .before .before .before .before .before .before .before .before .before
+    .before .before .before .before .before .before .before .loop in
+    let s = l .inv .0 in (
+      record {
+        arc-s =
+            c .before .before .before .before .before .before .before .before .before .before .before .before
+            .judge-arc .kept .1 .1 .1 .1 .1 .1 .1 .1 .1 .1 .1 .1 .1 .0 ∙ s .arc-s;
+        arc-v =
+            c .before .before .before .before .before .before .before .before .before .before .before .before
+            .judge-arc .kept .1 .1 .1 .1 .1 .1 .1 .1 .1 .1 .1 .1 .1 .1 .0 ∙ s .arc-v;
+        head-s =
+            c .before .before .before .before .before .before .before .before .before .before .before .before
+            .judge-arc .kept .1 .1 .1 .1 .1 .1 .1 .1 .1 .1 .1 .1 .1 .1 .1 .0 ∙ s .head-s;
+        head-v =
+            c .before .before .before .before .before .before .before .before .before .before .before .before
+            .judge-arc .kept .1 .1 .1 .1 .1 .1 .1 .1 .1 .1 .1 .1 .1 .1 .1 .1 .0 ∙ s .head-v;
+        bytes =
+            c .before .before .before .before .before .before .before .before .before .before .before .before
+            .judge-arc .kept .1 .1 .1 .1 .1 .1 .1 .1 .1 .1 .1 .1 .1 .1 .1 .1 .1 .0 ∙ s .bytes;
+      },
+      judge-next (l .inv .1)
+          (c .before .before .before .before .before .before .before .before .before .before .before .before
+          .before .before .before .before .before .before .loop-test .taken) _ (c .wide2 .ensures .0)
+          (c .before .before .before .before .before .before .before .before .before .before .before .before
+          .judge-arc .ensures),
+    )
+
+same-length : tie.Need-same-length Inv-loop μ-loop
+same-length c = c .before .loop .inv .0 .arc-s
+
+same-length-2 : tie.Need-same-length-2 Inv-loop μ-loop
+same-length-2 c = c .before .loop .inv .0 .arc-v
+
+same-length-3 : tie.Need-same-length-3 Inv-loop μ-loop
+same-length-3 c = c .before .loop .inv .0 .head-s
+
+same-length-4 : tie.Need-same-length-4 Inv-loop μ-loop
+same-length-4 c = c .before .loop .inv .0 .head-v
+
+same-length-5 : tie.Need-same-length-5 Inv-loop μ-loop
+same-length-5 c = c .before .loop .inv .0 .bytes
+
+returns : tie.Need-returns Inv-loop μ-loop
+returns c =
+    let s =
+    c .before .before .before .before .before .before .before .before .before .before .before .before
+    .before in
+    let a = s .pre .0 .prepared .aimed in
+    judge-end (c .before .loop .inv .1) (rw (a .node) at (a .cell)) (omega (arith, c .loop-test .left))
+
+pub judge-arcs-spec : {M : Type 1} → statement M
+judge-arcs-spec =
+    tie.close
+    (tie.spec
+    Inv-loop
+    μ-loop
+    mul-wide
+    element-copy-out-wide
+    wide-requires
+    loop-holds
+    judge-arc-requires
+    mul-wide-2
+    element-copy-out-wide-2
+    wide-requires-2
+    loop-less
+    loop-again
+    same-length
+    same-length-2
+    same-length-3
+    same-length-4
+    same-length-5
+    returns)
