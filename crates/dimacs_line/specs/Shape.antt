@@ -19,6 +19,7 @@ use Rattle.dimacs_line.specs.declared.line.Sizes.{Sizes}
 use Rattle.dimacs_line.specs.declared.line.Arc.{Arc}
 use Rattle.dimacs_line.specs.declared.line.Shape.{Shape}
 use Rattle.dimacs_line.specs.declared.line.Shape.the-variants.{Remark, Other}
+use Rattle.dimacs_line.specs.declared.line.Shape.the-variants.{Sizes as SizesLine, Arc as ArcLine}
 
 -- what makes a line a remark, the sizes, an arc
 pub record IsRemark (line : List ℕ) : Type 0 where

@@ -17,6 +17,7 @@ use Rattle.dimacs_line.specs.declared.line.Sizes.{Sizes}
 use Rattle.dimacs_line.specs.declared.line.Arc.{Arc}
 use Rattle.dimacs_line.specs.declared.line.Shape.{Shape}
 use Rattle.dimacs_line.specs.declared.line.Shape.the-variants.{Remark, Other}
+use Rattle.dimacs_line.specs.declared.line.Shape.the-variants.{Sizes as SizesLine, Arc as ArcLine}
 use Rattle.dimacs_line.specs.Shape.{IsRemark, IsSizes, IsArc, startsWith, sizesBy, arcBy, sizesShape}
 use Rattle.dimacs_line.specs.Shape.{arcShape, shapeOf}
 
@@ -124,7 +125,7 @@ module _ (line : List ℕ) where
 
       go : (t : Bool) → startsWith (ascii "c") line ≡ t → IsRemark line
       go true f = record { rest = drop 1 line; is = starts-is (ascii "c") line f }
-      go false f = absurd (later _ _ (rw f at e))
+      go false f = absurd (later (startsWith (ascii "a ") line) (startsWith (ascii "p sp ") line) (rw f at e))
 
   is-remark : IsRemark line → shapeOf line ≡ Remark
   unfolding shapeOf startsWith
@@ -154,7 +155,7 @@ module _ (line : List ℕ) where
         is = starts-is (ascii "a ") line g;
         numbers = arc-of (drop 2 line) a (rw (f, g) at e);
       }
-      go false false f g = absurd (last _ (rw (f, g) at e))
+      go false false f g = absurd (last (startsWith (ascii "p sp ") line) (rw (f, g) at e))
 
   is-arc : (a : Arc) → IsArc line a → shapeOf line ≡ ArcLine a
   unfolding shapeOf startsWith

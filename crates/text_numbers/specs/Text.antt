@@ -2,7 +2,7 @@
 -- after the other are one text stored (`stored-then`).
 use Prim.Native.Nat.{ℕ, _+_, _≤_, _<_}
 use Prim.Native.Char.{code}
-use Prim.Native.String.{String}
+use Prim.Native.String.{String, [] as blank, _∷_ as _before_}
 use mathlib.Core.Path.{_≡_, refl, sym, _∙_}
 use mathlib.Core.List.{List, [], _∷_, _++_}
 use native.Mathlib.Nat.{add-zero}
