@@ -3,3 +3,5 @@
 pub mod Import
 pub mod Imported
 pub mod Entering
+pub mod Sound
+pub mod Promise
