@@ -31,7 +31,7 @@ use Rattle.dimacs_text.specs.Reading.{
   outside,
   misfit,
   noted,
-  stoppedBy,
+  passedBy,
   sizedBy,
   arcBy,
   stepped,
@@ -200,9 +200,9 @@ module _ (n : ℕ) (k j : Sizes) (s : ℕ) (line : List ℕ) (lines : List (List
   found-line Remark f e =
       let (q, (arcs, al, c)) = ih (n + 1) s l e in
       (q, (arcs, remark line lines arcs (remark-exactly line .0 f) al, c))
-  found-line (SizesLine i) f e = absurd (stopped-lost (stoppedBy (after n k s)) lines j refl e)
+  found-line (SizesLine i) f e = absurd (stopped-lost (passedBy (after n k s) true) lines j refl e)
   found-line (ArcLine a) f e = found-arc a (arc-exactly line a .0 f) e
-  found-line Other f e = absurd (stopped-lost (stoppedBy (after n k s)) lines j refl e)
+  found-line Other f e = absurd (stopped-lost (passedBy (after n k s) true) lines j refl e)
 
 found : (lines : List (List ℕ)) (n : ℕ) (k j : Sizes) (s : ℕ) → s ≤ k .arcs
     → judged (readAll (after n k s) lines) ≡ Accepted j → Found k j s lines
@@ -247,8 +247,8 @@ module _ (n : ℕ) (j : Sizes) (line : List ℕ) (lines : List (List ℕ))
       let (arcs, t) = ih (n + 1) e in
       (arcs, remark-first line lines arcs (remark-exactly line .0 f) t)
   described-line (SizesLine k) f e = described-sizes k (sizes-exactly line k .0 f) e
-  described-line (ArcLine a) f e = absurd (stopped-lost (stoppedBy (before n)) lines j refl e)
-  described-line Other f e = absurd (stopped-lost (stoppedBy (before n)) lines j refl e)
+  described-line (ArcLine a) f e = absurd (stopped-lost (passedBy (before n) true) lines j refl e)
+  described-line Other f e = absurd (stopped-lost (passedBy (before n) true) lines j refl e)
 
 described : (lines : List (List ℕ)) (n : ℕ) (j : Sizes) → judged (readAll (before n) lines) ≡ Accepted j
     → Described j lines

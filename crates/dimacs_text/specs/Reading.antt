@@ -53,12 +53,11 @@ misfit nodes a =
 unfoldable pub noted : ℕ → ℕ → Bool → ℕ
 noted wrong line fault = cond (eqb wrong 0) (cond fault line 0) wrong
 
--- ONE MORE LINE, by its shape: a remark; one that is refused as 35; the sizes, once; an arc, if there are to be
--- more
-abbrev pub remarkedBy : Reading → Reading
-remarkedBy r = record {
+-- ONE MORE LINE that changes nothing: a remark, or one that is refused as 35
+abbrev pub passedBy : Reading → Bool → Reading
+passedBy r stopped = record {
   lines = r .lines + 1;
-  stopped = false;
+  stopped = stopped;
   sized = r .sized;
   nodes = r .nodes;
   arcs = r .arcs;
@@ -66,20 +65,10 @@ remarkedBy r = record {
   wrong = r .wrong;
 }
 
-abbrev pub stoppedBy : Reading → Reading
-stoppedBy r = record {
-  lines = r .lines + 1;
-  stopped = true;
-  sized = r .sized;
-  nodes = r .nodes;
-  arcs = r .arcs;
-  seen = r .seen;
-  wrong = r .wrong;
-}
-
+-- the sizes, once; an arc, if there are to be more; and any line by its shape
 unfoldable pub sizedBy : Reading → Sizes → Reading
 sizedBy r k =
-    cond (r .sized) (stoppedBy r)
+    cond (r .sized) (passedBy r true)
     (record {
       lines = r .lines + 1;
       stopped = false;
@@ -92,7 +81,7 @@ sizedBy r k =
 
 unfoldable pub arcBy : Reading → Arc → Reading
 arcBy r a =
-    cond (leb (r .arcs) (r .seen)) (stoppedBy r)
+    cond (leb (r .arcs) (r .seen)) (passedBy r true)
     (record {
       lines = r .lines + 1;
       stopped = false;
@@ -104,10 +93,10 @@ arcBy r a =
     })
 
 unfoldable pub stepped : Reading → Shape → Reading
-stepped r Remark = remarkedBy r
+stepped r Remark = passedBy r false
 stepped r (SizesLine k) = sizedBy r k
 stepped r (ArcLine a) = arcBy r a
-stepped r Other = stoppedBy r
+stepped r Other = passedBy r true
 
 -- all lines, up to one that is refused
 unfoldable pub readAll : Reading → List (List ℕ) → Reading
@@ -160,7 +149,7 @@ module _ (r : Reading) (wrong : ℕ) (fault : Bool) (e : wrong ≡ noted (r .wro
   arc-told a s f = rw (lt-leb (r .arcs) (r .seen) s, e, f)
 
 module _ (r s : Reading) (shape : Shape) where
-  pub remark-stepped : shape ≡ Remark → s ≡ remarkedBy r → s ≡ stepped r shape
+  pub remark-stepped : shape ≡ Remark → s ≡ passedBy r false → s ≡ stepped r shape
   unfolding stepped
   remark-stepped e f = rw e f
 
@@ -172,7 +161,7 @@ module _ (r s : Reading) (shape : Shape) where
   unfolding stepped
   arc-stepped a e f = rw e f
 
-  pub other-stepped : shape ≡ Other → s ≡ stoppedBy r → s ≡ stepped r shape
+  pub other-stepped : shape ≡ Other → s ≡ passedBy r true → s ≡ stepped r shape
   unfolding stepped
   other-stepped e f = rw e f
 

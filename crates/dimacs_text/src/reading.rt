@@ -8,7 +8,7 @@ use network::limits::MOST_PERIOD;
 ghost use mathlib.Core.Path.{_≡_};
 ghost use Prim.Native.Nat.{_+_, _^_, _<_};
 ghost use Rattle.dimacs_text.specs.Reading as readings;
-ghost use Rattle.dimacs_text.specs.Reading.{outside, misfit, noted, stoppedBy, sizedBy, arcBy, stepped};
+ghost use Rattle.dimacs_text.specs.Reading.{outside, misfit, noted, passedBy, sizedBy, arcBy, stepped};
 
 const NODES: u32 = MOST_NODES as u32;
 
@@ -73,14 +73,14 @@ fn note(wrong: usize, line: usize, fault: bool) -> usize
     0
 }
 
-// A line of no shape, or out of order.
-fn after_stop(r: Reading) -> Reading
+// A line that changes nothing: a remark, or one that stops the reading.
+fn after_line(r: Reading, stopped: bool) -> Reading
     requires { ⌜ r .lines + 1 < 2 ^ 64 ⌝ }
-    ensures { λ s. ⌜ s ≡ stoppedBy r ⌝ }
+    ensures { λ s. ⌜ s ≡ passedBy r stopped ⌝ }
 {
     Reading {
         lines: r.lines + 1,
-        stopped: true,
+        stopped,
         sized: r.sized,
         nodes: r.nodes,
         arcs: r.arcs,
@@ -95,7 +95,7 @@ fn after_sizes(r: Reading, k: Sizes) -> Reading
     ensures { λ s. ⌜ s ≡ sizedBy r k ⌝ }
 {
     if r.sized {
-        return after_stop(r);
+        return after_line(r, true);
     }
     let line = r.lines + 1;
     Reading {
@@ -115,7 +115,7 @@ fn after_arc(r: Reading, a: Arc) -> Reading
     ensures { λ s. ⌜ s ≡ arcBy r a ⌝ }
 {
     if r.arcs <= r.seen {
-        return after_stop(r);
+        return after_line(r, true);
     }
     let line = r.lines + 1;
     Reading {
@@ -129,31 +129,15 @@ fn after_arc(r: Reading, a: Arc) -> Reading
     }
 }
 
-// A remark.
-fn after_remark(r: Reading) -> Reading
-    requires { ⌜ r .lines + 1 < 2 ^ 64 ⌝ }
-    ensures { λ s. ⌜ s ≡ readings.remarkedBy r ⌝ }
-{
-    Reading {
-        lines: r.lines + 1,
-        stopped: false,
-        sized: r.sized,
-        nodes: r.nodes,
-        arcs: r.arcs,
-        seen: r.seen,
-        wrong: r.wrong,
-    }
-}
-
 // One more line.
 pub fn step(r: Reading, shape: Shape) -> Reading
     requires { ⌜ r .lines + 1 < 2 ^ 64 ⌝ }
     ensures { λ s. ⌜ s ≡ stepped r shape ⌝ }
 {
     match shape {
-        Shape::Remark => after_remark(r),
+        Shape::Remark => after_line(r, false),
         Shape::Sizes(k) => after_sizes(r, k),
         Shape::Arc(a) => after_arc(r, a),
-        Shape::Other => after_stop(r),
+        Shape::Other => after_line(r, true),
     }
 }

@@ -6,8 +6,8 @@ use borrow.Author.Needs.{needs}
 use Rattle.dimacs_text.proofs.reading.after_arc.Statement.{statement}
 use Rattle.dimacs_text.proofs.reading.after_arc.Tie as tie
 
-after-stop-requires : tie.Need-after-stop-requires
-after-stop-requires c κs = search needs
+after-line-requires : tie.Need-after-line-requires
+after-line-requires c κs = search needs
 
 returns : tie.Need-returns
 unfolding arcBy
@@ -32,7 +32,7 @@ pub after-arc-spec : {M : Type 1} → statement M
 after-arc-spec =
     tie.close
     (tie.spec
-    after-stop-requires
+    after-line-requires
     returns
     add-line
     add-t5

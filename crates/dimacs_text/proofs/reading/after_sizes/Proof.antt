@@ -6,8 +6,8 @@ use borrow.Author.Needs.{needs}
 use Rattle.dimacs_text.proofs.reading.after_sizes.Statement.{statement}
 use Rattle.dimacs_text.proofs.reading.after_sizes.Tie as tie
 
-after-stop-requires : tie.Need-after-stop-requires
-after-stop-requires c κs = search needs
+after-line-requires : tie.Need-after-line-requires
+after-line-requires c κs = search needs
 
 returns : tie.Need-returns
 unfolding sizedBy
@@ -28,4 +28,4 @@ returns-2 c = search (needs, sized-told)
 pub after-sizes-spec : {M : Type 1} → statement M
 after-sizes-spec =
     tie.close
-    (tie.spec after-stop-requires returns add-line is-outside-requires note-requires returns-2)
+    (tie.spec after-line-requires returns add-line is-outside-requires note-requires returns-2)

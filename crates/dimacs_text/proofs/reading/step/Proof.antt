@@ -7,8 +7,8 @@ use Rattle.dimacs_text.proofs.reading.step.Tie as tie
 enum-told : tie.Need-enum-told
 enum-told c = search needs
 
-after-remark-requires : tie.Need-after-remark-requires
-after-remark-requires c κs = search needs
+after-line-requires : tie.Need-after-line-requires
+after-line-requires c κs = search needs
 
 enum-known-shape : tie.Need-enum-known-shape
 enum-known-shape c = search needs
@@ -25,8 +25,8 @@ after-arc-requires c κs = search needs
 enum-told-2 : tie.Need-enum-told-2
 enum-told-2 c = search needs
 
-after-stop-requires : tie.Need-after-stop-requires
-after-stop-requires c κs = search needs
+after-line-requires-2 : tie.Need-after-line-requires-2
+after-line-requires-2 c κs = search needs
 
 returns : tie.Need-returns
 returns c = search steps
@@ -45,13 +45,13 @@ step-spec =
     tie.close
     (tie.spec
     enum-told
-    after-remark-requires
+    after-line-requires
     enum-known-shape
     after-sizes-requires
     enum-known-shape-2
     after-arc-requires
     enum-told-2
-    after-stop-requires
+    after-line-requires-2
     returns
     returns-2
     returns-3
