@@ -65,14 +65,16 @@ pub record Ready (text : List ℕ) (l : Layout) (room : ℕ) : Type 0 where
   pub points-are : l .points ≡ l .arcs
   pub fits : (i : ℕ) → i < l .arcs → Fitting (l .nodes) (arcAt (arcsOf (linesOf text)) i)
 
-pub room-kept : (text : List ℕ) (l : Layout) (room now : ℕ) → Ready text l room → now ≡ room → NetworkRoom l now
+pub room-kept : (text : List ℕ) (l : Layout) (room now : ℕ) → Ready text l room → now ≡ room
+    → NetworkRoom l now
 room-kept text l room now r e = rw e (r .has-room)
 
 -- the arcs of a text are put alike, whatever the network's number and nodes
 abbrev pub arcsAlone : List ℕ → Network
 arcsAlone text = networkBy 0 0 (arcsOf (linesOf text))
 
-pub entered-alike : (l : Layout) (arcs : List Arc) (number nodes a₀ q₀ : ℕ) (s₀ : List ℕ) (a q : ℕ) (s : List ℕ)
+pub entered-alike : (l : Layout) (arcs : List Arc) (number nodes a₀ q₀ : ℕ) (s₀ : List ℕ) (a q : ℕ)
+    (s : List ℕ)
     → Entered l (networkBy 0 0 arcs) a₀ q₀ s₀ a q s → Entered l (networkBy number nodes arcs) a₀ q₀ s₀ a q s
 entered-alike l arcs number nodes a₀ q₀ s₀ _ _ _ start = start
 entered-alike l arcs number nodes a₀ q₀ s₀ _ _ _ (arc a q s t e m f) =

@@ -1,4 +1,5 @@
--- Import: the network that a text gives, the answer for any text, network number and lent bytes, and the call.
+-- Import: the network that a text gives, the answer for any text, network number and lent bytes, and the
+-- call.
 use mathlib.Core.Path.{_≡_, refl, sym, _∙_}
 use mathlib.Core.List.{List, [], map}
 use Prim.Native.Nat.{ℕ, _-_, _≤_, _<_}
@@ -19,7 +20,8 @@ use Rattle.dimacs_text.specs.declared.judge.Judgement.the-variants.{Accepted, R
 use Rattle.dimacs_text.specs.Reading.{judging}
 use Rattle.dimacs_text.specs.Arcs.{arcsOf}
 
--- so many nodes, all in cell 0; each arc once, in order, its ends lowered by one, its weight the travel all day
+-- so many nodes, all in cell 0; each arc once, in order, its ends lowered by one, its weight the travel all
+-- day
 abbrev pub networkBy : ℕ → ℕ → List Arc → Network
 networkBy number nodes arcs = record {
   number = number;
@@ -71,7 +73,8 @@ module _ (text : List ℕ) (number : ℕ) (before : List ℕ) where
     abbrev file : List ℕ
     file = encode (imported number (k .nodes) (linesOf text))
 
-    told : (after : List ℕ) (r : Writing) → Writes (writtenInto (length file) (length before)) file before after r
+    told : (after : List ℕ) (r : Writing)
+        → Writes (writtenInto (length file) (length before)) file before after r
         → ImportCall text number before after r
     told after r w = rw e w
 
@@ -83,4 +86,5 @@ module _ (text : List ℕ) (number : ℕ) (before : List ℕ) where
         → after ≡ overwritten (encode (imported number (k .nodes) (linesOf text))) before
         → ImportCall text number before after (Written (record { bytes = bytes }))
     import-whole after bytes b m f =
-        rw (b, l) (told after (Written (record { bytes = length file })) (into-whole file before after (rw l at m) f))
+        rw (b, l)
+        (told after (Written (record { bytes = length file })) (into-whole file before after (rw l at m) f))

@@ -1,5 +1,5 @@
--- What an import is good for: where a text is imported, it is one that the wish describes, and opening the file
--- shows each of its arcs once, in order, nodes lowered by one, its weight the travel at every tick
+-- What an import is good for: where a text is imported, it is one that the wish describes, and opening the
+-- file shows each of its arcs once, in order, nodes lowered by one, its weight the travel at every tick
 -- (`imported-opens`); where it is not, the refusal is 35, 36 or 31 (`import-numbers`).
 use mathlib.Core.Path.{_≡_, refl, sym, _∙_, ap, subst, subst⁻¹}
 use mathlib.Core.Logic.{_⊎_, inl, inr}
@@ -41,7 +41,8 @@ use Rattle.dimacs_text.specs.Reading.{begun, readAll, unfinished, judged, judgi
 use Rattle.dimacs_text.specs.Accepted.{RoadText}
 use Rattle.dimacs_text.specs.AcceptedExact.{accepted-exactly}
 use Rattle.dimacs_text.specs.Arcs.{arcsOf, arcAt, Fit, text-arcs, text-fit}
-use Rattle.dimacs_import.specs.Import.{networkBy, imported, importedFile, answerBy, importing, ImportCall}
+use Rattle.dimacs_import.specs.Import.{networkBy, imported, importedFile, answerBy, importing}
+use Rattle.dimacs_import.specs.Import.{ImportCall}
 use Rattle.dimacs_import.specs.Imported.{cell-at, tail-at, head-at, count-at, tick-at, travel-at}
 use Rattle.dimacs_import.specs.Imported.{headerFor, header-is}
 use Rattle.dimacs_import.specs.Sound.{imported-proper, imported-sound, imported-travel}
@@ -56,8 +57,8 @@ pub record OpensTo (number : ℕ) (k : Sizes) (roads : List Arc) (after : Tables
   pub ticks : (i : ℕ) → i < k .arcs → getD (after .ticks) i 0 ≡ 0
   pub travels : (i : ℕ) → i < k .arcs → getD (after .travels) i 0 ≡ arcAt roads i .weight
 
--- a file that shows a text: its sizes and roads, as the wish describes them; these in any tables that are long
--- enough; and each weight as the travel at every tick
+-- a file that shows a text: its sizes and roads, as the wish describes them; these in any tables that are
+-- long enough; and each weight as the travel at every tick
 pub record Shows (text : List ℕ) (number : ℕ) (file : List ℕ) : Type 0 where
   pub sizes : Sizes
   pub roads : List Arc
@@ -68,7 +69,8 @@ pub record Shows (text : List ℕ) (number : ℕ) (file : List ℕ) : Type 0 whe
       → travelAt (decode file) i x ≡ arcAt roads i .weight
 
 -- OPENING the network's file
-entry-kept : (values old : List ℕ) (i : ℕ) → i < length values → getD (overwritten values old) i 0 ≡ getD values i 0
+entry-kept : (values old : List ℕ) (i : ℕ) → i < length values
+    → getD (overwritten values old) i 0 ≡ getD values i 0
 entry-kept values old i l = List·getD-append values _ 0 i l
 
 module _ (number : ℕ) (k : Sizes) (roads : List Arc) (f : Fit k roads) (b : number < 2 ^ 32) where
@@ -149,8 +151,8 @@ module _ (text : List ℕ) (number : ℕ) (before after : List ℕ) (y : Length)
       let file = encode (imported number (k .nodes) (linesOf text)) in
       let a : cond (ltb (length before) (length file)) (Refused (refusal 31 0))
       (Written (record { bytes = length file })) ≡ Written y = sym (c .answer ∙ rw e) in
-      let (_, w) = passed-by (ltb (length before) (length file)) _ _ (Written y) (not-written (refusal 31 0) y)
-      a in
+      let (_, w) =
+      passed-by (ltb (length before) (length file)) _ _ (Written y) (not-written (refusal 31 0) y) a in
       let long : length file ≡ y .bytes = ap (λ (z : Length). z .bytes) (one-length _ y w) in
       let left : after ≡ overwritten file before = c .written ∙ rw e in
       rw left (take-at file _ (y .bytes) long)
@@ -193,5 +195,5 @@ answer-fine (Rejected q) s long room = λ r e. rw (← same-refused q r e) s
 pub import-numbers : (text : List ℕ) (number room : ℕ) (r : Refusal) → importing text number room ≡ Refused r
     → ImportNumber (r .number)
 import-numbers text number room r e =
-    answer-fine (judging text) (judged-sane (readAll begun (linesOf text))) (length (importedFile number text))
-    room r e
+    answer-fine (judging text) (judged-sane (readAll begun (linesOf text)))
+    (length (importedFile number text)) room r e

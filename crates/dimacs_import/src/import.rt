@@ -114,8 +114,8 @@ fn import_sized(text: &[u8], number: u32, k: Sizes, out: &mut [u8]) -> Writing
     Writing::Written(Length { bytes: long as u32 })
 }
 
-// The length of the network's file, with the first lent bytes that file; or a refusal, with every lent byte as
-// it was.
+// The length of the network's file, with the first lent bytes that file; or a refusal, with every lent byte
+// as it was.
 pub fn import_dimacs(text: &[u8], number: u32, out: &mut [u8]) -> Writing
     ensures { λ r. ⌜ ImportCall (now (text .entry)) number (now (out .entry)) (now (out .exit)) r ⌝ }
 {

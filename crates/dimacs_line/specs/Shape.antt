@@ -1,5 +1,5 @@
--- The lines of a DIMACS road file: `c` and anything is a remark, `p sp NODES ARCS` gives the sizes, and
--- `a TAIL HEAD WEIGHT` is an arc; numbers have one to nine digits, leading zeros counted, one space apart, and
+-- The lines of a DIMACS road file: `c` and anything is a remark, `p sp NODES ARCS` gives the sizes, and `a
+-- TAIL HEAD WEIGHT` is an arc; numbers have one to nine digits, leading zeros counted, one space apart, and
 -- nothing stands before or after. `shapeOf` works out which of these a line is.
 use mathlib.Core.Path.{_≡_, refl, sym, _∙_}
 use mathlib.Core.Bool.{Bool, true, false, cond, _&&_}
@@ -96,7 +96,9 @@ starts-alike (b ∷ w) (c ∷ line) l h =
 pub starts-long : (word line : List ℕ) (r : Bool) → r ≡ startsWith word line → r ≡ true
     → length word ≤ length line
 starts-long word line r e f = elim (decLt (length line) (length word)) [
-  | yes l ↦ let z : _≡_ {A = ℕ} 0 1 = true-false (sym f ∙ (e ∙ starts-short word line l)) in absurd (omega arith)
+  | yes l ↦
+      let z : _≡_ {A = ℕ} 0 1 = true-false (sym f ∙ (e ∙ starts-short word line l)) in
+      absurd (omega arith)
   | no l ↦ omega arith
 ]
   where
@@ -110,8 +112,8 @@ whole-tail n line = take-all (length line - n) (drop n line) (omega (arith, leng
 -- the shape of a line by the first test that holds, and by the numbers in the part after the letters
 module _ (line part : List ℕ) (r : Shape) (s : Scan) (c : Bool) (no-remark : c ≡ startsWith (ascii "c") line)
     (passed : c ≡ false) (scan : s ≡ scannedAll 9 fresh part) where
-  pub arc-told : (a : Bool) → a ≡ startsWith (ascii "a ") line → a ≡ true → part ≡ drop 2 line → r ≡ arcShape s
-      → r ≡ shapeOf line
+  pub arc-told : (a : Bool) → a ≡ startsWith (ascii "a ") line → a ≡ true → part ≡ drop 2 line
+      → r ≡ arcShape s → r ≡ shapeOf line
   unfolding shapeOf
   arc-told a e f d g = rw (← no-remark, passed, ← e, f, ← d, ← scan) g
 

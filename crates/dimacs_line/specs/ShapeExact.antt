@@ -164,8 +164,8 @@ module _ (line : List ℕ) where
   sizes-is : (k : Sizes) → shapeOf line ≡ SizesLine k → IsSizes line k
   unfolding shapeOf
   sizes-is k e =
-      go (startsWith (ascii "c") line) (startsWith (ascii "a ") line) (startsWith (ascii "p sp ") line) refl refl
-      refl
+      go (startsWith (ascii "c") line) (startsWith (ascii "a ") line) (startsWith (ascii "p sp ") line)
+      refl refl refl
     where
       not-remark : Remark ≡ SizesLine k → ⊥
       not-remark f = zero-one (cc)

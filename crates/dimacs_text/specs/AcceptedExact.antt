@@ -152,7 +152,8 @@ wrong-lost [] r k n e = ended-wrong r k n (rw (read-none r) at e)
 wrong-lost (line ∷ lines) r k n e =
     by (r .stopped) refl (wrong-lost lines (stepped r (shapeOf line)) k (wrong-kept r (shapeOf line) n))
   where
-    by : (t : Bool) → r .stopped ≡ t → (judged (readAll (stepped r (shapeOf line)) lines) ≡ Accepted k → ⊥) → ⊥
+    by : (t : Bool) → r .stopped ≡ t
+        → (judged (readAll (stepped r (shapeOf line)) lines) ≡ Accepted k → ⊥) → ⊥
     by true s h = stopped-lost r (line ∷ lines) k s e
     by false s h = h (rw (read-line r line lines s) at e)
 
@@ -264,13 +265,15 @@ step-is : (r : Reading) (line : List ℕ) (lines : List (List ℕ)) (shape : Sha
     → readAll r (line ∷ lines) ≡ readAll next lines
 step-is r line lines shape next s e f = read-line r line lines s ∙ rw (e, f)
 
-arcs-accepted : (k : Sizes) (n s : ℕ) (lines : List (List ℕ)) (arcs : List Arc) → ArcLines (k .nodes) lines arcs
-    → s + length arcs ≡ k .arcs → judged (readAll (after n k s) lines) ≡ Accepted k
+arcs-accepted : (k : Sizes) (n s : ℕ) (lines : List (List ℕ)) (arcs : List Arc)
+    → ArcLines (k .nodes) lines arcs → s + length arcs ≡ k .arcs
+    → judged (readAll (after n k s) lines) ≡ Accepted k
 unfolding judged unfinished stepped
 arcs-accepted k n s _ _ none c =
     rw (read-none (after n k s), le-ltb s (k .arcs) (omega arith))
 arcs-accepted k n s _ _ (remark line lines arcs h al) c =
-    ap judged (step-is (after n k s) line lines Remark (after (n + 1) k s) refl (remark-exactly line .1 h) refl)
+    ap judged
+    (step-is (after n k s) line lines Remark (after (n + 1) k s) refl (remark-exactly line .1 h) refl)
     ∙ arcs-accepted k (n + 1) s lines arcs al c
 arcs-accepted k n s _ _ (arc line a lines arcs h f al) c =
     ap judged

@@ -1,5 +1,5 @@
--- The arcs of a text, in the order of its lines, and that an accepted text's are those that it is described by,
--- each fit for a network.
+-- The arcs of a text, in the order of its lines, and that an accepted text's are those that it is described
+-- by, each fit for a network.
 use mathlib.Core.Path.{_≡_, refl, _∙_, ap}
 use mathlib.Core.List.{List, [], _∷_}
 use Prim.Native.Nat.{ℕ, zero, suc, _<_}

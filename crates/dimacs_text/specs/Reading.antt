@@ -1,7 +1,7 @@
 -- The text of a road file, line by line: what the lines so far come to, and the judgement once all are read.
--- 35 is at the first line of no shape, at a second `p` line, at an `a` line that no count of arcs covers, or, at
--- the line count, where the `p` line or arcs are missing. It is judged of the whole text before 36, which is at
--- the first line whose sizes, ends or weight are outside what a network may hold.
+-- 35 is at the first line of no shape, at a second `p` line, at an `a` line that no count of arcs covers, or,
+-- at the line count, where the `p` line or arcs are missing. It is judged of the whole text before 36, which
+-- is at the first line whose sizes, ends or weight are outside what a network may hold.
 use mathlib.Core.Path.{_≡_, refl, sym, _∙_, ap}
 use mathlib.Core.Logic.{_≢_}
 use mathlib.Core.Bool.{Bool, true, false, cond, not, _||_}

@@ -1,5 +1,5 @@
-// The whole text of a road file, line by line: refusal 35 where its form or order is wrong, 36 where a size, an
-// end or a weight is; else its sizes.
+// The whole text of a road file, line by line: refusal 35 where its form or order is wrong, 36 where a size,
+// an end or a weight is; else its sizes.
 use crate::reading::Reading;
 use crate::reading::begun;
 use crate::reading::step;

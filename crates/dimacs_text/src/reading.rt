@@ -17,7 +17,8 @@ const ARCS: u32 = MOST_ARCS as u32;
 const PERIOD: u32 = MOST_PERIOD as u32;
 
 // How many lines have been read, and whether the last of them is refused as 35; whether the sizes have been
-// read, and which they are; how many arcs; and the number of the first line that is to be refused as 36, or 0.
+// read, and which they are; how many arcs; and the number of the first line that is to be refused as 36, or
+// 0.
 pub struct Reading {
     pub lines: usize,
     pub stopped: bool,

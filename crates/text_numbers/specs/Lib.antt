@@ -1,5 +1,5 @@
--- Texts as bytes, and what it is to store one (Text); their lines (Lines); numbers in decimal, printed and read
--- (Number), and one space apart (Spaced), read a byte at a time (Scanning, SpacedExact).
+-- Texts as bytes, and what it is to store one (Text); their lines (Lines); numbers in decimal, printed and
+-- read (Number), and one space apart (Spaced), read a byte at a time (Scanning, SpacedExact).
 pub mod Text
 pub mod Lines
 pub mod Number

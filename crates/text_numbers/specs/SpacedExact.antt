@@ -1,5 +1,5 @@
--- The scan says that a line is numbers one space apart exactly where it is: what it has read of a line that is
--- not ruled out are such numbers (`scanned-spaced`), and up to three of them are read (`spaced-scanned`).
+-- The scan says that a line is numbers one space apart exactly where it is: what it has read of a line that
+-- is not ruled out are such numbers (`scanned-spaced`), and up to three of them are read (`spaced-scanned`).
 use mathlib.Core.Path.{_≡_, refl, sym, _∙_, subst⁻¹}
 use mathlib.Core.Logic.{_≢_}
 use mathlib.Core.Bool.{Bool, true, false, cond, and-eq-true-iff}
@@ -12,10 +12,12 @@ use lib.ListN.{length, length-append}
 use lib.Dec.{eqb, leb}
 use borrow.Author.Tests.{lt-ltb, le-ltb, leb-true, le-leb, eq-eqb, ne-eqb, ltb-true}
 use Rattle.text_numbers.specs.declared.spaced.Scan.{Scan}
-use Rattle.text_numbers.specs.Number.{isDigit, areDigits, valueFrom, valueOf, digits-append, value-append}
+use Rattle.text_numbers.specs.Number.{isDigit, areDigits, valueFrom, valueOf, digits-append}
+use Rattle.text_numbers.specs.Number.{value-append}
 use Rattle.text_numbers.specs.Fold.{folded, folded-append}
 use Rattle.text_numbers.specs.Spaced.{limit, counted, Numeral, Spaced, one, more}
-use Rattle.text_numbers.specs.Scanning.{reading, fresh, ruledOut, oneMore, spaceScanned, digitScanned, scanned, scannedAll, whole}
+use Rattle.text_numbers.specs.Scanning.{reading, fresh, ruledOut, oneMore, spaceScanned}
+use Rattle.text_numbers.specs.Scanning.{digitScanned, scanned, scannedAll, whole}
 
 -- a digit, by its code
 is-digit : (b : ℕ) → 48 ≤ b → b ≤ 57 → isDigit b ≡ true

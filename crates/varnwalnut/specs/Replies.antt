@@ -60,7 +60,8 @@ PackReply h t out₀ out₁ before after returned =
 
 abbrev pub ImportReply : List ℕ → ℕ → List ℕ → List ℕ → List ℕ → List ℕ → ℕ → Type 0
 ImportReply text number out₀ out₁ before after returned =
-    WriteReply (importing text number (length out₀)) (importedFile number text) out₀ out₁ before after returned
+    WriteReply (importing text number (length out₀)) (importedFile number text) out₀ out₁ before after
+    returned
 
 -- Make plan: beside the reply, the work list, and the bytes for the plan's file
 pub record MakeReply (network work₀ work₁ out₀ out₁ before after : List ℕ) (returned : ℕ) : Type 0 where

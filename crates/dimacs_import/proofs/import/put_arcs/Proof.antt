@@ -60,7 +60,8 @@ loop-again c =
     let s = w .before .before .before in (
       search needs,
       put-more (now (s .args .text)) (s .args .l) (now (s .args .out)) (s .pre) (w .loop .at) (w .loop .a) _
-          (w .loop .inv .1) _ (search needs) (c .before .before .before .before .before .line-end .ensures) _ _
+          (w .loop .inv .1) _ (search needs)
+          (c .before .before .before .before .before .line-end .ensures) _ _
           (c .before .before .put-line .ensures),
     )
 

@@ -44,7 +44,8 @@ returns-2 c =
     let a = c .before .before .before in
     let t = a .before .before .before in
     arc-told _ _ _ _ _ (t .before .starts-with .ensures) (t .if1 .left) (c .before .scan-line .ensures) _
-    (a .before .starts-with2 .ensures) (a .if2 .taken) (whole-tail 2 (now (t .before .before .before .before .args .line))) (c .arc-of .ensures)
+    (a .before .starts-with2 .ensures) (a .if2 .taken)
+    (whole-tail 2 (now (t .before .before .before .before .args .line))) (c .arc-of .ensures)
 
 slice-aggregate-starts-with-3 : tie.Need-slice-aggregate-starts-with-3
 slice-aggregate-starts-with-3 c = search needs
