@@ -3,9 +3,9 @@
 -- (`imported-opens`); where it is not, the refusal is 35, 36 or 31 (`import-numbers`).
 use mathlib.Core.Path.{_≡_, refl, sym, _∙_, ap, subst, subst⁻¹}
 use mathlib.Core.Logic.{_⊎_, inl, inr}
-use mathlib.Core.Bool.{Bool, true, false, cond}
-use mathlib.Core.List.{List, [], map}
-use Prim.Native.Nat.{ℕ, _-_, _^_, _≤_, _<_}
+use mathlib.Core.Bool.{false, cond}
+use mathlib.Core.List.{List, map}
+use Prim.Native.Nat.{ℕ, _-_, _^_, _<_}
 use native.Mathlib.Omega.{arith}
 use lib.ListN.{length, getD, take, replicate, List·getD-append, length-map, length-replicate}
 use lib.Seq.{take-at}
@@ -28,7 +28,7 @@ use Rattle.network.specs.Tables.{Tables}
 use Rattle.network.specs.Town.{travelAt}
 use Rattle.network.specs.Valid.{valid-exactly}
 use Rattle.network.specs.Validate.{validated}
-use Rattle.network_open.specs.Open.{tooShort, opening, tablesAfter, OpenCall}
+use Rattle.network_open.specs.Open.{tooShort, tablesAfter, OpenCall}
 use Rattle.network_encode.specs.Encode.{headerOf, encode}
 use Rattle.network_pack.specs.RoundTrip.{decode-encode, encode-valid}
 use Rattle.text_numbers.specs.Lines.{linesOf}
@@ -40,7 +40,7 @@ use Rattle.dimacs_text.specs.declared.reading.Reading.{Reading}
 use Rattle.dimacs_text.specs.Reading.{begun, readAll, unfinished, judged, judging}
 use Rattle.dimacs_text.specs.Accepted.{RoadText}
 use Rattle.dimacs_text.specs.AcceptedExact.{accepted-exactly}
-use Rattle.dimacs_text.specs.Arcs.{arcsOf, arcAt, Fit, text-arcs, text-fit}
+use Rattle.dimacs_text.specs.Arcs.{arcAt, Fit, text-arcs, text-fit}
 use Rattle.dimacs_import.specs.Import.{networkBy, imported, importedFile, answerBy, importing}
 use Rattle.dimacs_import.specs.Import.{ImportCall}
 use Rattle.dimacs_import.specs.Imported.{cell-at, tail-at, head-at, count-at, tick-at, travel-at}

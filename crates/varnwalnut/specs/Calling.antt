@@ -11,7 +11,6 @@ use Rattle.theory_loops.specs.Stores.{stored-front}
 use Rattle.theory_paths.specs.Graph.{Graph, Permit, all}
 use Rattle.file_refusals.specs.Says.{Says, numbersOf}
 use Rattle.network.specs.declared.answer.Opening.{Opening}
-use Rattle.network.specs.declared.header.Header.{Header}
 use Rattle.network.specs.Answer.{openingSays}
 use Rattle.network.specs.Limits.{mostRoads}
 use Rattle.network.specs.Tables.{Tables}
