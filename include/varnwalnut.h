@@ -2,8 +2,9 @@
  * Varnwalnut: routes through small towns whose roads take as long as the hour makes them take.
  *
  * A network file holds a town's places, roads and travels; a plan file holds flags and profiles that make
- * searches short. Each call takes whole files as bytes and validates them first; it reads nothing else, keeps
- * nothing between calls and allocates nothing.
+ * searches short. A network can be imported from a text, and a plan be made of a network. Each call takes
+ * whole files as bytes and validates them first; it reads nothing else, keeps nothing between calls and
+ * allocates nothing.
  *
  * Every function returns 0, or the number of a refusal (below). Every one ends, on any bytes and any numbers,
  * and changes nothing but the buffers that it names as written. These things are proved; so is what each
@@ -15,7 +16,7 @@
  *
  * Threads: the functions have no state and may run at once on any number of threads, also on the same files.
  * Stack: below 24 KB for each function but two: varnwalnut_make_plan needs below 56 KB, and
- * varnwalnut_pack_network about 280 KB.
+ * varnwalnut_pack_network about 280 KB. varnwalnut_import_dimacs needs below 1 KB.
  *
  * Link with libvarnwalnut.a: cc program.c -Iinclude target/staticlib/libvarnwalnut.a
  */
@@ -94,7 +95,11 @@ enum {
 
     /* making a plan */
     VARNWALNUT_PLAN_POINTS = 33,    /* the plan would have more than 1,048,576 profile points */
-    VARNWALNUT_WORK_SHORT = 34      /* the work list is shorter than ticks x places */
+    VARNWALNUT_WORK_SHORT = 34,     /* the work list is shorter than ticks x places */
+
+    /* the import of a text */
+    VARNWALNUT_TEXT_FORM = 35,      /* a line's form or order (line); sizes or arcs are missing (lines) */
+    VARNWALNUT_TEXT_VALUE = 36      /* an arc's ends or weight, or sizes outside the limits (line) */
 };
 
 /*
@@ -193,6 +198,34 @@ uint32_t varnwalnut_pack_network(uint32_t number, uint32_t period, uint32_t plac
                                  const uint16_t *travels, size_t travels_length,
                                  uint8_t *out, size_t out_length,
                                  uint32_t *answer, size_t answer_length);
+
+/*
+ * The network file of a road file in the text form of the 9th DIMACS challenge. The text may be any bytes, of
+ * any length. A line ends at a line feed or with the text; a line feed at the very end begins no further
+ * line. Three kinds of line have a form:
+ *   c..                  a remark: any line whose first byte is c, wherever it stands
+ *   p sp NODES ARCS      the sizes: once, before every arc
+ *   a TAIL HEAD WEIGHT   an arc: as many as ARCS says
+ * Fields are one space apart, and nothing stands before the first or behind the last. A number has 1 to 9
+ * decimal digits, leading zeros counted. NODES is 1 to 512 and ARCS 0 to 2,048; TAIL and HEAD are two
+ * different nodes, numbered from 1, and WEIGHT is 1 to 2,880.
+ *
+ * The network has the number given, the period 2,880, one cell and a place for each node, numbered one lower.
+ * Its roads are the arcs in the order of the text, each with one point: the weight is its travel in ticks, at
+ * every hour. What is written opens.
+ *
+ * answer[0..4]: the places, then the file's length in bytes. Lines are numbered from 1. 35 names the first
+ * line that has no such form, is an arc before the sizes, a second line of sizes, or an arc more than ARCS;
+ * without such a line, where the sizes or some arcs are missing, it names the count of lines. 36 names the
+ * first line with a number outside its limits, equal ends, or an end that is no node; it is said only where
+ * 35 is not. 31: `out` is shorter than the file. A line's number that needs more than 32 bits is told as
+ * 4,294,967,295. On a refusal no byte of `out` changes; else its first bytes become the file and the others
+ * stay. `out` needs at most 23,552 bytes. Refusals: 35, 36, 31, in this order.
+ */
+uint32_t varnwalnut_import_dimacs(const uint8_t *text, size_t text_length,
+                                  uint32_t number,
+                                  uint8_t *out, size_t out_length,
+                                  uint32_t *answer, size_t answer_length);
 
 /*
  * The trips with lent lists. answer[0..5]: the places, then the tick of arrival and the count of roads. Up to

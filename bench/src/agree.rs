@@ -4,8 +4,12 @@ use crate::library;
 use crate::plain::blocks::{sums, BLOCK};
 use crate::plain::network::{self, Header, Tables};
 use crate::plain::trips::{self, Ask};
-use crate::plain::{check, pack, Refusal};
+use crate::plain::{check, import, pack, Refusal};
+use crate::texts::{self, Text};
 use crate::town::{Dice, Town};
+
+/// Refusals are counted by their numbers.
+pub type Seen = [usize; 40];
 
 /// Owned tables for Open.
 #[derive(Clone, PartialEq, Eq, Debug)]
@@ -137,9 +141,9 @@ pub fn mend(file: &mut [u8], block: usize) {
 }
 
 /// The same refusals, of whatever number and places.
-pub fn on_damaged_files(files: &Files, asks: &[Ask], cases: usize) -> [usize; 32] {
+pub fn on_damaged_files(files: &Files, asks: &[Ask], cases: usize) -> Seen {
     let mut dice = Dice::new(4);
-    let mut seen = [0; 32];
+    let mut seen = [0; 40];
     for case in 0..cases {
         let ask = &asks[case % asks.len()];
         let network = damage(&files.network, &mut dice);
@@ -154,15 +158,44 @@ pub fn on_damaged_files(files: &Files, asks: &[Ask], cases: usize) -> [usize; 32
 }
 
 /// The same verdicts of the check, by both plain checks.
-pub fn on_checks(files: &Files, cases: usize) -> [usize; 32] {
+pub fn on_checks(files: &Files, cases: usize) -> Seen {
     let mut dice = Dice::new(5);
-    let mut seen = [0; 32];
+    let mut seen = [0; 40];
     for case in 0..cases {
         let plan = if case == 0 { files.plan.clone() } else { damage(&files.plan, &mut dice) };
         let verdict = library::check_plan(&files.network, &plan);
         assert_eq!(verdict, check::check_swept(&files.network, &plan), "check, swept");
         assert_eq!(verdict, check::check_each_tick(&files.network, &plan), "check at each tick");
         seen[verdict.err().map_or(0, |refusal| refusal.number as usize)] += 1;
+    }
+    seen
+}
+
+fn imports(text: &[u8], room: usize) -> Result<usize, Refusal> {
+    let (mut left, mut ours) = (vec![5; room], vec![5; room]);
+    let long = library::import(text, 20_263, &mut left);
+    assert_eq!(long, import::import(text, 20_263, &mut ours), "import");
+    assert!(left == ours, "bytes of import");
+    long
+}
+
+/// The same files of texts, the same refusals of damaged ones, and of too few bytes.
+pub fn on_texts(all: &[Text], cases: usize) -> Seen {
+    let mut dice = Dice::new(7);
+    let mut seen = [0; 40];
+    let mut see = |outcome: Result<usize, Refusal>| seen[outcome.err().map_or(0, |refusal| refusal.number as usize)] += 1;
+    for text in all {
+        let long = imports(&text.bytes, 30_000).expect("a text that is imported");
+        see(imports(&text.bytes, long));
+        see(imports(&text.bytes, long - 1));
+        for _ in 0..8 {
+            see(imports(&texts::damage(&text.bytes, &mut dice), 30_000));
+        }
+    }
+    for _ in 0..cases {
+        let text = texts::short(&mut dice);
+        let room = dice.within(2_900, 3_900) as usize;
+        see(imports(&texts::damage(&text, &mut dice), room));
     }
     seen
 }

@@ -76,6 +76,15 @@ mod entry {
             answer: *mut u32,
             answer_len: usize,
         ) -> u32;
+        pub fn varnwalnut_import_dimacs(
+            text: *const u8,
+            text_len: usize,
+            number: u32,
+            out: *mut u8,
+            out_len: usize,
+            answer: *mut u32,
+            answer_len: usize,
+        ) -> u32;
         pub fn varnwalnut_plain_trip_lists(
             network: *const u8,
             network_len: usize,
@@ -247,4 +256,12 @@ pub fn pack(header: &Header, lists: &Lists, out: &mut [u8]) -> Result<usize, Ref
         )
     };
     outcome(number, &answer, answer[3] as usize)
+}
+
+pub fn import(text: &[u8], number: u32, out: &mut [u8]) -> Result<usize, Refusal> {
+    let mut answer = [0; 4];
+    let refusal = unsafe {
+        entry::varnwalnut_import_dimacs(text.as_ptr(), text.len(), number, out.as_mut_ptr(), out.len(), answer.as_mut_ptr(), answer.len())
+    };
+    outcome(refusal, &answer, answer[3] as usize)
 }

@@ -14,6 +14,7 @@ mod quay_town;
 mod stack;
 mod suite;
 mod table;
+mod texts;
 mod town;
 
 use suite::{Effort, Subject};
@@ -39,20 +40,27 @@ fn main() {
     machine::print();
     let medium = Subject::new("medium", &town::MEDIUM);
     let full = Subject::new("full", &town::FULL);
+    let texts = texts::all();
     for subject in [&medium, &full] {
         println!("{}", subject.summary());
     }
+    for text in &texts {
+        println!("{}", text.summary);
+    }
     if effort.only.is_empty() {
-        suite::agree(&medium, &full);
+        suite::agree(&medium, &full, &texts);
     }
     println!("{}", table::HEAD);
     for (subject, checks) in [(&medium, effort.rounds / 4 + 1), (&full, effort.checks)] {
         suite::run(subject, &effort, checks);
     }
+    for text in &texts {
+        suite::imports(text, &effort);
+    }
     if effort.only.is_empty() {
         for subject in [&medium, &full] {
             suite::settled(subject);
         }
-        suite::stacks(&full, &medium);
+        suite::stacks(&full, &medium, &texts[2]);
     }
 }

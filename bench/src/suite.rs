@@ -1,9 +1,10 @@
-//! What is measured: each operation on each town, validation and search apart, settled nodes, and stacks.
+//! What is measured: each operation on each town, imports of each text, validation and search apart, settled nodes, and stacks.
 use crate::agree::{self, Opened};
 use crate::files::{self, Files};
 use crate::measure::{interleave, spread, Work};
 use crate::plain::trips::{self, Ask};
-use crate::plain::{check, network, pack, Refusal};
+use crate::plain::{check, import, network, pack, Refusal};
+use crate::texts::Text;
 use crate::town::{self, Dice, Shape, Town};
 use crate::{library, stack, table};
 use std::hint::black_box;
@@ -63,20 +64,21 @@ impl Subject {
 }
 
 /// Nothing is timed before both have answered alike.
-pub fn agree(medium: &Subject, full: &Subject) {
+pub fn agree(medium: &Subject, full: &Subject, texts: &[Text]) {
     for subject in [medium, full] {
         agree::on_tables(&subject.town, &subject.files);
         agree::on_trips(&subject.files, &subject.asks);
     }
     let trips = agree::on_damaged_files(&medium.files, &medium.asks, 2000);
     let checks = agree::on_checks(&medium.files, 12);
+    let imports = agree::on_texts(texts, 20_000);
     // Each ask of each town is a plain and two flagged trips in lists, and a plain and a flagged one in bytes.
-    println!("alike: {} trips; on damaged files and in checks, refusal:times", 5 * ASKS * 2);
-    println!("  files {}\n  checks {}", told(&trips), told(&checks));
+    println!("alike: {} trips; on damaged files, in checks and in imports, refusal:times", 5 * ASKS * 2);
+    println!("  files {}\n  checks {}\n  imports {}", told(&trips), told(&checks), told(&imports));
 }
 
 /// Refusal numbers with how often each occurred.
-fn told(seen: &[usize; 32]) -> String {
+fn told(seen: &agree::Seen) -> String {
     let numbers = seen.iter().enumerate().filter(|(_, &count)| count > 0);
     numbers.map(|(number, count)| format!("{number}:{count}")).collect::<Vec<_>>().join(" ")
 }
@@ -243,6 +245,25 @@ fn check_plans(subject: &Subject, rounds: usize) {
     table::print("check, Rust by tables", subject.name, &library, &swept);
 }
 
+/// One text's rows.
+pub fn imports(text: &Text, effort: &Effort) {
+    if !"import".contains(&effort.only) {
+        return;
+    }
+    let (mut left, mut ours) = (vec![0; 30_000], vec![0; 30_000]);
+    let calls = if text.bytes.len() > 1 << 18 { 4 } else { 64 };
+    let [library, rust] = interleave(
+        effort.rounds,
+        calls,
+        [
+            Box::new(|_| _ = black_box(library::import(&text.bytes, 1, &mut left))),
+            Box::new(|_| _ = black_box(import::import(&text.bytes, 1, &mut ours))),
+        ],
+    );
+    table::print("import", text.name, &library, &rust);
+    table::print_text_rate(text.name, text.bytes.len(), &library, &rust);
+}
+
 /// How many nodes a trip settles before its target: the arrivals that it shows.
 pub fn settled(subject: &Subject) {
     let Files { network, light_plan, .. } = &subject.files;
@@ -257,7 +278,7 @@ pub fn settled(subject: &Subject) {
 }
 
 /// The stack that each call of the library needs, on the full town; the check on the medium one, whose frames are the same.
-pub fn stacks(full: &Subject, medium: &Subject) {
+pub fn stacks(full: &Subject, medium: &Subject, text: &Text) {
     let Files { network, plan, .. } = &full.files;
     let ask = full.asks.iter().find(|ask| ask.from != ask.to).expect("a trip to elsewhere");
     let (header, lists) = (files::header(&full.town), files::lists(&full.town));
@@ -274,4 +295,5 @@ pub fn stacks(full: &Subject, medium: &Subject) {
     println!("  check               {}", stack::need(|| _ = library::check_plan(&medium.files.network, &medium.files.plan)));
     println!("  open                {}", stack::need(|| _ = library::open(network, opened.lend())));
     println!("  pack                {}", stack::need(|| _ = library::pack(&header, &lists, &mut out)));
+    println!("  import              {}", stack::need(|| _ = library::import(&text.bytes, 1, &mut out)));
 }

@@ -34,3 +34,9 @@ pub fn print_rate(town: &str, bytes: usize, library: &Times, rust: &Times) {
     let rate = |times: &Times| format!("{:.1}", bytes as f64 / spread(&times.0).median / 1e9);
     println!("{:24} {town:6} {:26} {}", "  GB/s", rate(library), rate(rust));
 }
+
+/// The same for texts.
+pub fn print_text_rate(text: &str, bytes: usize, library: &Times, rust: &Times) {
+    let rate = |times: &Times| format!("{:.0}", bytes as f64 / spread(&times.0).median / 1e6);
+    println!("{:24} {text:6} {:26} {}", "  MB/s", rate(library), rate(rust));
+}

@@ -15,7 +15,7 @@ pub struct Lists<'a> {
 }
 
 #[inline(always)]
-fn put16(out: &mut [u8], at: usize, value: u16) {
+pub fn put16(out: &mut [u8], at: usize, value: u16) {
     out[at..at + 2].copy_from_slice(&value.to_le_bytes());
 }
 
@@ -56,9 +56,9 @@ pub fn put_first(block: &mut Block, kind: u8, used: usize, put: impl Fn(&mut Blo
     frame(block, 0, kind, 1, used);
 }
 
-fn encode(header: &Header, lists: &Lists, out: &mut [u8]) {
-    let blocks = out.as_chunks_mut().0;
-    put_first(&mut blocks[0], 1, 24, |block| {
+/// The first block of a network's file.
+pub fn put_header(block: &mut Block, header: &Header) {
+    put_first(block, 1, 24, |block| {
         put32(block, 8, header.number);
         let fields = [header.period, header.nodes, header.arcs, header.cells];
         for (k, field) in fields.into_iter().enumerate() {
@@ -66,6 +66,11 @@ fn encode(header: &Header, lists: &Lists, out: &mut [u8]) {
         }
         put32(block, 20, header.points);
     });
+}
+
+fn encode(header: &Header, lists: &Lists, out: &mut [u8]) {
+    let blocks = out.as_chunks_mut().0;
+    put_header(&mut blocks[0], header);
     let (nodes, arcs, points) = (header.nodes as usize, header.arcs as usize, header.points as usize);
     let cells = &lists.cells[..nodes];
     put_run(blocks, 1, CELLS, nodes, |slot: &mut [u8; 2], i| put16(slot, 0, cells[i]));

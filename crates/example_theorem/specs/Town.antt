@@ -66,11 +66,13 @@ use Rattle.text_numbers.specs.Text.{ascii}
 use Rattle.text_numbers.specs.Number.{decimal, digitsOf}
 use Rattle.sheet_line.specs.declared.line.Line.{Line}
 use Rattle.sheet_line.specs.declared.line.Line.the-variants.{Asks, Other}
-use Rattle.sheet_line.specs.Scanning.{scanned, scannedAll, spaceScanned, digitScanned, ended}
+use Rattle.text_numbers.specs.Fold.{folded}
+use Rattle.text_numbers.specs.Scanning.{scanned, spaceScanned, digitScanned, whole}
+use Rattle.sheet_line.specs.Line.{ended}
 use Rattle.sheet_text.specs.Numbers.{spaced}
 use Rattle.sheet_text.specs.Head.{most, headText, verdictText, isAccepted, reads}
 use Rattle.sheet_text.specs.TripText.{lineText, tripText, tripOf, pathFor, askingText, answerText}
-use Rattle.sheet.specs.Lines.{linesOf, linesFrom}
+use Rattle.text_numbers.specs.Lines.{linesOf, linesFrom}
 use Rattle.sheet.specs.Reading.{textsOf}
 use Rattle.sheet.specs.Sheet.{sheetText}
 use Rattle.example_theorem.specs.Files.{networkFile, planFile}
@@ -197,8 +199,8 @@ unfolding allAgree agrees same rows first firstRung select total tab offset line
     tooShortBy travelAt borders isBorder pointStart profileValue decodePlan rules.badProfile
     rules.firstBadPoint rules.judgedTicks rules.judgedSum rules.judgedCounts rules.judgedFlags
     matching fails fails22 given checked tripleRung firstTripleRung asked networkFile planFile summed
-    blank quickFormed headText verdictText isAccepted reads textsOf linesFrom scannedAll scanned
-    spaceScanned digitScanned ended askingText answerText pathFor spaced decimal digitsOf
+    blank quickFormed headText verdictText isAccepted reads textsOf linesFrom folded scanned
+    spaceScanned digitScanned whole ended askingText answerText pathFor spaced decimal digitsOf
 rows-agree = refl
 
 -- THE RULE

@@ -71,3 +71,8 @@ pub const ANSWER_SHORT: u32 = 31;
 pub const PLAN_POINTS: u32 = 33;
 
 pub const WORK_SHORT: u32 = 34;
+
+// A text that is imported.
+pub const TEXT_FORM: u32 = 35;
+
+pub const TEXT_VALUE: u32 = 36;

@@ -67,9 +67,9 @@ PacksTables h t before after r =
     Writes (packedTables h t (length before)) (encode (networkOf h t)) before after r
 
 -- THE CALL: what Pack answers for numbers, tables and lent bytes, and the bytes that it leaves
-pub record PackCall (h : Header) (t : Tables) (before after : List ℕ) (r : Writing) : Type 0 where
-  pub answer : r ≡ packing h t (length before)
-  pub written : after ≡ bytesAfter r (encode (networkOf h t)) before
+abbrev pub PackCall : Header → Tables → List ℕ → List ℕ → Writing → Type 0
+PackCall h t before after r =
+    Writes (packing h t (length before)) (encode (networkOf h t)) before after r
 
 -- FOR THE CODE: 7 to 10
 module _ (file before after : List ℕ) (long room : ℕ) (j k : Judged) (e : j ≡ k) where

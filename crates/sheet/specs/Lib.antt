@@ -1,6 +1,5 @@
--- The lines of an input (Lines), what each byte prints (Reading, ReadingSteps), an input in pieces (Pieces),
--- and the sheet (Sheet).
-pub mod Lines
+-- What each byte of an input prints (Reading, ReadingSteps), an input in pieces (Pieces), and the sheet
+-- (Sheet).
 pub mod Reading
 pub mod ReadingSteps
 pub mod Pieces

@@ -13,11 +13,13 @@ use lib.Seq.{take-nil}
 use lib.Dec.{eqb, leb}
 use borrow.Author.Tests.{le-leb, lt-leb, ne-eqb}
 use Rattle.sheet_line.specs.declared.line.Line.{Line}
-use Rattle.sheet_line.specs.declared.line.Scan.{Scan}
+use Rattle.text_numbers.specs.declared.spaced.Scan.{Scan}
 use Rattle.sheet.specs.declared.reading.Reading.{Reading}
-use Rattle.sheet_line.specs.Scanning.{fresh, scanned, scannedAll, ended, lineOf}
+use Rattle.text_numbers.specs.Lines.{isEmpty, linesFrom}
+use Rattle.text_numbers.specs.Fold.{folded, folded-append}
+use Rattle.text_numbers.specs.Scanning.{fresh, scanned, scannedAll}
+use Rattle.sheet_line.specs.Line.{ended, lineOf}
 use Rattle.sheet_text.specs.Head.{reads}
-use Rattle.sheet.specs.Lines.{isEmpty, linesFrom}
 
 -- how far the input is read before its first byte: where no line is read, as after the 64th
 unfoldable pub beginning : List ℕ → List ℕ → Reading
@@ -29,12 +31,11 @@ unfoldable pub stepped : Reading → ℕ → Reading
 stepped r b =
     cond (leb 64 (r .lines)) r
     (cond (eqb b 10) (record { lines = r .lines + 1; begun = false; scan = fresh })
-    (record { lines = r .lines; begun = true; scan = scanned (r .scan) b }))
+    (record { lines = r .lines; begun = true; scan = scanned 10 (r .scan) b }))
 
 -- the state after bytes of the input, one after the other
-unfoldable pub steppedAll : Reading → List ℕ → Reading
-steppedAll r [] = r
-steppedAll r (b ∷ bs) = steppedAll (stepped r b) bs
+abbrev pub steppedAll : Reading → List ℕ → Reading
+steppedAll r bs = folded stepped r bs
 
 module _ (say : Line → List ℕ) where
   -- what is printed at that byte: at a line feed the text of the line
@@ -70,14 +71,14 @@ more-begun : (w : List ℕ) (b : ℕ) → not (isEmpty (w ++ (b ∷ []))) ≡ tr
 more-begun [] b = refl
 more-begun (a ∷ w) b = refl
 
-more-scanned : (s : Scan) (w : List ℕ) (b : ℕ) → scannedAll s (w ++ (b ∷ [])) ≡ scanned (scannedAll s w) b
-unfolding scannedAll
-more-scanned s [] b = refl
-more-scanned s (a ∷ w) b = more-scanned (scanned s a) w b
+more-scanned : (s : Scan) (w : List ℕ) (b : ℕ)
+    → scannedAll 10 s (w ++ (b ∷ [])) ≡ scanned 10 (scannedAll 10 s w) b
+unfolding folded
+more-scanned s w b = folded-append (scanned 10) s w (b ∷ [])
 
 -- n lines are read, and the bytes w of one more
 abbrev after : ℕ → List ℕ → Reading
-after n w = record { lines = n; begun = not (isEmpty w); scan = scannedAll fresh w }
+after n w = record { lines = n; begun = not (isEmpty w); scan = scannedAll 10 fresh w }
 
 module _ (say : Line → List ℕ) where
   at-end : (n : ℕ) (w : List ℕ) → n < 64
@@ -98,7 +99,7 @@ module _ (say : Line → List ℕ) where
   at-line-feed : (n b : ℕ) (w bs : List ℕ) → n < 64 → b ≡ 10
       → runText say (after (n + 1) []) bs ≡ textsOf say (take (64 - (n + 1)) (linesFrom [] bs))
       → runText say (after n w) (b ∷ bs) ≡ textsOf say (take (64 - n) (linesFrom w (b ∷ bs)))
-  unfolding runText stepText stepped textsOf linesFrom scannedAll
+  unfolding runText stepText stepped textsOf linesFrom folded
   at-line-feed n b w bs l e ih =
       let q : 64 - n ≡ suc (64 - (n + 1)) = omega arith in
       rw (e, lt-leb 64 n l, q) (ap (λ (t : List ℕ). say (lineOf w) ++ t) ih)

@@ -6,11 +6,12 @@ use mathlib.Core.List.{List}
 use Prim.Native.Nat.{ℕ, _+_, _≤_, _<_}
 use borrow.Author.Tests.{le-leb, lt-leb, eq-eqb, ne-eqb}
 use Rattle.sheet_line.specs.declared.line.Line.{Line}
-use Rattle.sheet_line.specs.declared.line.Scan.{Scan}
+use Rattle.text_numbers.specs.declared.spaced.Scan.{Scan}
 use Rattle.sheet.specs.declared.reading.Reading.{Reading}
 use Rattle.text_numbers.specs.Text.{Stored}
 use Rattle.sheet_text.specs.Printed.{mostLine, Printed, printed, printed-none}
-use Rattle.sheet_line.specs.Scanning.{fresh, scanned, ended}
+use Rattle.text_numbers.specs.Scanning.{fresh, scanned}
+use Rattle.sheet_line.specs.Line.{ended}
 use Rattle.sheet_text.specs.Head.{reads}
 use Rattle.sheet.specs.Reading.{beginning, stepped, stepText, endText}
 
@@ -31,7 +32,7 @@ module _ (r : Reading) (b : ℕ) where
   unfolding stepped
   stepped-line s l e f = rw (lt-leb 64 (r .lines) l, eq-eqb b 10 e, f)
 
-  pub stepped-byte : (s : Scan) → r .lines < 64 → (b ≡ 10 → ⊥) → s ≡ scanned (r .scan) b
+  pub stepped-byte : (s : Scan) → r .lines < 64 → (b ≡ 10 → ⊥) → s ≡ scanned 10 (r .scan) b
       → record { lines = r .lines; begun = true; scan = s } ≡ stepped r b
   unfolding stepped
   stepped-byte s l e f = rw (lt-leb 64 (r .lines) l, ne-eqb b 10 e, f)

@@ -7,8 +7,9 @@ use mathlib.Core.List.{List, [], _++_}
 use Prim.Native.Nat.{ℕ}
 use native.Mathlib.Omega.{arith}
 use lib.ListN.{take}
-use Rattle.sheet_line.specs.Scanning.{fresh, scannedAll}
-use Rattle.sheet.specs.Lines.{linesOf}
+use Rattle.text_numbers.specs.Fold.{folded}
+use Rattle.text_numbers.specs.Scanning.{fresh}
+use Rattle.text_numbers.specs.Lines.{linesOf}
 use Rattle.sheet.specs.Reading.{runText, textsOf, reads-lines, full}
 use Rattle.sheet_text.specs.TripText.{lineText}
 use Rattle.sheet_text.specs.Head.{headText, reads}
@@ -23,7 +24,7 @@ sheetText network plan input =
 pub sheet-bytes : (network plan input : List ℕ)
     → headText network plan ++ runText (lineText network plan) (beginning network plan) input
     ≡ sheetText network plan input
-unfolding sheetText beginning scannedAll
+unfolding sheetText beginning folded
 sheet-bytes network plan input = ap (λ (t : List ℕ). headText network plan ++ t) (by (reads network plan))
   where
     by : (b : Bool)

@@ -1,11 +1,12 @@
 // The run sheet, a byte of the input at a time: what is stored at the start, at each byte and at the end is
 // the sheet (specs/Sheet.antt, `sheet-bytes`). Each step stores its text from the first lent byte on. Nothing
 // of the input is kept but a small state, so a line may be of any length.
-use sheet_line::line::Scan;
-use sheet_line::line::fresh;
-use sheet_line::line::scan_byte;
 use sheet_text::answer::put_line;
 use sheet_text::head::put_head;
+use text_numbers::spaced::ANY;
+use text_numbers::spaced::Scan;
+use text_numbers::spaced::fresh;
+use text_numbers::spaced::scan_byte;
 ghost use mathlib.Core.Path.{_≡_};
 ghost use mathlib.Core.Bool.{cond};
 ghost use Prim.Native.Nat.{_≤_};
@@ -84,7 +85,7 @@ pub fn take_byte(network: &[u8], plan: &[u8], reading: Reading, byte: u8, out: &
         reading: Reading {
             lines: reading.lines,
             begun: true,
-            scan: scan_byte(scan, byte),
+            scan: scan_byte(scan, byte, ANY),
         },
         length: 0,
     }

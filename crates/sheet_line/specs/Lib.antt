@@ -1,4 +1,2 @@
--- What a line is (Line), and what its bytes come to one after the other (Scanning, LineExact).
+-- What a line of the run sheet's input asks for.
 pub mod Line
-pub mod Scanning
-pub mod LineExact

@@ -9,8 +9,8 @@ use search_path::answer::Answer;
 use search_path::answer::Arrival;
 use sheet_line::line::Asking;
 use sheet_line::line::Line;
-use sheet_line::line::Scan;
 use sheet_line::line::ended;
+use text_numbers::spaced::Scan;
 use text_numbers::text::end_line;
 use text_numbers::text::put_decimal;
 use text_numbers::text::put_text;
@@ -21,7 +21,7 @@ ghost use lib.ListN.{length, take};
 ghost use Rattle.text_numbers.specs.Text.{Stored, lineFeed, ascii};
 ghost use Rattle.sheet_text.specs.Numbers.{spaced};
 ghost use Rattle.sheet_text.specs.Printed.{mostLine};
-ghost use Rattle.sheet_line.specs.Scanning;
+ghost use Rattle.sheet_line.specs.Line as lines;
 ghost use Rattle.sheet_text.specs.TripText.{askingText, answerText, tripText, lineText};
 ghost use Rattle.search_path.specs.Says.{tripCount};
 ghost use Rattle.network.specs.Limits.{mostRoads};
@@ -107,7 +107,7 @@ fn put_trip(network: &[u8], plan: &[u8], a: Asking, out: &mut [u8]) -> usize
 pub fn put_line(network: &[u8], plan: &[u8], scan: Scan, out: &mut [u8]) -> usize
     requires { ⌜ mostLine ≤ length (now out) ⌝ }
     ensures text { λ r. ⌜ Stored (now (out .entry)) (now (out .exit)) 0 r
-        (lineText (now (network .entry)) (now (plan .entry)) (Scanning.ended scan)) ⌝ }
+        (lineText (now (network .entry)) (now (plan .entry)) (lines.ended scan)) ⌝ }
     ensures room { λ r. ⌜ r ≤ mostLine ⌝ }
 {
     match ended(scan) {

@@ -133,7 +133,7 @@ decimal-some n = by-digits n
 digit-below : (n : ℕ) → n < 10 → isDigit (48 + n) ≡ true
 digit-below n l = rw (le-leb 48 (48 + n) (omega arith), le-leb (48 + n) 57 (omega arith))
 
-digits-append : (w : List ℕ) (b : ℕ) → areDigits w ≡ true → isDigit b ≡ true
+pub digits-append : (w : List ℕ) (b : ℕ) → areDigits w ≡ true → isDigit b ≡ true
     → areDigits (w ++ (b ∷ [])) ≡ true
 unfolding areDigits
 digits-append [] b e f = rw f
@@ -154,7 +154,7 @@ unfolding decimal
 decimal-digits n = are-digits 10 n
 
 -- AND IS READ BACK
-value-append : (v : ℕ) (w : List ℕ) (b : ℕ) → valueFrom v (w ++ (b ∷ [])) ≡ 10 * valueFrom v w + (b - 48)
+pub value-append : (v : ℕ) (w : List ℕ) (b : ℕ) → valueFrom v (w ++ (b ∷ [])) ≡ 10 * valueFrom v w + (b - 48)
 unfolding valueFrom
 value-append v [] b = refl
 value-append v (a ∷ w) b = value-append (10 * v + (a - 48)) w b

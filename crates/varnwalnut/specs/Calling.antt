@@ -11,13 +11,11 @@ use Rattle.theory_loops.specs.Stores.{stored-front}
 use Rattle.theory_paths.specs.Graph.{Graph, Permit, all}
 use Rattle.file_refusals.specs.Says.{Says, numbersOf}
 use Rattle.network.specs.declared.answer.Opening.{Opening}
-use Rattle.network.specs.declared.header.Header.{Header}
 use Rattle.network.specs.Answer.{openingSays}
 use Rattle.network.specs.Limits.{mostRoads}
 use Rattle.network.specs.Tables.{Tables}
 use Rattle.network_open.specs.Open.{OpenCall}
-use Rattle.file_refusals.specs.Writing.{writingSays}
-use Rattle.network_pack.specs.Pack.{PackCall}
+use Rattle.file_refusals.specs.Writing.{writingSays, Writes}
 use Rattle.plan_make.specs.Make.{MakeCall}
 use Rattle.file_refusals.specs.declared.writing.Writing.{Writing}
 use Rattle.search_path.specs.declared.answer.Arrival.{Arrival}
@@ -34,7 +32,7 @@ use Rattle.trip.specs.Calls.{plainAnswer, flaggedAnswer}
 use Rattle.c_replies.specs.Reply.{tripSize, bytes, roadBytes, tripBytes}
 use Rattle.c_replies.specs.Writing.{trip-long}
 use Rattle.varnwalnut.specs.Room.{roomed, kept}
-use Rattle.varnwalnut.specs.Replies.{TripReply, DeskReply, OpenReply, PackReply, MakeReply, TripDesk}
+use Rattle.varnwalnut.specs.Replies.{TripReply, DeskReply, OpenReply, WriteReply, MakeReply, TripDesk}
 
 -- ROOM
 module _ (w room : ℕ) where
@@ -63,7 +61,7 @@ module _ (w : ℕ) (says : Says) (before : List ℕ) (r : ℕ) where
       → after ≡ overwritten (numbersOf says) before → DeskReply w says before after r
   desk-written after l e f = record { code = room-enough w _ _ r l e; numbers = kept-enough w _ before l f }
 
--- OPEN AND PACK: o is what the operation answered, and `after` what was written of it
+-- OPEN: o is what the operation answered, and `after` what was written of it; so below
 module _ (file : List ℕ) (tables₀ : Tables) (before : List ℕ) (r : ℕ) where
   pub open-short : length before < 9 → r ≡ 31 → OpenReply file tables₀ tables₀ before before r
   open-short l e = record { reply = desk-short 9 _ before r l e; written = kept-short 9 _ tables₀ _ l }
@@ -78,14 +76,15 @@ module _ (file : List ℕ) (tables₀ : Tables) (before : List ℕ) (r : ℕ) wh
         written = kept-enough 9 _ tables₀ l (rw q at (c .written));
       }
 
-module _ (h : Header) (t : Tables) (out₀ before : List ℕ) (r : ℕ) where
-  pub pack-short : length before < 4 → r ≡ 31 → PackReply h t out₀ out₀ before before r
-  pack-short l e = record { reply = desk-short 4 _ before r l e; written = kept-short 4 _ out₀ _ l }
+-- PACK AND IMPORT
+module _ (told : Writing) (file out₀ before : List ℕ) (r : ℕ) where
+  pub write-short : length before < 4 → r ≡ 31 → WriteReply told file out₀ out₀ before before r
+  write-short l e = record { reply = desk-short 4 _ before r l e; written = kept-short 4 _ out₀ _ l }
 
-  pub pack-written : (o : Writing) (out₁ after : List ℕ) → 4 ≤ length before
-      → PackCall h t out₀ out₁ o → r ≡ writingSays o .number
-      → after ≡ overwritten (numbersOf (writingSays o)) before → PackReply h t out₀ out₁ before after r
-  pack-written o out₁ after l c e f =
+  pub write-written : (o : Writing) (out₁ after : List ℕ) → 4 ≤ length before
+      → Writes told file out₀ out₁ o → r ≡ writingSays o .number
+      → after ≡ overwritten (numbersOf (writingSays o)) before → WriteReply told file out₀ out₁ before after r
+  write-written o out₁ after l c e f =
       let q = c .answer in
       record {
         reply = rw q at (desk-written 4 (writingSays o) before r after l e f);

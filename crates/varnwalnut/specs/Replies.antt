@@ -16,8 +16,10 @@ use Rattle.network.specs.Tables.{Tables, networkOf}
 use Rattle.network.specs.Town.{graphOf}
 use Rattle.network_open.specs.Open.{opening, tablesAfter}
 use Rattle.network_encode.specs.Encode.{encode}
+use Rattle.file_refusals.specs.declared.writing.Writing.{Writing}
 use Rattle.file_refusals.specs.Writing.{writingSays, bytesAfter}
 use Rattle.network_pack.specs.Pack.{packing}
+use Rattle.dimacs_import.specs.Import.{importing, importedFile}
 use Rattle.plan_made.specs.File.{madeFile}
 use Rattle.plan_make.specs.Make.{making, workAfter}
 use Rattle.search_path.specs.declared.answer.Answer.{Answer}
@@ -46,11 +48,20 @@ pub record OpenReply (file : List ℕ) (tables₀ tables₁ : Tables) (before af
   pub written : tables₁
       ≡ kept 9 (length before) tables₀ (tablesAfter (opening file tables₀) (decode file) tables₀)
 
--- Pack: beside the reply, the bytes for the file of these numbers and tables
-pub record PackReply (h : Header) (t : Tables) (out₀ out₁ before after : List ℕ) (returned : ℕ) : Type 0 where
-  pub reply : DeskReply 4 (writingSays (packing h t (length out₀))) before after returned
-  pub written : out₁ ≡ kept 4 (length before) out₀
-      (bytesAfter (packing h t (length out₀)) (encode (networkOf h t)) out₀)
+-- An operation that writes a file and tells this: beside the reply, the bytes for it
+pub record WriteReply (told : Writing) (file out₀ out₁ before after : List ℕ) (returned : ℕ) : Type 0 where
+  pub reply : DeskReply 4 (writingSays told) before after returned
+  pub written : out₁ ≡ kept 4 (length before) out₀ (bytesAfter told file out₀)
+
+-- Pack, of numbers and tables, and Import, of a text
+abbrev pub PackReply : Header → Tables → List ℕ → List ℕ → List ℕ → List ℕ → ℕ → Type 0
+PackReply h t out₀ out₁ before after returned =
+    WriteReply (packing h t (length out₀)) (encode (networkOf h t)) out₀ out₁ before after returned
+
+abbrev pub ImportReply : List ℕ → ℕ → List ℕ → List ℕ → List ℕ → List ℕ → ℕ → Type 0
+ImportReply text number out₀ out₁ before after returned =
+    WriteReply (importing text number (length out₀)) (importedFile number text) out₀ out₁ before after
+    returned
 
 -- Make plan: beside the reply, the work list, and the bytes for the plan's file
 pub record MakeReply (network work₀ work₁ out₀ out₁ before after : List ℕ) (returned : ℕ) : Type 0 where

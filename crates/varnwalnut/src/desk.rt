@@ -5,6 +5,7 @@ use c_replies::numbers::write_checking;
 use c_replies::numbers::write_lists;
 use c_replies::numbers::write_opening;
 use c_replies::numbers::write_writing;
+use dimacs_import::import::import_dimacs;
 use file_refusals::number::ANSWER_SHORT;
 use network_open::open::open_network;
 use network_pack::pack::pack_network;
@@ -16,7 +17,7 @@ ghost use Rattle.network.specs.Tables.{tables};
 ghost use Rattle.network_pack.specs.Pack.{numbers};
 ghost use Rattle.plan_check.specs.CheckPlan.{checking as checkingOf};
 ghost use Rattle.plan_check.specs.Answer.{checkingSays};
-ghost use Rattle.varnwalnut.specs.Replies.{DeskReply, OpenReply, PackReply, MakeReply};
+ghost use Rattle.varnwalnut.specs.Replies.{DeskReply, OpenReply, PackReply, ImportReply, MakeReply};
 ghost use Rattle.varnwalnut.specs.Replies.{PlainDesk, FlaggedDesk};
 
 // Is the plan one that the flagged trips of the network may trust?
@@ -103,6 +104,23 @@ pub extern "C" fn varnwalnut_pack_network(
         ),
         answer,
     )
+}
+
+// The file of the network that a DIMACS road file gives, and its length.
+#[no_mangle]
+pub extern "C" fn varnwalnut_import_dimacs(
+    text: &[u8],
+    number: u32,
+    out: &mut [u8],
+    answer: &mut [u32],
+) -> u32
+    ensures { λ r. ⌜ ImportReply (now (text .entry)) number (now (out .entry)) (now (out .exit))
+        (now (answer .entry)) (now (answer .exit)) r ⌝ }
+{
+    if answer.len() < 4 {
+        return ANSWER_SHORT;
+    }
+    write_writing(import_dimacs(text, number, out), answer)
 }
 
 // The file of the plan that is made of a network, and its length.

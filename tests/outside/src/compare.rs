@@ -1,6 +1,8 @@
-//! One input through all eight functions: the reference predicts the returned number, the answer and every
-//! entry of lent memory, and each difference becomes a line of text.
+//! One input through all eight functions that work on networks: the reference predicts the returned number,
+//! the answer and every entry of lent memory, and each difference becomes a line of text. The import has
+//! inputs of its own.
 
+mod import;
 mod make_plan;
 
 use crate::input::Input;
@@ -13,6 +15,7 @@ use crate::reference::trips::{flagged_trip, plain_trip, ListLengths, Trip, TripC
 use crate::reference::{check, refuse, Refusal};
 use std::rc::Rc;
 
+pub use import::{compare_import, ImportCall, Imported};
 pub use make_plan::PlannerLengths;
 
 /// What the reference says of one operation: nothing refused, or which refusal.
@@ -20,7 +23,7 @@ pub type Predicted = Option<Refusal>;
 
 /// All operations on one input.
 pub struct Verdict {
-    pub predicted: [Predicted; COUNT],
+    pub predicted: [Predicted; ON_NETWORKS],
     pub differences: Vec<String>,
     /// The reference's reading of the files, for the oracles.
     pub opened: Result<Network, Refusal>,

@@ -4,13 +4,18 @@
 //! pack's out-bytes, open's six tables and pack's six; the network's length and the plan's; the lengths of
 //! the planner's work list, out-bytes and answer. A file that starts with VWC1 is older and without the last
 //! three: there they are one entry more than the network needs.
+//!
+//! Texts for the import are kept there too, written by hand. Such a file is a line with VWD1 and six decimal
+//! numbers, one space apart, and then the text's bytes. The numbers: network number, lengths of the out-bytes
+//! and of the answer; and what the wish's words lead to: the refusal or 0, its line and the file's length.
 
-use crate::compare::{compare, Verdict};
+use crate::compare::{compare, compare_import, ImportCall, Verdict};
 use crate::input::{Input, Lengths, NO_LISTS};
-use crate::library::{MAKE_ANSWER, OPERATIONS};
+use crate::library::{import_dimacs, MAKE_ANSWER, ON_NETWORKS};
 use crate::reference::make_plan::MakeLengths;
 use crate::reference::network::Header;
 use crate::reference::trips::TripCall;
+use crate::reference::Refusal;
 use std::path::{Path, PathBuf};
 use std::{fs, io};
 
@@ -18,6 +23,7 @@ const MAGIC: &[u8; 4] = b"VWC2";
 const NUMBERS: usize = 34;
 const OLDER_MAGIC: &[u8; 4] = b"VWC1";
 const OLDER_NUMBERS: usize = 31;
+const TEXT_MAGIC: &[u8; 5] = b"VWD1 ";
 /// No lent list of a corpus file is longer: a plan's most bytes and some.
 const MOST_LENGTH: u32 = 8_000_000;
 
@@ -112,19 +118,62 @@ fn lengths_of(numbers: &[u32]) -> Option<Lengths> {
     })
 }
 
-/// The corpus files of a folder by name; what is no corpus file is named and left out.
-pub fn read_folder(folder: &Path) -> io::Result<Vec<(PathBuf, Input)>> {
+/// A kept text, the call it is for, and the outcome by hand.
+struct KeptText {
+    text: Vec<u8>,
+    number: u32,
+    out: usize,
+    answer: usize,
+    refused: Option<Refusal>,
+    length: usize,
+}
+
+fn text_from_bytes(bytes: &[u8]) -> Option<KeptText> {
+    let rest = bytes.strip_prefix(TEXT_MAGIC)?;
+    let end = rest.iter().position(|&byte| byte == b'\n')?;
+    let head = std::str::from_utf8(&rest[..end]).ok()?;
+    let numbers: Option<Vec<u32>> = head.split(' ').map(|number| number.parse().ok()).collect();
+    let [number, out, answer, refusal, line, length] = numbers?.try_into().ok()?;
+    Some(KeptText {
+        text: rest[end + 1..].to_vec(),
+        number,
+        out: out as usize,
+        answer: answer as usize,
+        refused: (refusal != 0).then_some(Refusal { number: refusal, places: [line, 0, 0] }),
+        length: length as usize,
+    })
+}
+
+fn files_of(folder: &Path) -> io::Result<Vec<PathBuf>> {
     let mut paths: Vec<PathBuf> =
         fs::read_dir(folder)?.map(|entry| entry.map(|entry| entry.path())).collect::<Result<_, _>>()?;
     paths.sort();
+    Ok(paths)
+}
+
+/// The inputs kept in a folder, by name. Texts are left out, and what is no corpus file is named.
+pub fn read_folder(folder: &Path) -> io::Result<Vec<(PathBuf, Input)>> {
     let mut inputs = Vec::new();
-    for path in paths {
-        match from_bytes(&fs::read(&path)?) {
+    for path in files_of(folder)? {
+        let bytes = fs::read(&path)?;
+        match from_bytes(&bytes) {
             Some(input) => inputs.push((path, input)),
+            None if text_from_bytes(&bytes).is_some() => {}
             None => println!("{}: no corpus file", path.display()),
         }
     }
     Ok(inputs)
+}
+
+/// The texts kept in a folder, by name.
+fn read_texts(folder: &Path) -> io::Result<Vec<(PathBuf, KeptText)>> {
+    let mut texts = Vec::new();
+    for path in files_of(folder)? {
+        if let Some(text) = text_from_bytes(&fs::read(&path)?) {
+            texts.push((path, text));
+        }
+    }
+    Ok(texts)
 }
 
 /// Runs every file of a folder through all functions; prints each one's refusals and returns the differences.
@@ -139,11 +188,32 @@ pub fn replay(folder: &Path) -> io::Result<u64> {
             differences += 1;
         }
     }
-    println!("outside: {} files, {differences} differences", inputs.len());
+    let texts = read_texts(folder)?;
+    for (path, kept) in &texts {
+        let (refusal, line) = kept.refused.map_or((0, 0), |refusal| (refusal.number, refusal.places[0]));
+        println!("{} {refusal} {line} {}", path.display(), kept.length);
+        for text in import_differences(kept) {
+            println!("DIFFERENCE {}: {text}", path.display());
+            differences += 1;
+        }
+    }
+    println!("outside: {} files, {differences} differences", inputs.len() + texts.len());
     Ok(differences)
+}
+
+fn import_differences(kept: &KeptText) -> Vec<String> {
+    let KeptText { text, number, out, answer, .. } = kept;
+    let call = ImportCall { text, behind: b"", number: *number, out: *out, answer: *answer };
+    let imported = compare_import(import_dimacs(), call);
+    let mut differences = imported.differences;
+    let (predicted, length) = (imported.predicted, imported.file.len());
+    if predicted != kept.refused || length != kept.length {
+        differences.push(format!("the reference gives {predicted:?}, {length} bytes"));
+    }
+    differences
 }
 
 /// The eight operations' refusals, in order.
 fn refusals(verdict: &Verdict) -> String {
-    (0..OPERATIONS.len()).map(|operation| verdict.refusal(operation).to_string()).collect::<Vec<_>>().join(" ")
+    (0..ON_NETWORKS).map(|operation| verdict.refusal(operation).to_string()).collect::<Vec<_>>().join(" ")
 }

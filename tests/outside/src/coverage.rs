@@ -5,8 +5,8 @@
 use crate::library::*;
 use crate::oracle::{Unlike, RULES};
 
-/// Refusals up to 34; 32 is the run sheet's.
-const NUMBERS: usize = 35;
+/// Refusals up to 36; 32 is the run sheet's.
+const NUMBERS: usize = 37;
 
 pub struct Coverage {
     alone: [[u64; NUMBERS]; COUNT],
@@ -118,7 +118,7 @@ fn can_take_another_way(trip: usize, rule: usize) -> bool {
 
 /// The refusals an operation can give. The trips called from C have a fresh list of 512 arrivals, never
 /// shorter than N (no 27), and 1,032 answer bytes hold the 511 roads of the longest way there can be (no 29).
-/// 31 is an answer list that is too short, for pack and the planner also the out-bytes.
+/// 31 is an answer list that is too short, for pack, the planner and the import also the out-bytes.
 fn possible(operation: usize) -> Vec<u32> {
     let network = 1..=10;
     let plan = 11..=19;
@@ -130,7 +130,8 @@ fn possible(operation: usize) -> Vec<u32> {
         FLAGGED => network.chain(plan).chain([25, 26, 28, 31]).collect(),
         PLAIN_LISTS => network.chain(25..=29).chain([31]).collect(),
         FLAGGED_LISTS => network.chain(plan).chain(25..=29).chain([31]).collect(),
-        _ => network.chain([31, 33, 34]).collect(),
+        MAKE => network.chain([31, 33, 34]).collect(),
+        _ => vec![31, 35, 36],
     }
 }
 

@@ -9,7 +9,7 @@ use crate::corpus::{read_folder, to_bytes};
 use crate::damage::{flip, mend_all, zero_for_all_ones};
 use crate::generate::Size;
 use crate::input::Input;
-use crate::library::{FLAGGED_LISTS, OPERATIONS, PLAIN_LISTS};
+use crate::library::{FLAGGED_LISTS, ON_NETWORKS, PLAIN_LISTS};
 use crate::oracle::unlike;
 use crate::quay;
 use crate::reference::blocks::BLOCK;
@@ -162,7 +162,7 @@ fn quay_call(rng: &mut Rng) -> Input {
 
 /// 0, 1 and more are told apart: what matters of a place is whether it was the first.
 fn combinations(input: &Input, verdict: &Verdict) -> Vec<Reached> {
-    (0..OPERATIONS.len())
+    (0..ON_NETWORKS)
         .map(|operation| match verdict.predicted[operation] {
             Some(refusal) => (operation, refusal.number, refusal.places[0].min(2), refusal.places[1].min(1)),
             None => (operation, 0, rules_told(operation, input, verdict), 0),

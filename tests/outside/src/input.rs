@@ -1,5 +1,6 @@
-//! One input for all eight functions: two files, the numbers of a call, and how long each lent list is.
-//! What pack gets is read out of the network file without judging it, so that every damage reaches pack too.
+//! One input for the eight functions on networks: two files, the numbers of a call, and how long each lent
+//! list is. What pack gets is read out of the network file without judging it, so that every damage reaches
+//! pack too.
 
 use crate::library::{CHECK_ANSWER, LISTS_ANSWER, MAKE_ANSWER, OPEN_ANSWER, PACK_ANSWER, TRIP_ANSWER_BYTES};
 use crate::made;

@@ -1,5 +1,6 @@
 //! The C functions under test, as the engine's C interface names them. A slice passes as a pointer and a count
-//! of elements; pointers are never null, also where the count is 0.
+//! of elements; pointers are never null, also where the count is 0. The import is linked only if the feature
+//! `import` is on.
 
 // Each slice on a line of its own, as the C interface lists them.
 #[rustfmt::skip]
@@ -71,8 +72,39 @@ extern "C" {
     ) -> u32;
 }
 
-/// The operations in the order of the tables printed at the end.
-pub const COUNT: usize = 8;
+/// The import's C function, or one that stands in for it.
+#[rustfmt::skip]
+pub type Import = unsafe extern "C" fn(
+    text: *const u8, text_length: usize,
+    number: u32,
+    out: *mut u8, out_length: usize,
+    answer: *mut u32, answer_length: usize,
+) -> u32;
+
+/// The library's import, where it is linked.
+#[cfg(feature = "import")]
+pub fn import_dimacs() -> Option<Import> {
+    #[rustfmt::skip]
+    extern "C" {
+        fn varnwalnut_import_dimacs(
+            text: *const u8, text_length: usize,
+            number: u32,
+            out: *mut u8, out_length: usize,
+            answer: *mut u32, answer_length: usize,
+        ) -> u32;
+    }
+    Some(varnwalnut_import_dimacs)
+}
+
+#[cfg(not(feature = "import"))]
+pub fn import_dimacs() -> Option<Import> {
+    None
+}
+
+/// The operations in the order of the tables printed at the end. All but the last take a network's file or
+/// its tables, and are tried together; the import takes a text.
+pub const COUNT: usize = 9;
+pub const ON_NETWORKS: usize = 8;
 pub const OPERATIONS: [&str; COUNT] = [
     "open_network",
     "pack_network",
@@ -82,6 +114,7 @@ pub const OPERATIONS: [&str; COUNT] = [
     "plain_trip_lists",
     "flagged_trip_lists",
     "make_plan",
+    "import_dimacs",
 ];
 pub const OPEN: usize = 0;
 pub const PACK: usize = 1;
@@ -91,6 +124,7 @@ pub const FLAGGED: usize = 4;
 pub const PLAIN_LISTS: usize = 5;
 pub const FLAGGED_LISTS: usize = 6;
 pub const MAKE: usize = 7;
+pub const IMPORT: usize = 8;
 
 /// "Below 1,032 bytes it gives 31 before all else".
 pub const TRIP_ANSWER_BYTES: usize = 1_032;
@@ -100,3 +134,4 @@ pub const PACK_ANSWER: usize = 4;
 pub const CHECK_ANSWER: usize = 3;
 pub const LISTS_ANSWER: usize = 5;
 pub const MAKE_ANSWER: usize = 4;
+pub const IMPORT_ANSWER: usize = 4;

@@ -54,6 +54,13 @@ impl<T: Entry> Lent<T> {
         Lent::around(entries.len(), shift, |place| entries[place])
     }
 
+    /// A list to be read with `behind` right after it, which belongs to the guard.
+    pub fn followed(entries: &[T], behind: &[T], shift: usize) -> Lent<T> {
+        let whole = entries.len() + behind.len();
+        let inside = |place: usize| *entries.get(place).unwrap_or_else(|| &behind[place - entries.len()]);
+        Lent { length: entries.len(), ..Lent::around(whole, shift, inside) }
+    }
+
     fn around(length: usize, shift: usize, inside: impl Fn(usize) -> T) -> Lent<T> {
         let start = GUARD + shift;
         let mut whole = Vec::with_capacity(start + length + GUARD);

@@ -1,16 +1,19 @@
 //! Goes through the cases of a run: the valid case, one fault, another, and both at once, each through all
-//! functions and, where the town is small enough, past the oracles. Towns made on purpose are cases too.
+//! functions and, where the town is small enough, past the oracles. Towns made on purpose are cases too, and
+//! so are the texts for the import.
 
+mod texts;
 mod tie_town;
 mod town;
 
 use crate::case::{generate, Case};
 use crate::compare::{compare, compare_all_trips, Verdict};
 use crate::coverage::Coverage;
-use crate::damage::{damaged, Fault, Intended, Kind};
+use crate::damage::{self, damaged, Fault, Intended, Kind};
 use crate::generate::Size;
+use crate::import;
 use crate::input::Input;
-use crate::library::OPERATIONS;
+use crate::library::{import_dimacs, Import, ON_NETWORKS, OPERATIONS};
 use crate::made::Written;
 use crate::oracle::{judge_chosen_ways, judge_flags_by_ways, judge_made_plan, judge_plan};
 use crate::oracle::{judge_ways_with_waits, trips_are_plain, unlike};
@@ -26,10 +29,14 @@ pub enum Series {
     Towns,
     /// Towns made on purpose for the ways chosen on a tie, whatever the seed.
     Ways,
+    /// Texts made on purpose for the import, whatever the seed.
+    Texts,
+    Imports,
 }
 
 impl Series {
-    pub const ALL: [Series; 4] = [Series::Small, Series::Large, Series::Towns, Series::Ways];
+    pub const ALL: [Series; 6] =
+        [Series::Small, Series::Large, Series::Towns, Series::Ways, Series::Texts, Series::Imports];
 
     pub fn letter(self) -> char {
         match self {
@@ -37,15 +44,18 @@ impl Series {
             Series::Large => 'l',
             Series::Towns => 't',
             Series::Ways => 'w',
+            Series::Texts => 'd',
+            Series::Imports => 'i',
         }
     }
 
-    /// How many towns there are, in a series of towns made on purpose.
+    /// How many towns or texts there are, in a series of those made on purpose.
     pub fn made_on_purpose(self) -> Option<u64> {
         match self {
-            Series::Small | Series::Large => None,
+            Series::Small | Series::Large | Series::Imports => None,
             Series::Towns => Some(towns::COUNT),
             Series::Ways => Some(towns::ties::COUNT),
+            Series::Texts => Some((import::by_hand::COUNT + import::every::COUNT) as u64),
         }
     }
 }
@@ -83,16 +93,24 @@ impl CaseName {
     }
 
     fn stream(self) -> u64 {
-        self.number << 1 | u64::from(self.series == Series::Large)
+        match self.series {
+            Series::Imports => self.number | 1 << 63,
+            _ => self.number << 1 | u64::from(self.series == Series::Large),
+        }
     }
 }
 
 /// One run of cases under one seed.
 pub struct Runner {
     pub seed: u64,
-    pub kinds: Vec<Kind>,
     pub coverage: Coverage,
     pub differences: u64,
+    kinds: Vec<Kind>,
+    text_kinds: Vec<import::damage::Kind>,
+    /// The import under test. Without one the reference alone is held to what is known of the texts.
+    import: Option<Import>,
+    /// It is a stand-in: its differences are wanted, so they are not printed, and the library is left alone.
+    stands_in: bool,
 }
 
 /// What is being tried, and where its differences go.
@@ -108,7 +126,7 @@ const MOST_PRINTED: u64 = 200;
 impl Trial<'_> {
     fn differ(&mut self, text: &str) {
         self.runner.differences += 1;
-        if self.runner.differences > MOST_PRINTED {
+        if self.runner.differences > MOST_PRINTED || self.runner.stands_in {
             return;
         }
         println!("DIFFERENCE --seed {} --only {} ({}): {text}", self.runner.seed, self.name, self.what);
@@ -172,10 +190,30 @@ fn written_by(verdict: &Verdict) -> Option<&Written> {
 }
 
 impl Runner {
+    pub fn new(seed: u64) -> Runner {
+        Runner {
+            seed,
+            coverage: Coverage::default(),
+            differences: 0,
+            kinds: damage::kinds(),
+            text_kinds: import::damage::kinds(),
+            import: import_dimacs(),
+            stands_in: false,
+        }
+    }
+
+    /// Tries a stand-in for the library's import.
+    pub fn stand_in(&mut self, import: Import) {
+        self.import = Some(import);
+        self.stands_in = true;
+    }
+
     pub fn run(&mut self, name: CaseName) {
         match name.series {
             Series::Towns => self.run_town(name),
             Series::Ways => self.run_tie_town(name),
+            Series::Texts => self.run_text(name),
+            Series::Imports => self.run_import(name),
             Series::Small | Series::Large => self.run_generated(name),
         }
     }
@@ -258,7 +296,7 @@ impl Runner {
             }
         }
         self.count_ties(case, &verdict);
-        for operation in 0..OPERATIONS.len() {
+        for operation in 0..ON_NETWORKS {
             self.coverage.alone(operation, verdict.refusal(operation));
         }
         verdict
@@ -291,7 +329,7 @@ impl Runner {
                 trial.differ(&format!("the reference gives {given} for {}, meant {refusals:?}", OPERATIONS[operation]));
             }
         }
-        for operation in 0..OPERATIONS.len() {
+        for operation in 0..ON_NETWORKS {
             let refusal = verdict.refusal(operation);
             if refusal != 0 {
                 self.coverage.alone(operation, refusal);
@@ -317,7 +355,7 @@ impl Runner {
         if singles.iter().any(|(single, _)| *single == input) {
             return;
         }
-        for operation in 0..OPERATIONS.len() {
+        for operation in 0..ON_NETWORKS {
             let refusal = verdict.refusal(operation);
             if refusal != 0 && singles.iter().all(|(_, single)| single.refusal(operation) != 0) {
                 self.coverage.with_second(operation, refusal);

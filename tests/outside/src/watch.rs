@@ -7,7 +7,7 @@ use std::io::Write;
 use std::sync::atomic::{AtomicU64, Ordering};
 use std::time::Duration;
 
-pub const MOST_THREADS: usize = 64;
+const MOST_THREADS: usize = 64;
 
 static SEED: AtomicU64 = AtomicU64::new(0);
 /// What each thread is at: 0 for nothing, else a case as `number_of` tells it.
@@ -39,6 +39,11 @@ pub fn start(seed: u64) {
         usual(panic);
     }));
     std::thread::spawn(watch);
+}
+
+/// As many as there are cores.
+pub fn threads() -> usize {
+    std::thread::available_parallelism().map_or(1, |cores| cores.get().min(MOST_THREADS))
 }
 
 /// A case as one number that is not 0; `name_of` is the way back.

@@ -1,25 +1,21 @@
 -- `sheet_line::line::ended` meets its contract.
 use borrow.Author.Tests.{not-true, not-false}
 use Rattle.theory_loops.specs.Pick.{picks}
-use Rattle.sheet_line.specs.Scanning.{ended}
+use borrow.Author.Needs.{needs}
+use Rattle.sheet_line.specs.Line.{ended}
 use Rattle.sheet_line.proofs.line.ended.Statement.{statement}
 use Rattle.sheet_line.proofs.line.ended.Tie as tie
 
+is-whole-requires : tie.Need-is-whole-requires
+is-whole-requires c κs = search needs
+
 returns : tie.Need-returns
 unfolding ended
-returns c = search (picks, not-true, not-false) depth 8
+returns c = search (picks, not-true, not-false) depth 6
 
 returns-2 : tie.Need-returns-2
 unfolding ended
-returns-2 c = search (picks, not-true, not-false) depth 8
-
-returns-3 : tie.Need-returns-3
-unfolding ended
-returns-3 c = search (picks, not-true, not-false) depth 8
-
-returns-4 : tie.Need-returns-4
-unfolding ended
-returns-4 c = search (picks, not-true, not-false) depth 8
+returns-2 c = search (picks, not-true, not-false) depth 6
 
 pub ended-spec : {M : Type 1} → statement M
-ended-spec = tie.close (tie.spec returns returns-2 returns-3 returns-4)
+ended-spec = tie.close (tie.spec is-whole-requires returns returns-2)

@@ -1,0 +1,90 @@
+-- Import: the network that a text gives, the answer for any text, network number and lent bytes, and the
+-- call.
+use mathlib.Core.Path.{_≡_, refl, sym, _∙_}
+use mathlib.Core.List.{List, [], map}
+use Prim.Native.Nat.{ℕ, _-_, _≤_, _<_}
+use lib.ListN.{length, replicate}
+use Rattle.theory_loops.specs.Fill.{overwritten}
+use Rattle.file_refusals.specs.declared.Refusal.{Refusal}
+use Rattle.file_refusals.specs.declared.writing.Writing.{Writing}
+use Rattle.file_refusals.specs.declared.writing.Writing.the-variants.{Written, Refused}
+use Rattle.file_refusals.specs.Writing.{unwritten, writtenInto, Writes, into-short, into-whole}
+use Rattle.network.specs.Limits.{mostPeriod}
+use Rattle.network.specs.Network.{Network}
+use Rattle.network_encode.specs.Encode.{encode}
+use Rattle.text_numbers.specs.Lines.{linesOf}
+use Rattle.dimacs_line.specs.declared.line.Sizes.{Sizes}
+use Rattle.dimacs_line.specs.declared.line.Arc.{Arc}
+use Rattle.dimacs_text.specs.declared.judge.Judgement.{Judgement}
+use Rattle.dimacs_text.specs.declared.judge.Judgement.the-variants.{Accepted, Refused as Rejected}
+use Rattle.dimacs_text.specs.Reading.{judging}
+use Rattle.dimacs_text.specs.Arcs.{arcsOf}
+
+-- so many nodes, all in cell 0; each arc once, in order, its ends lowered by one, its weight the travel all
+-- day
+abbrev pub networkBy : ℕ → ℕ → List Arc → Network
+networkBy number nodes arcs = record {
+  number = number;
+  period = mostPeriod;
+  cells = 1;
+  cellOf = replicate nodes 0;
+  tails = map (λ (a : Arc). a .tail - 1) arcs;
+  heads = map (λ (a : Arc). a .head - 1) arcs;
+  counts = replicate (length arcs) 1;
+  ticks = replicate (length arcs) 0;
+  travels = map (λ (a : Arc). a .weight) arcs;
+}
+
+-- the network of a text's lines
+abbrev pub imported : ℕ → ℕ → List (List ℕ) → Network
+imported number nodes lines = networkBy number nodes (arcsOf lines)
+
+-- its file; a text that is refused has none
+abbrev pub fileBy : Judgement → ℕ → List ℕ → List ℕ
+fileBy (Accepted k) number text = encode (imported number (k .nodes) (linesOf text))
+fileBy (Rejected r) number text = []
+
+abbrev pub importedFile : ℕ → List ℕ → List ℕ
+importedFile number text = fileBy (judging text) number text
+
+-- the answer: 35 and 36 by the text alone, then 31
+abbrev pub answerBy : Judgement → ℕ → ℕ → Writing
+answerBy (Accepted k) long room = writtenInto long room
+answerBy (Rejected r) long room = Refused r
+
+abbrev pub importing : List ℕ → ℕ → ℕ → Writing
+importing text number room = answerBy (judging text) (length (importedFile number text)) room
+
+-- THE CALL: what Import answers, and the bytes that it leaves
+abbrev pub ImportCall : List ℕ → ℕ → List ℕ → List ℕ → Writing → Type 0
+ImportCall text number before after r =
+    Writes (importing text number (length before)) (importedFile number text) before after r
+
+-- FOR THE CODE: a text that is refused; 31; and the file written
+module _ (text : List ℕ) (number : ℕ) (before : List ℕ) where
+  pub import-refused : (j : Judgement) (q : Refusal) → j ≡ judging text → j ≡ Rejected q
+      → ImportCall text number before before (Refused q)
+  import-refused j q e f =
+      let g : judging text ≡ Rejected q = sym e ∙ f in
+      record { answer = rw g; written = refl }
+
+  module _ (k : Sizes) (e : judging text ≡ Accepted k) (long : ℕ)
+      (l : long ≡ length (encode (imported number (k .nodes) (linesOf text)))) where
+    abbrev file : List ℕ
+    file = encode (imported number (k .nodes) (linesOf text))
+
+    told : (after : List ℕ) (r : Writing)
+        → Writes (writtenInto (length file) (length before)) file before after r
+        → ImportCall text number before after r
+    told after r w = rw e w
+
+    pub import-short : (r : Writing) → length before < long → r ≡ unwritten 31
+        → ImportCall text number before before r
+    import-short r m f = told before r (into-short file before r (rw l at m) f)
+
+    pub import-whole : (after : List ℕ) (bytes : ℕ) → bytes ≡ long → long ≤ length before
+        → after ≡ overwritten (encode (imported number (k .nodes) (linesOf text))) before
+        → ImportCall text number before after (Written (record { bytes = bytes }))
+    import-whole after bytes b m f =
+        rw (b, l)
+        (told after (Written (record { bytes = length file })) (into-whole file before after (rw l at m) f))

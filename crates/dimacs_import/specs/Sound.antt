@@ -1,0 +1,158 @@
+-- The network of an accepted text fits its file's fields (`imported-proper`) and meets the rules 7 to 10
+-- (`imported-sound`); an arc's travel is its weight at every tick (`imported-travel`).
+use mathlib.Core.Path.{_≡_, refl, sym, _∙_, ap, subst}
+use mathlib.Core.List.{List, map}
+use Prim.Native.Nat.{ℕ, zero, suc, _+_, _-_, _^_, _≤_, _<_}
+use native.Mathlib.Decide.{decLt}
+use native.Mathlib.Omega.{arith}
+use lib.ListN.{length, getD, replicate, length-map, length-replicate, getD-replicate, List·getD-eq-default}
+use lib.Dec.{lit≤}
+use Rattle.theory_loops.specs.Total.{total}
+use Rattle.theory_travel.specs.Day.{closed, closed-in, closed-end, day-least, day-most}
+use Rattle.theory_travel.specs.Table.{entryAt}
+use Rattle.network.specs.Limits.{mostNodes, mostPeriod, WithinLimits}
+use Rattle.network.specs.Network.{Network, nodes, arcs, points, cell, tail, head, count, tick, travel, start}
+use Rattle.network.specs.Rules.{ticksOf, travelsOf}
+use Rattle.network.specs.Sound.{SoundArc, SoundPoints, SoundNetwork}
+use Rattle.network.specs.Town.{travelAt}
+use Rattle.network_encode.specs.Encode.{Proper}
+use Rattle.dimacs_line.specs.declared.line.Sizes.{Sizes}
+use Rattle.dimacs_line.specs.declared.line.Arc.{Arc}
+use Rattle.dimacs_text.specs.Arcs.{arcAt, nowhere, Fit}
+use Rattle.dimacs_import.specs.Import.{networkBy}
+use Rattle.dimacs_import.specs.Imported.{cell-at, tail-at, head-at, count-at, tick-at, travel-at}
+use Rattle.dimacs_import.specs.Imported.{header-is, header-within}
+
+module _ (number : ℕ) (k : Sizes) (roads : List Arc) (f : Fit k roads) where
+  abbrev n : Network
+  n = networkBy number (k .nodes) roads
+
+  -- numbers of an arc that is there, or not, are small
+  small : (i : ℕ) → (arcAt roads i .tail ≤ mostNodes) × (arcAt roads i .head ≤ mostNodes)
+      × (arcAt roads i .weight ≤ mostPeriod)
+  small i = elim (decLt i (length roads)) [
+    | yes l ↦
+        let a = f .fits i l in (
+          omega (arith, a .tail-last, f .within .nodes-few),
+          omega (arith, a .head-last, f .within .nodes-few),
+          a .weight-most,
+        )
+    | no l ↦
+        let e : arcAt roads i ≡ nowhere = List·getD-eq-default roads nowhere {n = i} (omega arith) in
+        rw e (lit≤ tt, lit≤ tt, lit≤ tt)
+  ]
+
+  ones : (m i : ℕ) → getD {A = ℕ} (replicate m 1) i 0 ≤ 1
+  ones m i = elim (decLt i m) [
+    | yes l ↦ omega (arith, getD-replicate {A = ℕ} m i 1 0 l)
+    | no l ↦ omega (
+      arith,
+      List·getD-eq-default {A = ℕ} (replicate m 1) 0 {n = i} (omega (arith, length-replicate {A = ℕ} m 1)),
+    )
+  ]
+
+  pub imported-proper : number < 2 ^ 32 → Proper n
+  imported-proper b = record {
+    within = subst WithinLimits (header-is number k roads f) (header-within number k roads f);
+    number-fits = b;
+    heads-long = length-map roads _ ∙ sym (length-map roads _);
+    counts-long = length-replicate (length roads) 1 ∙ sym (length-map roads _);
+    travels-long = length-map roads _ ∙ sym (length-replicate (length roads) 0);
+    cells-fit = record { word = λ i. omega (arith, cell-at number (k .nodes) roads i) };
+    tails-fit = record { word = λ i. omega (arith, tail-at number (k .nodes) roads i, small i .0) };
+    heads-fit = record { word = λ i. omega (arith, head-at number (k .nodes) roads i, small i .1) };
+    counts-fit = record { word = λ i. omega (arith, ones (length roads) i) };
+    ticks-fit = record { word = λ i. omega (arith, tick-at number (k .nodes) roads i) };
+    travels-fit = record { word = λ i. omega (arith, travel-at number (k .nodes) roads i, small i .2) };
+  }
+
+  -- each arc has one point, its own
+  starts-alike : (a : ℕ) → a ≤ length roads → start n a ≡ a
+  unfolding start total
+  starts-alike zero l = refl
+  starts-alike (suc a) l =
+      omega (arith, starts-alike a (omega arith), count-at number (k .nodes) roads a (omega arith))
+
+  nodes-are : nodes n ≡ k .nodes
+  nodes-are = length-replicate (k .nodes) 0
+
+  arcs-are : arcs n ≡ length roads
+  arcs-are = length-map roads _
+
+  module _ (a : ℕ) (l : a < length roads) where
+    one : count n a ≡ 1
+    one = count-at number (k .nodes) roads a l
+
+    tick-is : (i : ℕ) → ticksOf n a i ≡ 0
+    unfolding entryAt
+    tick-is i = tick-at number (k .nodes) roads (start n a + i)
+
+    travel-is : travelsOf n a 0 ≡ arcAt roads a .weight
+    unfolding entryAt
+    travel-is =
+        let z : start n a + 0 ≡ a = omega (arith, starts-alike a (omega arith)) in
+        rw z (travel-at number (k .nodes) roads a)
+
+    first : (i : ℕ) → i < count n a → i ≡ 0
+    first i m = omega (arith, one)
+
+    arc-sound : SoundArc n a
+    arc-sound =
+        let r = f .fits a l in
+        let t = tail-at number (k .nodes) roads a in
+        let h = head-at number (k .nodes) roads a in
+        record {
+          tail-node = omega (arith, t, nodes-are, r .tail-first, r .tail-last);
+          head-node = omega (arith, h, nodes-are, r .head-first, r .head-last);
+          apart = λ e. r .apart (omega (arith, t, h, e, r .tail-first, r .head-first));
+          some = omega (arith, one);
+          most = omega (arith, one);
+        }
+
+    points-sound : SoundPoints n a
+    points-sound =
+        let r = f .fits a l in
+        record {
+          day = record {
+            some = omega (arith, one);
+            start = tick-is 0;
+            rise = λ i m. absurd (omega (arith, one));
+            below = λ i m. omega (arith, tick-is i);
+          };
+          travel-some = λ i m. rw (first i m) (omega (arith, travel-is, r .weight-least));
+          travel-most = λ i m. rw (first i m) (omega (arith, travel-is, r .weight-most));
+          fifo = record {
+            kept = λ i m.
+                let z = first i m in
+                let t₀ = closed-in (count n a) (ticksOf n a) (n .period) i m in
+                let v₀ = closed-in (count n a) (travelsOf n a) (travelsOf n a 0) i m in
+                let t₁ = closed-end (count n a) (ticksOf n a) (n .period) (suc i) (omega (arith, one)) in
+                let v₁ =
+                closed-end (count n a) (travelsOf n a) (travelsOf n a 0) (suc i) (omega (arith, one)) in
+                rw (t₀, v₀, t₁, v₁, z) (omega (arith, tick-is 0));
+          };
+        }
+
+  pub imported-sound : SoundNetwork n
+  imported-sound = record {
+    cells-below = λ v l. omega (arith, cell-at number (k .nodes) roads v);
+    arc = λ a l. arc-sound a (omega (arith, arcs-are));
+    sum =
+        rw arcs-are
+        (starts-alike (length roads) (omega arith) ∙ sym (length-replicate (length roads) 0));
+    points-of = λ a l. points-sound a (omega (arith, arcs-are));
+  }
+
+  -- the travel is the weight, all day
+  pub imported-travel : (a x : ℕ) → a < length roads → x < mostPeriod → travelAt n a x ≡ arcAt roads a .weight
+  unfolding travelAt
+  imported-travel a x l m =
+      let d = points-sound a l .day in
+      let v = travelsOf n a in
+      let w = arcAt roads a .weight in
+      let same : (i : ℕ) → i < count n a → v i ≡ w = λ i o. rw (first a l i o) (travel-is a l) in
+      omega (
+        arith,
+        day-least d v w x (λ i o. omega (arith, same i o)) m,
+        day-most d v w x (λ i o. omega (arith, same i o)) m,
+      )

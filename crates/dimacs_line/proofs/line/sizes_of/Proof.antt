@@ -1,0 +1,21 @@
+-- `dimacs_line::line::sizes_of` meets its contract.
+use borrow.Author.Tests.{not-true, not-false}
+use Rattle.theory_loops.specs.Pick.{picks}
+use Rattle.dimacs_line.specs.Shape.{sizesShape}
+use borrow.Author.Needs.{needs}
+use Rattle.dimacs_line.proofs.line.sizes_of.Statement.{statement}
+use Rattle.dimacs_line.proofs.line.sizes_of.Tie as tie
+
+is-whole-requires : tie.Need-is-whole-requires
+is-whole-requires c κs = search needs
+
+returns : tie.Need-returns
+unfolding sizesShape
+returns c = search (picks, not-true, not-false) depth 6
+
+returns-2 : tie.Need-returns-2
+unfolding sizesShape
+returns-2 c = search (picks, not-true, not-false) depth 6
+
+pub sizes-of-spec : {M : Type 1} → statement M
+sizes-of-spec = tie.close (tie.spec is-whole-requires returns returns-2)

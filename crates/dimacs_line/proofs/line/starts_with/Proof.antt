@@ -1,0 +1,65 @@
+-- `dimacs_line::line::starts_with` meets its contract.
+use mathlib.Core.Path.{_≡_, sym}
+use Prim.Native.Nat.{ℕ, _-_, _≤_, _<_}
+use native.Mathlib.Omega.{arith}
+use lib.ListN.{length, getD}
+use denote.Ref.{now}
+use borrow.Author.Count.{below-more}
+use Rattle.dimacs_line.specs.Shape.{starts-short, starts-differ, starts-alike}
+use borrow.Author.Needs.{needs}
+use Rattle.dimacs_line.proofs.line.starts_with.Statement.{statement}
+use Rattle.dimacs_line.proofs.line.starts_with.Tie as tie
+
+abbrev Inv-loop : tie.InvT-loop
+Inv-loop line word long i₀ i =
+    (i ≤ length word) × ((k : ℕ) → k < i → getD line k 0 ≡ getD word k 0)
+
+abbrev μ-loop : tie.MeasureT-loop
+μ-loop line word long i₀ i = length word - i
+
+returns : tie.Need-returns Inv-loop μ-loop
+returns c = sym (starts-short _ _ (search needs))
+
+loop-holds : tie.Need-loop-holds Inv-loop μ-loop
+loop-holds c = (search needs, λ k l. absurd (omega arith))
+
+shared-slice-read-if2 : tie.Need-shared-slice-read-if2 Inv-loop μ-loop
+shared-slice-read-if2 c = search needs
+
+shared-slice-read-if2-2 : tie.Need-shared-slice-read-if2-2 Inv-loop μ-loop
+shared-slice-read-if2-2 c = search needs
+
+returns-2 : tie.Need-returns-2 Inv-loop μ-loop
+returns-2 c =
+    let s = c .before .before .before .before .before .before in
+    sym
+    (starts-differ (now (s .args .word)) (now (s .args .line)) (c .before .before .before .before .loop .i)
+    (search needs) (search needs) (c .if2 .taken))
+
+add-i : tie.Need-add-i Inv-loop μ-loop
+add-i c = search needs
+
+loop-less : tie.Need-loop-less Inv-loop μ-loop
+loop-less c = search needs
+
+loop-again : tie.Need-loop-again Inv-loop μ-loop
+loop-again c = (search needs, below-more _ _ (c .before .before .before .before .loop .inv .1) (search needs))
+
+returns-3 : tie.Need-returns-3 Inv-loop μ-loop
+returns-3 c = sym (starts-alike _ _ (search needs) (λ k l. c .before .loop .inv .1 k (omega arith)))
+
+pub starts-with-spec : {M : Type 1} → statement M
+starts-with-spec =
+    tie.close
+    (tie.spec
+    Inv-loop
+    μ-loop
+    returns
+    loop-holds
+    shared-slice-read-if2
+    shared-slice-read-if2-2
+    returns-2
+    add-i
+    loop-less
+    loop-again
+    returns-3)

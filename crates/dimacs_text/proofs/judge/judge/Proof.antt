@@ -1,0 +1,18 @@
+-- `dimacs_text::judge::judge` meets its contract.
+use mathlib.Core.Path.{_∙_, ap}
+use Rattle.dimacs_text.specs.Reading.{judged}
+use borrow.Author.Needs.{needs}
+use Rattle.dimacs_text.proofs.judge.judge.Statement.{statement}
+use Rattle.dimacs_text.proofs.judge.judge.Tie as tie
+
+read-requires : tie.Need-read-requires
+read-requires c κs = search needs
+
+judged-requires : tie.Need-judged-requires
+judged-requires c κs = search needs
+
+returns : tie.Need-returns
+returns c = c .judged .ensures ∙ ap judged (c .before .read .ensures)
+
+pub judge-spec : {M : Type 1} → statement M
+judge-spec = tie.close (tie.spec read-requires judged-requires returns)

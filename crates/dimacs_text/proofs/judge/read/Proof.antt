@@ -1,0 +1,72 @@
+-- `dimacs_text::judge::read` meets its contract.
+use Prim.Native.Nat.{_+_, _-_}
+use lib.ListN.{length}
+use Rattle.dimacs_text.specs.Reading.{ReadTo, reads}
+use borrow.Author.Needs.{needs}
+use Rattle.dimacs_text.proofs.judge.read.Statement.{statement}
+use Rattle.dimacs_text.proofs.judge.read.Tie as tie
+
+abbrev Inv-loop : tie.InvT-loop
+Inv-loop text r₀ at₀ r at = ReadTo text at r
+
+abbrev μ-loop : tie.MeasureT-loop
+μ-loop text r₀ at₀ r at = length text + 1 - at
+
+begun-requires : tie.Need-begun-requires Inv-loop μ-loop
+begun-requires c κs = search needs
+
+loop-holds : tie.Need-loop-holds Inv-loop μ-loop
+loop-holds c = search (needs, reads)
+
+line-end-requires : tie.Need-line-end-requires Inv-loop μ-loop
+line-end-requires c κs = search needs
+
+sub-shape-of : tie.Need-sub-shape-of Inv-loop μ-loop
+sub-shape-of c = search needs
+
+part-shape-of-start : tie.Need-part-shape-of-start Inv-loop μ-loop
+part-shape-of-start c = search needs
+
+part-shape-of-end : tie.Need-part-shape-of-end Inv-loop μ-loop
+part-shape-of-end c = search needs
+
+shape-of-requires : tie.Need-shape-of-requires Inv-loop μ-loop
+shape-of-requires c κs = search needs
+
+step-requires : tie.Need-step-requires Inv-loop μ-loop
+step-requires c κs = search needs
+
+returns : tie.Need-returns Inv-loop μ-loop
+returns c = search (needs, reads)
+
+add-at : tie.Need-add-at Inv-loop μ-loop
+add-at c = search needs
+
+loop-less : tie.Need-loop-less Inv-loop μ-loop
+loop-less c = search needs
+
+loop-again : tie.Need-loop-again Inv-loop μ-loop
+loop-again c = search (needs, reads)
+
+returns-2 : tie.Need-returns-2 Inv-loop μ-loop
+returns-2 c = search (needs, reads)
+
+pub read-spec : {M : Type 1} → statement M
+read-spec =
+    tie.close
+    (tie.spec
+    Inv-loop
+    μ-loop
+    begun-requires
+    loop-holds
+    line-end-requires
+    sub-shape-of
+    part-shape-of-start
+    part-shape-of-end
+    shape-of-requires
+    step-requires
+    returns
+    add-at
+    loop-less
+    loop-again
+    returns-2)
