@@ -1,8 +1,6 @@
 -- What a merge leaves in the bytes of the ticks: bit 1 where the arc gives less than the node's own profile
--- says,
--- and the bits of `same` where it gives just that. Bits that stay the same from one span to the next wait,
--- and
--- are painted together.
+-- says, and the bits of `same` where it gives just that. Bits that stay the same from one span to the next
+-- wait, and are painted together.
 use mathlib.Core.Path.{_≡_, refl, sym, _∙_}
 use mathlib.Core.Logic.{_⊎_, inl, inr}
 use mathlib.Core.Bool.{cond}

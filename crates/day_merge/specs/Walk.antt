@@ -23,8 +23,7 @@ pub record Listed (starts : List ℕ) (n period : ℕ) : Type 0 where
   pub long : n < length starts
 
 -- from tick t up to `to` nothing changes: not the node's run i nor the arc's run k, and not the head's run j,
--- in
--- which the arc ends at tick e
+-- in which the arc ends at tick e
 pub record Span (so : List ℕ) (i : ℕ) (sa : List ℕ) (k : ℕ) (sh : List ℕ) (j t e to period : ℕ) : Type 0 where
   pub some : t < to
   pub own : to ≤ getD so (i + 1) 0

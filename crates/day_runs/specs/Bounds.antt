@@ -1,6 +1,5 @@
 -- The least and the greatest of a day's points, looked at one after the other: no value of the day is below
--- the
--- one or above the other.
+-- the one or above the other.
 use mathlib.Core.Path.{_≡_}
 use Prim.Native.Nat.{ℕ, _+_, _≤_, _<_, min, max}
 use native.Mathlib.Decide.{ℕ-discrete}

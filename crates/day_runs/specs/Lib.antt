@@ -1,7 +1,6 @@
 -- The runs of equal value of a day: the record that all code over runs cites (Runs), the laws of the code
--- that
--- puts them, piece by piece (Places, Walk, Held, Rising, Falling, Steep), and of code that reads point after
--- point (Filling, Bounds).
+-- that puts them, piece by piece (Places, Walk, Held, Rising, Falling, Steep), and of code that reads point
+-- after point (Filling, Bounds).
 pub mod Runs
 pub mod Places
 pub mod Walk

@@ -1,7 +1,6 @@
 -- A line with a new value at each tick, walked by equal steps: on a rising piece they are added, on a falling
 -- one taken off, in parts of which 4,294,967,296 make a whole. Rounded down, a rising piece takes `stepUp`
--- from
--- v wholes and a falling one `stepDown`.
+-- from v wholes and a falling one `stepDown`.
 use mathlib.Core.Path.{_≡_, sym, _∙_}
 use Prim.Native.Nat.{ℕ, _+_, _-_, _*_, _/_, _≤_, _<_}
 use native.Mathlib.Nat.{mul-le-mul-right, div-mul-le-self, le-of-lt, div-eq-of-lt-le, div-lt-iff-lt-mul}

@@ -1,6 +1,5 @@
 -- What one arc out of a node adds to the byte of a tick, and what the code does that meets an arc: it merges
--- the
--- runs, or passes the arc, where it can add nothing.
+-- the runs, or passes the arc, where it can add nothing.
 use mathlib.Core.Path.{_≡_, refl, sym, _∙_, ap}
 use mathlib.Core.Bool.{Bool, true, false, _&&_}
 use mathlib.Core.List.{List}

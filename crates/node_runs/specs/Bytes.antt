@@ -1,6 +1,5 @@
 -- A byte of three answers: does an arc give less, does one give the same, and has one that does the flag.
--- Bytes
--- are put together as the answers are, by `||`.
+-- Bytes are put together as the answers are, by `||`.
 use mathlib.Core.Path.{_≡_, refl, sym, _∙_}
 use mathlib.Core.Bool.{Bool, true, false, cond, not, _&&_, _||_}
 use Prim.Native.Nat.{ℕ, _+_, _*_, _/_, _%_, _<_}

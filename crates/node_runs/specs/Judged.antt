@@ -1,6 +1,5 @@
 -- A node whose arcs were met one after the other, by their chain: at the end the byte of each tick tells
--- whether
--- the tests 22, 23 and 24 fail there.
+-- whether the tests 22, 23 and 24 fail there.
 use mathlib.Core.Path.{_≡_, refl, sym, _∙_, ap}
 use mathlib.Core.Logic.{_≢_}
 use mathlib.Core.Bool.{Bool, true, false, _&&_, _||_}
