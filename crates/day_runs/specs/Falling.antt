@@ -127,6 +127,3 @@ module _ {s₀ v₀ : List ℕ} {n a b : ℕ} (room : Room s₀ v₀ n a b) wher
             long-v = t .long-v;
             few = omega (arith, t .few);
           }
-
--- for `search falls` at the needs of the loop
-pub ruleset falls = (fall-start, fall-fits, fall-within, fall-more, fall-end)

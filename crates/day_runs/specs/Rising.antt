@@ -97,6 +97,3 @@ module _ {s₀ v₀ : List ℕ} {n a b : ℕ} (room : Room s₀ v₀ n a b) wher
           (rise-below j (omega arith))
           (omega arith)
           (λ y lo hi. rise-value j y (omega arith) lo (omega (arith, room .apart))))
-
--- for `search rises` at the needs of the loop
-pub ruleset rises = (rise-start, rise-fits, rise-within, rise-more, rise-end)

@@ -2,7 +2,6 @@
 use mathlib.Core.Path.{_≡_, _∙_}
 use mathlib.Core.List.{List}
 use Prim.Native.Nat.{ℕ, _+_, _-_, _*_, _≤_, _<_}
-use native.Mathlib.Nat.{le-of-lt}
 use native.Mathlib.Omega.{arith}
 use lib.ListN.{set}
 use Rattle.theory_travel.specs.Pieces.{lineAt}
@@ -61,6 +60,3 @@ module _ {s₀ v₀ : List ℕ} {n a b : ℕ} (room : Room s₀ v₀ n a b) wher
         pub sink-last : b ≡ x + 1 → s' ≡ set s (n + (x - a) + 1) b → v' ≡ set vs (n + (x - a)) r
             → Added s₀ v₀ s' v' n (n + (b - a)) a v b (lineAt a v b w)
         sink-last z es ev = steep-last (sink-value h is e) z es ev
-
--- for `search steeps` at the needs of the loops
-pub ruleset steeps = (steep-start, climb-more, climb-last, sink-more, sink-last, le-of-lt)
