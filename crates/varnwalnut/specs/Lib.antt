@@ -1,6 +1,9 @@
--- The C library: that too little room is refused first (Room), what a call returns and leaves (Replies), and
--- the laws for the entries (Calling).
+-- The C library: that too little room is refused first (Room), what a call returns and leaves (Replies), the
+-- laws for the entries (Calling), a call that writes a file and returns 0 (Returned), and what a plan that is
+-- made (Planner) and a text that is imported (Importer) are good for.
 pub mod Room
 pub mod Replies
 pub mod Calling
+pub mod Returned
 pub mod Planner
+pub mod Importer
