@@ -1,10 +1,10 @@
-//! The tables in documents that are made from the files: each stands between two marks.
+//! The lists in documents that are made from the files: each stands between two marks.
 
 use crate::repository::load;
 use std::fs;
 use std::ops::Range;
 
-/// A part of a document, by the name in its mark, and the table that it has to be.
+/// A part of a document, by the name in its mark, and the list that it has to be.
 pub struct Part {
     pub document: &'static str,
     pub name: &'static str,
@@ -14,7 +14,7 @@ pub struct Part {
 const END: &str = "<!-- end -->";
 
 impl Part {
-    /// What stands between the marks: the table with a blank line on either side.
+    /// What stands between the marks: the list with a blank line on either side.
     fn text(&self) -> String {
         format!("\n{}\n", self.table)
     }
@@ -38,7 +38,7 @@ pub fn check(parts: &[Part]) -> Result<String, String> {
         let text = load(part.document)?;
         let old = &text[part.place(&text)?];
         if old != part.text() {
-            said += &format!("{}: the table `{}` is not what the files say; ", part.document, part.name);
+            said += &format!("{}: the list `{}` is not what the files say; ", part.document, part.name);
             said += "`tools/believe --write` puts it right\n";
             said += &difference(old, &part.text());
         }
@@ -80,4 +80,21 @@ pub fn difference(old: &str, new: &str) -> String {
         }
     }
     said
+}
+
+/// The most characters of a line of a document.
+const WIDTH: usize = 110;
+
+/// An entry of a list: its words in lines of at most that many characters, all but the first indented.
+pub fn entry(text: &str) -> String {
+    let mut lines = vec!["-".to_string()];
+    for word in text.split(' ') {
+        let last = lines.last_mut().expect("there is a line");
+        if last.chars().count() + 1 + word.chars().count() <= WIDTH {
+            *last += &format!(" {word}");
+        } else {
+            lines.push(format!("  {word}"));
+        }
+    }
+    lines.join("\n") + "\n"
 }

@@ -22,10 +22,10 @@ use repository::Repository;
 use std::process::ExitCode;
 
 const USAGE: &str = "usage: tools/believe [--check | --write | --rooms | --unused]
-  without a word  the tables of what the C library's contracts reach, and besides the run sheet's and the promises
-  --check         are the tables in docs/TRUST.md and docs/ARCHITECTURE.md what the files say?
+  without a word  the lists of what the C library's contracts reach, and besides the run sheet's and the promises
+  --check         are the lists in docs/TRUST.md and docs/ARCHITECTURE.md what the files say?
   --write         puts them in
-  --rooms         the table of the crates
+  --rooms         the list of the crates
   --unused        the laws and definitions of the specs that nothing cites";
 
 /// The status is 0 where all is well, 1 where a document differs, and 2 where a file cannot be read.
@@ -73,7 +73,7 @@ fn all_contracts(repository: &Repository) -> Result<Reached, String> {
     Ok(all)
 }
 
-/// The three tables of docs/TRUST.md.
+/// The three lists of docs/TRUST.md.
 fn parts(repository: &Repository) -> Result<Vec<Part>, String> {
     let library = reach::from_contracts(repository, true)?;
     let programs = reach::from_contracts(repository, false)?;

@@ -1,17 +1,22 @@
-//! The table of the crates: what each owns, by its code's first sentence, and what it may call, by crates.txt.
+//! The list of the crates: what each owns, by its code's first sentence, and what it may call, by crates.txt.
 
+use crate::documents::entry;
 use crate::repository::{load, Repository};
 
 pub fn table(repository: &Repository) -> Result<String, String> {
-    let mut text = "| crate | owns | may call |\n|---|---|---|\n".to_string();
+    let mut text = String::new();
     for (of, known) in repository.crates.iter().enumerate() {
         let root = repository.codes.iter().find(|file| file.of == of && file.module.is_empty());
         let path =
             &root.ok_or_else(|| format!("crates/{}: neither src/lib.rt nor src/main.rt", known.name))?.path;
         let owns = first_sentence(&load(path)?, &known.name);
         let owns = owns.ok_or_else(|| format!("{path}: it does not begin with `// {}: ..`", known.name))?;
-        let calls: String = known.calls.iter().map(|name| format!("`{name}` ")).collect();
-        text += &format!("| `{}` | {owns} | {calls}|\n", known.name);
+        let calls: Vec<String> = known.calls.iter().map(|name| format!("`{name}`")).collect();
+        let calls = match calls.is_empty() {
+            true => "nothing else".to_string(),
+            false => calls.join(", "),
+        };
+        text += &entry(&format!("`{}`: {owns}. Names {calls}.", known.name));
     }
     Ok(text)
 }

@@ -1,5 +1,6 @@
-//! The tables of what is reached: a row for each file, with its lines and its names.
+//! The lists of what is reached: an entry for each file, with its lines and its names.
 
+use crate::documents::entry;
 use crate::names::Extent;
 use crate::reach::Reached;
 use crate::repository::{Repository, Target};
@@ -14,15 +15,15 @@ struct Row {
     names: Vec<String>,
 }
 
-/// A table of all that is reached, without the lines of what is known already; its last line has the total.
+/// A list of all that is reached, without the lines of what is known already; its last line has the total.
 pub fn table(repository: &Repository, reached: &Reached, known: &Reached) -> String {
     let known = rows(repository, known, &BTreeMap::new());
     let rows = rows(repository, reached, &known);
-    let mut text = "| file | lines | names |\n|---|---|---|\n".to_string();
+    let mut text = String::new();
     for (place, row) in &rows {
         let names: Vec<String> = row.names.iter().map(|name| format!("`{name}`")).collect();
         let path = path(repository, *place);
-        text += &format!("| {path} | {} | {} |\n", row.lines.len(), names.join(", "));
+        text += &entry(&format!("{path}, {} lines: {}", row.lines.len(), names.join(", ")));
     }
     let total: usize = rows.values().map(|row| row.lines.len()).sum();
     text + &format!("\nTogether {total} lines.\n")
