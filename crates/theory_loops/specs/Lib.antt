@@ -4,6 +4,7 @@ pub mod Pick
 pub mod Triple
 pub mod Fill
 pub mod Total
+pub mod Sums
 pub mod Select
 pub mod Stores
 pub mod Parts

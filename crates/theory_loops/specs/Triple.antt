@@ -1,10 +1,9 @@
--- The first failing triple: labelled loops over three ranges, left at the first indices at which a test
--- holds, the first range weighing most.
-use mathlib.Core.Path.{_≡_}
+-- The first failing triple of indices in three ranges, the first range weighing most.
+use mathlib.Core.Path.{_≡_, refl}
 use mathlib.Core.Logic.{_↔_}
 use mathlib.Core.Bool.{Bool, true, false, cond}
-use Prim.Native.Nat.{ℕ, _≤_, _<_}
-use Rattle.theory_loops.specs.First.{first, any, any-clear, stop, yes-any, no-any}
+use Prim.Native.Nat.{ℕ, _<_}
+use Rattle.theory_loops.specs.First.{first, any, any-clear, all-clear, stop, yes-any}
 
 -- some triple passes the test
 abbrev pub anyTriple : ℕ → ℕ → ℕ → (ℕ → ℕ → ℕ → Bool) → Bool
@@ -26,8 +25,7 @@ firstTripleRung f l m n p b =
     cond (anyTriple l m n p) (f (firstOf l m n p) (secondOf l m n p) (thirdOf l m n p)) b
 
 module _ (p : ℕ → ℕ → ℕ → Bool) (l m n : ℕ) where
-  -- FOR THE LOOPS, each with the invariant of a first: nothing before i, at i nothing before j, there nothing
-  -- before k, and the test holds
+  -- nothing before i, at i nothing before j, there nothing before k, and the test holds
   module _ (i j k : ℕ) (ei : first i (λ i. any m (λ j. any n (p i j))) ≡ i) (li : i < l)
       (ej : first j (λ j. any n (p i j)) ≡ j) (lj : j < m)
       (ek : first k (p i j) ≡ k) (lk : k < n) (h : p i j k ≡ true) where
@@ -49,18 +47,22 @@ module _ (p : ℕ → ℕ → ℕ → Bool) (l m n : ℕ) where
     triple-first : i ≡ firstOf l m n p
     triple-first = stop _ l i ei li at-first
 
-    pub triple-at : {A : Type 0} (f : ℕ → ℕ → ℕ → A) (r b : A) → r ≡ f i j k → r ≡ firstTripleRung f l m n p b
+    triple-at : {A : Type 0} (f : ℕ → ℕ → ℕ → A) (r b : A) → r ≡ f i j k → r ≡ firstTripleRung f l m n p b
     unfolding firstTripleRung
     triple-at f r b e = rw triple-any (rw (← triple-first, ← second, ← third) e)
 
-  -- the outer loop ran to its end
-  module _ (i : ℕ) (e : first i (λ i. any m (λ j. any n (p i j))) ≡ i) (h : i ≤ l) (g : l ≤ i) where
-    triple-none : anyTriple l m n p ≡ false
-    triple-none = no-any _ l i e h g
-
-    pub triple-past : {A : Type 0} (f : ℕ → ℕ → ℕ → A) (r b : A) → r ≡ b → r ≡ firstTripleRung f l m n p b
-    unfolding firstTripleRung
-    triple-past f r b q = rw triple-none q
+  -- a triple at which the test holds, and before which it holds nowhere
+  module _ (i j k : ℕ) (li : i < l) (lj : j < m) (lk : k < n) (h : p i j k ≡ true)
+      (bi : (a b c : ℕ) → a < i → b < m → c < n → p a b c ≡ false)
+      (bj : (b c : ℕ) → b < j → c < n → p i b c ≡ false)
+      (bk : (c : ℕ) → c < k → p i j c ≡ false) where
+    pub triple-found : {A : Type 0} (f : ℕ → ℕ → ℕ → A) (b : A) → f i j k ≡ firstTripleRung f l m n p b
+    triple-found f b =
+        triple-at i j k
+        (all-clear _ i (λ a la. any-clear _ m .1 (λ y ly. any-clear (p a y) n .1 (λ c lc. bi a y c la ly
+        lc))))
+        li (all-clear _ j (λ y ly. any-clear (p i y) n .1 (λ c lc. bj y c ly lc))) lj (all-clear (p i j) k bk)
+        lk h f (f i j k) b refl
 
   -- FOR A READER: no triple passes exactly where the test is false at every triple in range
   pub triple-clear : (anyTriple l m n p ≡ false) ↔ ((i j k : ℕ) → i < l → j < m → k < n → p i j k ≡ false)

@@ -1,8 +1,7 @@
--- The binary search for the segment of a tick, over points in general: the invariant of its loop, what it has
--- found at the end, and the laws of each step in the shape of the code's needs. A reader of points, wherever
--- they stand, writes its own loop and needs only these.
+-- The binary search for the segment of a tick, over points in general: the invariant of its loop, and what it
+-- has found at the end.
 use mathlib.Core.Path.{_≡_}
-use Prim.Native.Nat.{ℕ, suc, _+_, _-_, _/_, _≤_, _<_}
+use Prim.Native.Nat.{ℕ, suc, _+_, _≤_, _<_}
 use native.Mathlib.Nat.{le-of-lt, le-trans}
 use native.Mathlib.Numerals.{add-one}
 use native.Mathlib.Omega.{arith}
@@ -39,10 +38,6 @@ pub record Between (t : ℕ → ℕ) (n x a b : ℕ) : Type 0 where
   pub at : t a ≤ x
   pub next : b < n → x < t b
 
--- the point that is looked at next
-abbrev pub half : ℕ → ℕ → ℕ
-half a b = a + (b - a) / 2
-
 module _ (t : ℕ → ℕ) (n x : ℕ) where
   pub between-start : Sorted t n x → Between t n x 0 n
   between-start s =
@@ -52,23 +47,6 @@ module _ (t : ℕ → ℕ) (n x : ℕ) where
         within = omega arith;
         at = s .begun;
         next = λ m. absurd (omega arith);
-      }
-
-  -- u is the tick of the point that was looked at
-  pub between-up : (a b u : ℕ) → Between t n x a b → a + 1 < b → u ≡ t (half a b) → u ≤ x
-      → Between t n x (half a b) b
-  between-up a b u h l e m =
-      record { sorted = h .sorted; apart = omega arith; within = h .within; at = omega arith; next = h .next }
-
-  pub between-down : (a b u : ℕ) → Between t n x a b → a + 1 < b → u ≡ t (half a b) → x < u
-      → Between t n x a (half a b)
-  between-down a b u h l e m =
-      record {
-        sorted = h .sorted;
-        apart = omega arith;
-        within = omega (arith, h .within);
-        at = h .at;
-        next = λ _. omega arith;
       }
 
   pub between-end : (a b : ℕ) → Between t n x a b → b ≤ a + 1 → Last t n x a
@@ -93,6 +71,3 @@ module _ (t : ℕ → ℕ) (n x : ℕ) where
         at = h .at;
         next = next;
       }
-
--- for `search halves` at the needs of such a loop
-pub ruleset halves = (between-start, between-up, between-down, between-end, le-of-lt)
