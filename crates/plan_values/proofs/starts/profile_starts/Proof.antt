@@ -1,4 +1,4 @@
--- `plan_values::value::profile_starts` meets its contract: the running sum is where the next profile starts,
+-- `plan_values::starts::profile_starts` meets its contract: the running sum is where the next profile starts,
 -- and the entries passed are filled.
 use Prim.Native.Nat.{_≤_, _-_}
 use mathlib.Core.Path.{_≡_}
@@ -6,8 +6,8 @@ use Rattle.theory_loops.specs.Fill.{Filled, fills}
 use Rattle.plan.specs.PlanDecode.{decodePlan}
 use Rattle.plan_values.specs.Starts.{startOf, starting}
 use borrow.Author.Needs.{needs}
-use Rattle.plan_values.proofs.value.profile_starts.Statement.{statement}
-use Rattle.plan_values.proofs.value.profile_starts.Tie as tie
+use Rattle.plan_values.proofs.starts.profile_starts.Statement.{statement}
+use Rattle.plan_values.proofs.starts.profile_starts.Tie as tie
 
 abbrev Inv-loop : tie.InvT-loop
 Inv-loop plan l i from starts₀ nodes sum₀ u₀ starts sum u =
