@@ -125,7 +125,7 @@ int main(int count, char **words)
     uint8_t *network = memory(NULL, VARNWALNUT_NETWORK_BYTES);
     uint32_t *work = memory(NULL, VARNWALNUT_WORK_ENTRIES * sizeof *work);
     uint8_t *plan = memory(NULL, VARNWALNUT_PLAN_BYTES);
-    uint32_t answer[4];
+    uint32_t answer[5];
 
     uint32_t refusal = varnwalnut_import_dimacs(text, text_length, number,
                                                 network, VARNWALNUT_NETWORK_BYTES, answer, 4);
@@ -139,7 +139,7 @@ int main(int count, char **words)
         refused("no plan is made of the network", refusal, answer);
     }
     size_t plan_length = answer[3];
-    refusal = varnwalnut_check_plan(network, network_length, plan, plan_length, answer, 3);
+    refusal = varnwalnut_check_plan(network, network_length, plan, plan_length, answer, 5);
     if (refusal != VARNWALNUT_OK) {
         refused("the check does not accept the plan", refusal, answer);
     }

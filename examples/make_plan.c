@@ -91,7 +91,7 @@ int main(int count, char **words)
     uint8_t *network = memory(VARNWALNUT_NETWORK_BYTES + 1);
     uint32_t *work = memory(VARNWALNUT_WORK_ENTRIES * sizeof *work);
     uint8_t *plan = memory(VARNWALNUT_PLAN_BYTES);
-    uint32_t answer[4];
+    uint32_t answer[5];
 
     size_t network_length = read_file(network_path, network, VARNWALNUT_NETWORK_BYTES + 1);
     uint32_t refusal = varnwalnut_make_plan(network, network_length, work, VARNWALNUT_WORK_ENTRIES,
@@ -100,7 +100,7 @@ int main(int count, char **words)
         refused("no plan is made of the network", refusal, answer);
     }
     size_t plan_length = answer[3];
-    refusal = varnwalnut_check_plan(network, network_length, plan, plan_length, answer, 3);
+    refusal = varnwalnut_check_plan(network, network_length, plan, plan_length, answer, 5);
     if (refusal != VARNWALNUT_OK) {
         refused("the check does not accept the plan", refusal, answer);
     }

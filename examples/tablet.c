@@ -16,7 +16,8 @@ static uint8_t network[VARNWALNUT_NETWORK_BYTES + 1];
 static uint8_t plan[VARNWALNUT_PLAN_BYTES + 1];
 static uint8_t answer[VARNWALNUT_TRIP_BYTES];
 
-/* Reads a file of DIR. One byte more than a file may have is enough for the library to see that it is too long. */
+/* Reads a file of DIR. One byte more than a file may have is enough for the library to see that it is too
+ * long. */
 static size_t read_file(const char *folder, const char *name, uint8_t *bytes, size_t room)
 {
     char path[4096];
@@ -63,8 +64,9 @@ int main(int count, char **words)
     }
     size_t network_length = read_file(words[1], "network.blk", network, sizeof network);
     size_t plan_length = read_file(words[1], "plan.blk", plan, sizeof plan);
-    uint32_t refusal = varnwalnut_flagged_trip(network, network_length, plan, plan_length, answer, sizeof answer,
-                                               number(words[2]), number(words[3]), number(words[4]));
+    uint32_t refusal =
+        varnwalnut_flagged_trip(network, network_length, plan, plan_length, answer, sizeof answer,
+                                number(words[2]), number(words[3]), number(words[4]));
     if (refusal == VARNWALNUT_NO_WAY) {
         printf("no way\n");
         return 0;

@@ -15,8 +15,9 @@
  * numbers in lists of uint16_t and uint32_t are the machine's own.
  *
  * Threads: the functions have no state and may run at once on any number of threads, also on the same files.
- * Stack: below 24 KB for each function but two: varnwalnut_make_plan needs below 56 KB, and
- * varnwalnut_pack_network about 280 KB. varnwalnut_import_dimacs needs below 1 KB.
+ * Stack: below 24 KB for each function but three: varnwalnut_check_plan needs below 64 KB,
+ * varnwalnut_make_plan below 56 KB, and varnwalnut_pack_network about 280 KB. varnwalnut_import_dimacs needs
+ * below 1 KB.
  *
  * Link with libvarnwalnut.a: cc program.c -Iinclude target/staticlib/libvarnwalnut.a
  */
@@ -136,14 +137,21 @@ uint32_t varnwalnut_flagged_trip(const uint8_t *network, size_t network_length,
  * THE DESK
  *
  * Here the answer is a list of numbers: first the three places of a refusal, then the answer's own numbers.
- * On a refusal the numbers after the places are 0; on an answer the places are 0. With fewer answer numbers
- * than named the call returns 31 before all else and writes nothing at all; numbers after those named stay as
- * they were.
+ * On a refusal the numbers after the places are 0, but for the finds of varnwalnut_check_plan; on an answer
+ * the places are 0. With fewer answer numbers than named the call returns 31 before all else and writes
+ * nothing at all; numbers after those named stay as they were.
  */
 
 /*
  * Is the plan one that the flagged trips of this network may trust? 0 exactly when its profiles are the true
- * least travels at every tick and its flags are enough. answer[0..3]: the places. Refusals: 1 to 24, 31.
+ * least travels at every tick and its flags are enough. answer[0..5]: the places, then how many finds the
+ * check made, in 64 bits: the low 32 bits, then the high. Refusals: 1 to 24, 31.
+ *
+ * A find is one piece of a day, from a point to the next, looked up and divided by its width. For each border
+ * and each of 21 to 24 the finds are at most twice the points of all roads, twice those of all the border's
+ * profiles, and for each road once those of its end's profile; one pass serves all four numbers, and keeps
+ * within that bound for one of them. On acceptance the finds are no fewer than the points of all profiles,
+ * beside 1 to 20 there are none, and beside 21 to 24 the finds made so far are told.
  */
 uint32_t varnwalnut_check_plan(const uint8_t *network, size_t network_length,
                                const uint8_t *plan, size_t plan_length,

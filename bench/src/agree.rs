@@ -1,5 +1,6 @@
 //! Both contestants give the same answers, or nothing is measured: on the files of a town, and on files with one byte changed.
 use crate::files::{header, lists, Files};
+use crate::finds;
 use crate::library;
 use crate::plain::blocks::{sums, BLOCK};
 use crate::plain::network::{self, Header, Tables};
@@ -157,15 +158,23 @@ pub fn on_damaged_files(files: &Files, asks: &[Ask], cases: usize) -> Seen {
     seen
 }
 
-/// The same verdicts of the check, by both plain checks.
+/// The verdict of the library's check, the same by both plain checks, and as many finds as document 02 allows.
+pub fn checks(network: &[u8], plan: &[u8]) -> Result<(), Refusal> {
+    let (verdict, finds) = library::check_plan(network, plan);
+    assert_eq!(verdict, check::check_swept(network, plan), "check, swept");
+    assert_eq!(verdict, check::check_each_tick(network, plan), "check at each tick");
+    let bound = finds::bound(network, plan, verdict);
+    assert!(bound.contains(&finds), "{finds} finds beside {verdict:?}, allowed {bound:?}");
+    verdict
+}
+
+/// The check of a town's plan, and of damaged ones.
 pub fn on_checks(files: &Files, cases: usize) -> Seen {
     let mut dice = Dice::new(5);
     let mut seen = [0; 40];
     for case in 0..cases {
         let plan = if case == 0 { files.plan.clone() } else { damage(&files.plan, &mut dice) };
-        let verdict = library::check_plan(&files.network, &plan);
-        assert_eq!(verdict, check::check_swept(&files.network, &plan), "check, swept");
-        assert_eq!(verdict, check::check_each_tick(&files.network, &plan), "check at each tick");
+        let verdict = checks(&files.network, &plan);
         seen[verdict.err().map_or(0, |refusal| refusal.number as usize)] += 1;
     }
     seen

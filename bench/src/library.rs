@@ -193,12 +193,13 @@ pub fn flagged_trip_lists(
     outcome(number, &answer, (answer[3], answer[4] as usize))
 }
 
-pub fn check_plan(network: &[u8], plan: &[u8]) -> Result<(), Refusal> {
-    let mut answer = [0; 3];
+/// The verdict, and how many finds the check made: the low word stands behind the places, and the high one behind it.
+pub fn check_plan(network: &[u8], plan: &[u8]) -> (Result<(), Refusal>, u64) {
+    let mut answer = [0; 5];
     let number = unsafe {
         entry::varnwalnut_check_plan(network.as_ptr(), network.len(), plan.as_ptr(), plan.len(), answer.as_mut_ptr(), answer.len())
     };
-    outcome(number, &answer, ())
+    (outcome(number, &answer, ()), answer[3] as u64 | (answer[4] as u64) << 32)
 }
 
 pub fn open(network: &[u8], tables: Tables) -> Result<Header, Refusal> {

@@ -4,6 +4,7 @@
 mod agree;
 mod clock;
 mod files;
+mod finds;
 mod library;
 mod machine;
 mod measure;

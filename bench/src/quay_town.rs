@@ -1,9 +1,8 @@
 //! Quay town of document 01: its rows, answered by both contestants. Nothing here is timed.
 use crate::agree;
 use crate::files::{self, Files};
-use crate::library;
 use crate::plain::trips::Ask;
-use crate::plain::{check, Refusal};
+use crate::plain::Refusal;
 use crate::town::{self, Town};
 
 fn quay_town() -> Town {
@@ -57,10 +56,7 @@ fn verdict(change: impl FnOnce(&mut [u8])) -> Result<(), Refusal> {
     for block in 0..4 {
         agree::mend(&mut files.plan, block);
     }
-    let verdict = library::check_plan(&files.network, &files.plan);
-    assert_eq!(verdict, check::check_each_tick(&files.network, &files.plan));
-    assert_eq!(verdict, check::check_swept(&files.network, &files.plan));
-    verdict
+    agree::checks(&files.network, &files.plan)
 }
 
 fn refused(number: u32, places: [u32; 3]) -> Result<(), Refusal> {

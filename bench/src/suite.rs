@@ -6,7 +6,7 @@ use crate::plain::trips::{self, Ask};
 use crate::plain::{check, import, network, pack, Refusal};
 use crate::texts::Text;
 use crate::town::{self, Dice, Shape, Town};
-use crate::{library, stack, table};
+use crate::{finds, library, stack, table};
 use std::hint::black_box;
 
 pub struct Effort {
@@ -236,13 +236,14 @@ fn check_plans(subject: &Subject, rounds: usize) {
         rounds,
         1,
         [
-            Box::new(|_| accept(library::check_plan(network, plan))),
+            Box::new(|_| accept(library::check_plan(network, plan).0)),
             Box::new(|_| accept(check::check_each_tick(network, plan))),
             Box::new(|_| accept(check::check_swept(network, plan))),
         ],
     );
     table::print("check, Rust at each tick", subject.name, &library, &each_tick);
     table::print("check, Rust by tables", subject.name, &library, &swept);
+    table::print_finds(subject.name, library::check_plan(network, plan).1, &finds::bound(network, plan, Ok(())));
 }
 
 /// One text's rows.

@@ -1,5 +1,6 @@
 //! The lines of the table: an operation, a town, both times with their quartiles, and the ratio of the library's to Rust's.
 use crate::measure::{spread, Spread, Times};
+use std::ops::RangeInclusive;
 
 pub const HEAD: &str = "
 operation                town   library (quartiles)        Rust (quartiles)           RATIO (quartiles)";
@@ -39,4 +40,9 @@ pub fn print_rate(town: &str, bytes: usize, library: &Times, rust: &Times) {
 pub fn print_text_rate(text: &str, bytes: usize, library: &Times, rust: &Times) {
     let rate = |times: &Times| format!("{:.0}", bytes as f64 / spread(&times.0).median / 1e6);
     println!("{:24} {text:6} {:26} {}", "  MB/s", rate(library), rate(rust));
+}
+
+/// A line below the check: how many finds the library made, and how many document 02 allows.
+pub fn print_finds(town: &str, finds: u64, bound: &RangeInclusive<u64>) {
+    println!("{:24} {town:6} {finds}, of {} to {} allowed", "  finds", bound.start(), bound.end());
 }

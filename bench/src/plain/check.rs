@@ -1,5 +1,5 @@
-//! The check of a plan, twice. `check_each_tick` finds a segment and divides at each tick, as the library does today, in one pass over
-//! borders, nodes and ticks. `check_swept` unfolds travels and profiles into tables first, so that no tick costs a search or a division.
+//! The check of a plan, twice. `check_each_tick` finds a segment and divides at each tick, in one pass over borders, nodes and ticks.
+//! `check_swept` unfolds travels and profiles into tables first, so that no tick costs a search or a division.
 use super::network::{validate, Network};
 use super::plan::{points_of, tick, travel, validate_plan, Plan, POINTS};
 use super::points;

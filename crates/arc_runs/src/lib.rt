@@ -1,24 +1,27 @@
 // arc_runs: the travel of an arc over the day, from its points as the network file has them: as runs of equal
-// travel, and its least. Each point is read once, so a call finds as many segments as the arc has points.
+// travel. Each point is read once, so its runs take as many finds as it has points.
+//   brief  a byte for each arc that spares reading its points, where that is enough
 // It may call `network` for the entries of the file, `day_runs` for runs and `search_arcs` for widths; it
 // cites `theory_travel` for the line and `theory_loops` for filled parts.
+pub mod brief;
+
 use network::header::Layout;
 use network::limits::MOST_ARCS;
 use network::read;
 use search_arcs::wide;
 ghost use mathlib.Core.Path.{_≡_};
-ghost use Prim.Native.Nat.{ℕ, _+_, _≤_, _<_};
+ghost use Prim.Native.Nat.{_+_, _^_, _≤_, _<_};
 ghost use lib.ListN.{length, getD};
 ghost use Rattle.theory_loops.specs.Fill.{Filled};
 ghost use Rattle.theory_travel.specs.Day.{Day};
 ghost use Rattle.theory_travel.specs.Table.{entryAt, valueAt};
-ghost use Rattle.network.specs.Network.{start};
+ghost use Rattle.network.specs.Network;
 ghost use Rattle.network.specs.Decode.{decode, Laid};
 ghost use Rattle.network.specs.Town.{travelAt};
 ghost use Rattle.search_arcs.specs.Town.{Town};
 ghost use Rattle.day_runs.specs.Runs.{Runs, Short};
 ghost use Rattle.day_runs.specs.Filling.{Space};
-ghost use Rattle.day_runs.specs.Bounds.{Least, Floor};
+ghost use Rattle.day_runs.specs.Bounds.{Least, Most};
 ghost use Rattle.arc_runs.specs.Travels.{Narrow, entries};
 
 // The travel of point q.
@@ -38,14 +41,15 @@ fn fill_points(
     count: usize,
     starts: &mut [u16],
     values: &mut [u32],
+    finds: &mut u64,
 ) -> usize
     requires { ⌜ Laid (now file) l ⌝ }
     requires { ⌜ Day (entryAt (decode (now file) .ticks) from) count (l .period)
         × (from + count ≤ l .points) ⌝ }
-    requires { ⌜ Space (now starts) (now values) (l .period) ⌝ }
+    requires { ⌜ Space (now starts) (now values) (l .period) × (now finds + count < 2 ^ 64) ⌝ }
     ensures { λ r. ⌜ Runs (now (starts .exit)) (now (values .exit)) r (l .period)
         (valueAt (decode (now (file .entry)) .ticks) (decode (now (file .entry)) .travels) from count
-        (l .period)) ⌝ }
+        (l .period)) × (now (finds .exit) ≡ now (finds .entry) + count) ⌝ }
 {
     let last = count - 1;
     let begin = travel(file, l, from);
@@ -56,11 +60,12 @@ fn fill_points(
     for k in 0..last {
         let b = read::tick(file, l, from + (k + 1));
         let w = travel(file, l, from + (k + 1));
-        n = day_runs::extend(starts, values, n, a, v, b, w);
+        n = day_runs::extend(starts, values, n, a, v, b, w, finds);
         a = b;
         v = w;
     }
-    day_runs::extend(starts, values, n, a, v, l.period, begin)
+    let closed = day_runs::extend(starts, values, n, a, v, l.period, begin, finds);
+    day_runs::close(starts, values, closed, l.period, begin)
 }
 
 // The first n values as numbers of 16 bits.
@@ -84,16 +89,19 @@ pub fn fill_arc(
     starts: &mut [u16],
     values: &mut [u32],
     travels: &mut [u16],
+    finds: &mut u64,
 ) -> usize
     requires { ⌜ Town (now file) l ⌝ }
-    requires { ⌜ (arc < l .arcs) × (getD (now points) arc 0 ≡ start (decode (now file)) arc) ⌝ }
+    requires { ⌜ (arc < l .arcs) × (getD (now points) arc 0 ≡ Network.start (decode (now file)) arc) ⌝ }
     requires { ⌜ Space (now starts) (now values) (l .period) × (l .period ≤ length (now travels)) ⌝ }
+    requires { ⌜ now finds + Network.count (decode (now file)) arc < 2 ^ 64 ⌝ }
     ensures { λ r. ⌜ Runs (now (starts .exit)) (now (travels .exit)) r (l .period)
-        (travelAt (decode (now (file .entry))) arc) × Short (now (travels .exit)) r (l .period) ⌝ }
+        (travelAt (decode (now (file .entry))) arc) × Short (now (travels .exit)) r (l .period)
+        × (now (finds .exit) ≡ now (finds .entry) + Network.count (decode (now (file .entry))) arc) ⌝ }
 {
     let from = wide(points[arc]);
     let count = read::count(file, l, arc);
-    let n = fill_points(file, l, from, count, starts, values);
+    let n = fill_points(file, l, from, count, starts, values, finds);
     narrow(values, n, travels);
     n
 }
@@ -111,13 +119,15 @@ fn least_point(file: &[u8], l: Layout, from: usize, count: usize) -> u32
     least
 }
 
-// A travel that an arc's is never below: the least of its points.
-pub fn least_travel(file: &[u8], l: Layout, points: &[u16; MOST_ARCS], arc: usize) -> u32
-    requires { ⌜ Town (now file) l ⌝ }
-    requires { ⌜ (arc < l .arcs) × (getD (now points) arc 0 ≡ start (decode (now file)) arc) ⌝ }
-    ensures { λ r. ⌜ Floor (travelAt (decode (now (file .entry))) arc) (l .period) r ⌝ }
+// The greatest.
+fn greatest_point(file: &[u8], l: Layout, from: usize, count: usize) -> u32
+    requires { ⌜ Laid (now file) l ⌝ }
+    requires { ⌜ (0 < count) × (from + count ≤ l .points) ⌝ }
+    ensures { λ r. ⌜ Most (entryAt (decode (now (file .entry)) .travels) from) count r ⌝ }
 {
-    let from = wide(points[arc]);
-    let count = read::count(file, l, arc);
-    least_point(file, l, from, count)
+    let mut greatest = travel(file, l, from);
+    for k in 1..count {
+        greatest = day_runs::greater(greatest, travel(file, l, from + k));
+    }
+    greatest
 }

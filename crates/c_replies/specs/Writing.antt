@@ -16,6 +16,8 @@ use Rattle.search_path.specs.declared.answer.Answer.{Answer}
 use Rattle.search_path.specs.declared.answer.Answer.the-variants.{Arrived, Refused}
 use Rattle.search_path.specs.Says.{tripSays, tripTick, tripCount}
 use Rattle.network.specs.Limits.{mostRoads}
+use Rattle.plan_check.specs.declared.answer.Checking.{Checking}
+use Rattle.plan_check.specs.Answer.{reportSays}
 use Rattle.c_replies.specs.Reply.{bytes, roadBytes, tripBytes}
 
 -- THE ROADS
@@ -129,6 +131,12 @@ module _ {A : Type 0} (says : A → Says) (o k : A) (e : o ≡ k) where
   pub case-numbers : (old new : List ℕ) → new ≡ overwritten (numbersOf (says k)) old
       → new ≡ overwritten (numbersOf (says o)) old
   case-numbers old new f = f ∙ ap (λ (v : A). overwritten (numbersOf (says v)) old) (sym e)
+
+-- and the check's, whose finds are the same in either case
+pub report-numbers : (finds : ℕ) (o k : Checking) → o ≡ k → (old new : List ℕ)
+    → new ≡ overwritten (numbersOf (reportSays k finds)) old
+    → new ≡ overwritten (numbersOf (reportSays o finds)) old
+report-numbers finds = case-numbers (λ v. reportSays v finds)
 
 -- for `search replies` where a trip's answer is written
 pub ruleset replies = (arrived-bytes, arrived-count, arrived-room, refused-bytes)

@@ -3,6 +3,7 @@
 use file_refusals::writing::Writing;
 use network::answer::Opening;
 use plan_check::answer::Checking;
+use plan_check::answer::Report;
 use search_path::answer::Answer;
 ghost use mathlib.Core.Path.{_≡_};
 ghost use Prim.Native.Nat.{_≤_};
@@ -11,9 +12,12 @@ ghost use Rattle.theory_loops.specs.Fill.{overwritten};
 ghost use Rattle.file_refusals.specs.Says.{numbersOf};
 ghost use Rattle.network.specs.Answer.{openingSays};
 ghost use Rattle.file_refusals.specs.Writing.{writingSays};
-ghost use Rattle.plan_check.specs.Answer.{checkingSays};
+ghost use Rattle.plan_check.specs.Answer.{reportSays};
 ghost use Rattle.search_path.specs.Says.{tripSays, tripCount};
 ghost use Rattle.network.specs.Limits.{mostRoads};
+
+// One more than the greatest number of 32 bits.
+const WORD: u64 = 4294967296;
 
 // The numbers become the first of the lent ones.
 fn write(numbers: &[u32], answer: &mut [u32])
@@ -25,21 +29,24 @@ fn write(numbers: &[u32], answer: &mut [u32])
     }
 }
 
-// What the check answers.
-pub fn write_checking(checking: Checking, answer: &mut [u32]) -> u32
-    requires { ⌜ 3 ≤ length (now answer) ⌝ }
-    ensures code { λ r. ⌜ r ≡ checkingSays checking .number ⌝ }
+// What the check tells: its verdict, and its finds in two words.
+pub fn write_checking(report: Report, answer: &mut [u32]) -> u32
+    requires { ⌜ 5 ≤ length (now answer) ⌝ }
+    ensures code { λ r. ⌜ r ≡ reportSays (report .verdict) (report .finds) .number ⌝ }
     ensures numbers { λ _. ⌜ now (answer .exit)
-        ≡ overwritten (numbersOf (checkingSays checking)) (now (answer .entry)) ⌝ }
+        ≡ overwritten (numbersOf (reportSays (report .verdict) (report .finds))) (now (answer .entry)) ⌝ }
 {
-    match checking {
+    let low = (report.finds % WORD) as u32;
+    let high = (report.finds / WORD) as u32;
+    let verdict = report.verdict;
+    match verdict {
         Checking::Accepted => {
-            let numbers = [0u32, 0, 0];
+            let numbers = [0, 0, 0, low, high];
             write(&numbers, answer);
             0
         }
         Checking::Refused(r) => {
-            let numbers = [r.first, r.second, r.third];
+            let numbers = [r.first, r.second, r.third, low, high];
             write(&numbers, answer);
             r.number
         }

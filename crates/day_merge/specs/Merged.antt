@@ -14,6 +14,7 @@ use lib.Bits.{bitOr, or-zero-r}
 use borrow.Author.Tests.{lt-ltb, le-ltb, eq-eqb, ne-eqb}
 use Rattle.theory_loops.specs.Fill.{Filled, fill-none}
 use Rattle.day_runs.specs.Runs.{Runs}
+use Rattle.day_merge.specs.declared.Place.{Place}
 use Rattle.day_merge.specs.Walk.{At, Span, at-end, later}
 
 -- what an arc with travel w gives at tick x, where h is its head's profile
@@ -55,6 +56,31 @@ pub record Walked (so vo sa va sh vh : List ℕ) (no' na nh period same since t 
 pub record Turned (since t held more r : ℕ) (old new : List ℕ) : Type 0 where
   pub painting : Filled since r (painted (always held) old) old new
   pub where-to : (r ≡ t) ⊎ ((r ≡ since) × (more ≡ held))
+
+-- A walk goes on: whatever was there before, what is told up to tick t₀ is told up to tick t.
+pub record Onward (so vo sa va sh vh : List ℕ) (no' na nh period same since₀ t₀ held₀ since t held : ℕ)
+    (old new : List ℕ) : Type 0 where
+  pub walked : (base : List ℕ) → Walked so vo sa va sh vh no' na nh period same since₀ t₀ held₀ base old
+      → Walked so vo sa va sh vh no' na nh period same since t held base new
+
+-- from place p to place r, within run k of the arc
+pub record Swept (so vo sa va sh vh : List ℕ) (no' na nh period same k : ℕ) (p r : Place) (old new : List ℕ)
+    : Type 0 where
+  pub ahead : p .t < r .t
+  pub arc : r .t ≤ getD sa (k + 1) 0
+  pub own : r .t < period → At so no' (r .i) (r .t)
+  pub head : r .j ≤ nh
+  pub onward : Onward so vo sa va sh vh no' na nh period same (p .since) (p .t) (p .held) (r .since) (r .t)
+      (r .held) old new
+
+-- since when the bits are the same
+pub turned-order : {since t held more r : ℕ} {old new : List ℕ} → Turned since t held more r old new
+    → since ≤ t → r ≤ t
+turned-order {since} {t} {held} {more} {r} f o = go (f .where-to)
+  where
+    go : (r ≡ t) ⊎ ((r ≡ since) × (more ≡ held)) → r ≤ t
+    go (inl z) = omega arith
+    go (inr (z, y)) = omega arith
 
 -- FOR THE CODE that works out bits and paints
 pub bits-less : (same g o : ℕ) → g < o → 1 ≡ bits same g o
@@ -104,9 +130,9 @@ painted-more m old mid new a b held p f l e = record {
 
 -- THREE LISTS of runs, and where the walk stands in them at tick t; the arc ends at tick e
 module _ {so vo sa va sh vh : List ℕ} {no' na nh period : ℕ} {own w h : ℕ → ℕ} (O : Runs so vo no' period own)
-    (A : Runs sa va na period w) (H : Runs sh vh nh period h) (i k j t e to : ℕ) (pi : At so no' i t)
+    (A : Runs sa va na period w) (H : Runs sh vh nh period h) (i k j t e stop to : ℕ) (pi : At so no' i t)
     (pk : At sa na k t) (pj : At sh nh j e) (is : e ≡ (t + getD va k 0) % period)
-    (span : Span so i sa k sh j t e to period) where
+    (span : Span so i sh j t e stop to period) (short : stop ≤ getD sa (k + 1) 0) where
   own-there : (x : ℕ) → t ≤ x → x < to → own x ≡ getD vo i 0
   own-there x lo hi = O .held i x (pi .below) (omega (arith, pi .from)) (omega (arith, span .own))
 
@@ -139,16 +165,18 @@ module _ (so vo sa va sh vh : List ℕ) (no' na nh period same : ℕ) (old : Lis
     waits = λ own w h O A H x lo hi. absurd (omega arith);
   }
 
-  pub walked-more : (mid new : List ℕ) (i k j t e to since held more r : ℕ)
+  pub walked-more : (mid new : List ℕ) (i k j t e stop to since held more r : ℕ)
       → Walked so vo sa va sh vh no' na nh period same since t held old mid → At so no' i t → At sa na k t
-      → At sh nh j e → e ≡ (t + getD va k 0) % period → Span so i sa k sh j t e to period
+      → At sh nh j e → e ≡ (t + getD va k 0) % period → Span so i sh j t e stop to period
+      → stop ≤ getD sa (k + 1) 0
       → more ≡ bits same (getD vh j 0 + getD va k 0) (getD vo i 0) → Turned since t held more r mid new
       → Walked so vo sa va sh vh no' na nh period same r to more old new
-  walked-more mid new i k j t e to since held more r p pi pk pj is span em f = go (f .where-to)
+  walked-more mid new i k j t e stop to since held more r p pi pk pj is span short em f = go (f .where-to)
     where
       there : (own w h : ℕ → ℕ) → Runs so vo no' period own → Runs sa va na period w → Runs sh vh nh period h
           → (x : ℕ) → t ≤ x → x < to → bitsAt same own w h period x ≡ more
-      there own w h O A H x lo hi = bits-there O A H i k j t e to pi pk pj is span same more em x lo hi
+      there own w h O A H x lo hi =
+          bits-there O A H i k j t e stop to pi pk pj is span short same more em x lo hi
 
       -- up to r the bits are those held
       so-far : since ≤ r → r ≤ t → (own w h : ℕ → ℕ) → Runs so vo no' period own → Runs sa va na period w
@@ -183,4 +211,21 @@ module _ (so vo sa va sh vh : List ℕ) (no' na nh period same : ℕ) (old : Lis
     is = λ own w h O A H.
         painted-more _ old mid new since period held (p .done own w h O A H) f (omega (arith, p .order))
         (λ x lo hi. p .waits own w h O A H x lo (omega arith));
+  }
+
+-- FOR THE LOOP over a run of the arc
+module _ (so vo sa va sh vh : List ℕ) (no' na nh period same since₀ t₀ held₀ : ℕ) (old : List ℕ) where
+  pub onward-none : Onward so vo sa va sh vh no' na nh period same since₀ t₀ held₀ since₀ t₀ held₀ old old
+  onward-none = record { walked = λ base p. p }
+
+  pub onward-more : (mid new : List ℕ) (i k j t e stop to since held more r : ℕ)
+      → Onward so vo sa va sh vh no' na nh period same since₀ t₀ held₀ since t held old mid → At so no' i t
+      → At sa na k t → At sh nh j e → e ≡ (t + getD va k 0) % period → Span so i sh j t e stop to period
+      → stop ≤ getD sa (k + 1) 0 → more ≡ bits same (getD vh j 0 + getD va k 0) (getD vo i 0)
+      → Turned since t held more r mid new
+      → Onward so vo sa va sh vh no' na nh period same since₀ t₀ held₀ r to more old new
+  onward-more mid new i k j t e stop to since held more r p pi pk pj is span short em f = record {
+    walked = λ base q.
+        walked-more so vo sa va sh vh no' na nh period same base mid new i k j t e stop to since held more r
+        (p .walked base q) pi pk pj is span short em f;
   }

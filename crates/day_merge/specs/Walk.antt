@@ -22,12 +22,12 @@ pub record Listed (starts : List ℕ) (n period : ℕ) : Type 0 where
   pub grid : Grid starts n period
   pub long : n < length starts
 
--- from tick t up to `to` nothing changes: not the node's run i nor the arc's run k, and not the head's run j,
--- in which the arc ends at tick e
-pub record Span (so : List ℕ) (i : ℕ) (sa : List ℕ) (k : ℕ) (sh : List ℕ) (j t e to period : ℕ) : Type 0 where
+-- from tick t up to `to` nothing changes: not the node's run i nor the arc's travel, which is the same up to
+-- `stop`, and not the head's run j, in which the arc ends at tick e
+pub record Span (so : List ℕ) (i : ℕ) (sh : List ℕ) (j t e stop to period : ℕ) : Type 0 where
   pub some : t < to
   pub own : to ≤ getD so (i + 1) 0
-  pub arc : to ≤ getD sa (k + 1) 0
+  pub arc : to ≤ stop
   pub head : to ≤ t + (getD sh (j + 1) 0 - e)
   pub within : to ≤ period
 
@@ -60,6 +60,13 @@ module _ {starts : List ℕ} {n period : ℕ} (g : Grid starts n period) where
   -- the same run, further on
   pub at-still : (i x y : ℕ) → At starts n i x → x ≤ y → y < getD starts (i + 1) 0 → At starts n i y
   at-still i x y p l m = record { below = p .below; from = omega (arith, p .from); to = m }
+
+  -- a run that begins within the day is one of the n
+  pub begun-below : (i e : ℕ) → i ≤ n → getD starts i 0 ≤ e → e < period → i < n
+  begun-below i e l m h = elim (ℕ-discrete i n) [
+    | yes q ↦ absurd (let z = rw (← q) at (g .ended) in omega arith)
+    | no q ↦ omega arith
+  ]
 
   -- FOR CODE that looks on from run i for the one that holds e
   pub on-more : (i e : ℕ) → i < n → getD starts (i + 1) 0 ≤ e → e < period → i + 1 < n

@@ -1,5 +1,5 @@
 -- The runs of a line that falls by less than its ticks: the laws of the loop that puts them.
-use mathlib.Core.Path.{_≡_, sym, _∙_, ap, subst}
+use mathlib.Core.Path.{_≡_, _∙_, ap, subst}
 use mathlib.Core.List.{List}
 use Prim.Native.Nat.{ℕ, zero, suc, _+_, _-_, _*_, _/_, _≤_, _<_}
 use native.Mathlib.Nat.{mul-le-mul-right, div-mul-le-self}
@@ -12,8 +12,7 @@ use lib.ListN.{set}
 use Rattle.theory_travel.specs.Pieces.{lineAt}
 use Rattle.travel_runs.specs.Fixed.{stepUp, floored, climb-floored}
 use Rattle.travel_runs.specs.Runs.{floored-none, falling-run, falling-last, value-first}
-use Rattle.day_runs.specs.Runs.{Runs}
-use Rattle.day_runs.specs.Held.{Added, Held, Room, held-start, held-put, held-next}
+use Rattle.day_runs.specs.Held.{Held, Room, held-start, held-next, held-on}
 use Rattle.day_runs.specs.Places.{floored-apart, floored-short}
 
 -- run i of a falling line begins at this tick of it
@@ -91,13 +90,13 @@ module _ {s₀ v₀ : List ℕ} {n a b : ℕ} (room : Room s₀ v₀ n a b) wher
     fall-below zero l = omega (arith, room .apart)
     fall-below (suc j) l = omega (arith, fall-most j (omega arith))
 
-    module _ (s vs s' v' : List ℕ) (j : ℕ)
+    module _ (s vs : List ℕ) (j : ℕ)
         (p : Held s₀ v₀ s vs n (n + j) a v (a + fallen j (b - a) (v - w)) (v - j) (lineAt a v b w)) where
-      pub fall-more : (k parts : ℕ) → parts ≡ j * step → j < v - w → k ≡ parts / 4294967296
+      pub fall-more : (s' v' : List ℕ) (k parts : ℕ) → parts ≡ j * step → j < v - w → k ≡ parts / 4294967296
           → s' ≡ set s (n + j + 1) (a + 1 + k) → v' ≡ set vs (n + j) (v - j)
           → Held s₀ v₀ s' v' n (n + (j + 1)) a v (a + fallen (j + 1) (b - a) (v - w)) (v - (j + 1))
           (lineAt a v b w)
-      fall-more k parts z l e es ev =
+      fall-more s' v' k parts z l e es ev =
           let q : k ≡ floored j (b - a) (v - w) = fall-k j k parts z (omega arith) e in
           let i : n + (j + 1) ≡ n + j + 1 = omega arith in
           let o : a + 1 + k ≡ a + fallen (j + 1) (b - a) (v - w) =
@@ -107,23 +106,13 @@ module _ {s₀ v₀ : List ℕ} {n a b : ℕ} (room : Room s₀ v₀ n a b) wher
           (omega (arith, fallen-apart j)) (omega (arith, fall-most j l))
           (λ y lo hi. fall-value j y (omega arith) lo (omega (arith, fall-most j l)) (λ _. omega arith)))
 
-      pub fall-end : j ≤ v - w → v - w ≤ j → s' ≡ set s (n + (v - w) + 1) b → v' ≡ set vs (n + (v - w)) w
-          → Added s₀ v₀ s' v' n (n + (v - w) + 1) a v b (lineAt a v b w)
-      fall-end l m es ev =
-          let i : v - w ≡ j = omega arith in
-          let u : w ≡ v - j = omega arith in
-          let es' : s' ≡ set s (n + j + 1) b = es ∙ ap (λ (k : ℕ). set s (n + k + 1) b) i in
-          let ev' : v' ≡ set vs (n + j) (v - j) =
-          ev ∙ ap (λ (k : ℕ). set vs (n + k) w) i ∙ ap (λ (k : ℕ). set vs (n + j) k) u in
+      -- the last run stays open
+      pub fall-end : j ≤ v - w → v - w ≤ j → Held s₀ v₀ s vs n (n + (v - w)) a v b w (lineAt a v b w)
+      fall-end l m =
+          let i : j ≡ v - w = omega arith in
+          let u : v - j ≡ w = omega arith in
           let t =
-          held-put room s vs s' v' (n + j) _ v b (v - j) _ p es' ev' (omega arith) (fall-below j l)
-          (omega arith)
+          held-on room p (omega arith) (omega (arith, fall-below j l))
           (λ y lo hi. fall-value j y l lo hi (λ o. absurd (omega arith))) in
-          record {
-            runs =
-                λ f p k. subst (λ (k : ℕ). Runs s' v' (n + k + 1) b f) (sym i) (t .runs f p k);
-            long-s =
-                t .long-s;
-            long-v = t .long-v;
-            few = omega (arith, t .few);
-          }
+          subst (λ (k : ℕ). Held s₀ v₀ s vs n (n + k) a v b w (lineAt a v b w)) i
+          (subst (λ (k : ℕ). Held s₀ v₀ s vs n (n + j) a v b k (lineAt a v b w)) u t)

@@ -1,6 +1,6 @@
--- A day's runs, filled point by point: the runs before point k are the day's, and the line from point k to
--- the next gives those up to the next. The laws know the points as functions, so that whoever reads them in
--- place has them.
+-- A day's runs, filled point by point: the runs before point k are the day's, the last of them open, and the
+-- line from point k to the next gives those up to the next. The laws know the points as functions, so that
+-- whoever reads them in place has them.
 use mathlib.Core.Path.{_≡_, sym}
 use mathlib.Core.List.{List}
 use Prim.Native.Nat.{ℕ, _+_, _≤_, _<_}
@@ -8,8 +8,8 @@ use native.Mathlib.Omega.{arith}
 use lib.ListN.{length, getD}
 use Rattle.theory_travel.specs.Day.{Day, dayValue}
 use Rattle.theory_travel.specs.Pieces.{lineAt, tick-first, tick-below, tick-rises, piece-next, piece-last}
-use Rattle.day_runs.specs.Runs.{Runs, runs-none, runs-few}
-use Rattle.day_runs.specs.Held.{Room, Extended}
+use Rattle.day_runs.specs.Runs.{Pending, runs-none, runs-open, runs-few, starts-few}
+use Rattle.day_runs.specs.Held.{Held, Room, Ending}
 
 -- lists with room for the runs of any day of this period
 pub record Space (starts values : List ℕ) (period : ℕ) : Type 0 where
@@ -17,14 +17,14 @@ pub record Space (starts values : List ℕ) (period : ℕ) : Type 0 where
   pub in-s : period < length starts
   pub in-v : period ≤ length values
 
--- c runs up to tick a, which is that of point k, with value p
+-- c runs, and an open one up to tick a, which is that of point k, with value p
 pub record Filling (t v : ℕ → ℕ) (n period : ℕ) (starts values : List ℕ) (c k a p : ℕ) : Type 0 where
   pub tick : a ≡ t k
   pub value : p ≡ v k
-  pub runs : Runs starts values c a (dayValue t v n period)
+  pub runs : Pending starts values c a p (dayValue t v n period)
 
-pub space-on : {s vs s' vs' : List ℕ} {c m a b period : ℕ} {g : ℕ → ℕ} → Space s vs period
-    → Extended s vs s' vs' c m a b g → Space s' vs' period
+pub space-on : {s vs s' vs' : List ℕ} {c m a p b q period : ℕ} {g : ℕ → ℕ} → Space s vs period
+    → Held s vs s' vs' c m a p b q g → Space s' vs' period
 space-on h e =
     record {
       short =
@@ -35,7 +35,8 @@ space-on h e =
 
 module _ {t : ℕ → ℕ} {n period : ℕ} (d : Day t n period) (v : ℕ → ℕ) where
   pub filling-start : {s vs : List ℕ} (p : ℕ) → getD s 0 0 ≡ 0 → p ≡ v 0 → Filling t v n period s vs 0 0 0 p
-  filling-start {s} {vs} p e g = record { tick = tick-first d; value = g; runs = runs-none _ s vs e }
+  filling-start {s} {vs} p e g =
+      record { tick = tick-first d; value = g; runs = runs-open _ p (runs-none _ s vs e) }
 
   module _ {s vs : List ℕ} {c k a p : ℕ} (f : Filling t v n period s vs c k a p) where
     -- there is room for the line to the next point, and for the one to the next day's first
@@ -44,7 +45,7 @@ module _ {t : ℕ → ℕ} {n period : ℕ} (d : Day t n period) (v : ℕ → �
         let m : b < period = tick-below d (k + 1) b e l in
         record {
           apart = tick-rises d k a (f .tick) b e l;
-          few = runs-few (f .runs .grid);
+          few = omega (arith, runs-few (f .runs .runs .grid), f .runs .upto);
           last = omega (arith, h .short);
           in-s = omega (arith, h .in-s);
           in-v = omega (arith, h .in-v);
@@ -53,13 +54,13 @@ module _ {t : ℕ → ℕ} {n period : ℕ} (d : Day t n period) (v : ℕ → �
     pub room-last : Space s vs period → k < n → Room s vs c a period
     room-last h l = record {
       apart = tick-below d k a (f .tick) l;
-      few = runs-few (f .runs .grid);
+      few = omega (arith, runs-few (f .runs .runs .grid), f .runs .upto);
       last = h .short;
       in-s = h .in-s;
       in-v = h .in-v;
     }
 
-    module _ {s' vs' : List ℕ} {m b q : ℕ} (more : Extended s vs s' vs' c m a b (lineAt a p b q)) where
+    module _ {s' vs' : List ℕ} {m b q : ℕ} (more : Held s vs s' vs' c m a p b q (lineAt a p b q)) where
       pub filling-next : b ≡ t (k + 1) → q ≡ v (k + 1) → k + 1 < n → Filling t v n period s' vs' m (k + 1) b q
       filling-next h i l = record {
         tick = h;
@@ -69,7 +70,22 @@ module _ {t : ℕ → ℕ} {n period : ℕ} (d : Day t n period) (v : ℕ → �
             (λ y lo hi. sym (piece-next d v k a p b q (f .tick) (f .value) h i l y lo hi));
       }
 
-      pub filling-last : b ≡ period → q ≡ v 0 → k < n → n ≤ k + 1 → Runs s' vs' m b (dayValue t v n period)
+      -- the last piece, after which the day ends
+      pub filling-last : b ≡ period → q ≡ v 0 → k < n → n ≤ k + 1
+          → Pending s' vs' m b q (dayValue t v n period)
       filling-last h i l o =
           more .runs _ (f .runs)
           (λ y lo hi. sym (piece-last d v k a p b q (f .tick) (f .value) h i l o y lo hi))
+
+-- the open run of a day can be ended
+pub pending-ends : {f : ℕ → ℕ} {s vs : List ℕ} {c period q : ℕ} → Space s vs period
+    → Pending s vs c period q f → Ending s vs c period
+pending-ends {s = s} {c = c} h p =
+    let e = p .runs .grid .ended in
+    record {
+      few = starts-few s c (p .at) (p .runs .grid) c (omega arith);
+      begun = omega (arith, e, p .upto);
+      last = h .short;
+      in-s = h .in-s;
+      in-v = h .in-v;
+    }

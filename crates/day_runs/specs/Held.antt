@@ -3,14 +3,12 @@
 -- argument.
 use mathlib.Core.Path.{_≡_, refl, _∙_}
 use mathlib.Core.List.{List}
-use mathlib.Core.Logic.{_⊎_, inl, inr}
 use Prim.Native.Nat.{ℕ, _+_, _≤_, _<_}
-use native.Mathlib.Decide.{decLt}
 use native.Mathlib.Omega.{arith}
 use lib.ListN.{length, getD, set, length-set}
 use Rattle.theory_travel.specs.Pieces.{lineAt}
 use Rattle.travel_runs.specs.Runs.{value-first, value-flat}
-use Rattle.day_runs.specs.Runs.{Runs, Pending, runs-put, runs-open, runs-either}
+use Rattle.day_runs.specs.Runs.{Runs, Pending, runs-open, runs-on, runs-close}
 
 -- After n runs, which may leave one of value q open at tick a, m are there up to tick b: those of g from a
 -- on. Whatever f the n runs were of, the m are of it.
@@ -26,6 +24,16 @@ pub record Held (s₀ v₀ s v : List ℕ) (n m a q b r : ℕ) (g : ℕ → ℕ)
   pub long-s : length s ≡ length s₀
   pub long-v : length v ≡ length v₀
   pub few : m ≤ b
+
+-- after runs that end, one is open that has no tick yet
+pub added-held : {s₀ v₀ s v : List ℕ} {n m a q b : ℕ} {g : ℕ → ℕ} (r : ℕ) → Added s₀ v₀ s v n m a q b g
+    → Held s₀ v₀ s v n m a q b r g
+added-held r h = record {
+  runs = λ f p k. runs-open f r (h .runs f p k);
+  long-s = h .long-s;
+  long-v = h .long-v;
+  few = h .few;
+}
 
 -- what the code rests on that puts a piece from tick a to tick b
 pub record Room (s v : List ℕ) (n a b : ℕ) : Type 0 where
@@ -49,6 +57,7 @@ module _ {s₀ v₀ : List ℕ} {n a b : ℕ} (room : Room s₀ v₀ n a b) wher
     pub held-put : Held s₀ v₀ s v n m a q x r g → s' ≡ set s (m + 1) e → v' ≡ set v m r → a ≤ x → x < e
         → e ≤ b → ((y : ℕ) → x ≤ y → y < e → g y ≡ r)
         → Added s₀ v₀ s' v' n (m + 1) a q e g
+    unfolding runs-on
     held-put z es ev l o u h = record {
       runs = λ f p k. rw (es, ev) (put f (z .runs f p (λ y lo hi. k y lo (omega arith))) k);
       long-s = rw es (length-set s (m + 1) e) ∙ z .long-s;
@@ -56,66 +65,71 @@ module _ {s₀ v₀ : List ℕ} {n a b : ℕ} (room : Room s₀ v₀ n a b) wher
       few = omega (arith, z .few);
     }
       where
-        run : (f : ℕ → ℕ) (p : Pending s v m x r f) → ((y : ℕ) → a ≤ y → y < e → f y ≡ g y) → (y : ℕ)
-            → p .at ≤ y → y < e → f y ≡ r
-        run f p k y lo hi =
-            elim (decLt y x) [ yes i ↦ p .same y lo i | no i ↦ k y (omega arith) hi ∙ h y (omega arith) hi ]
-
         put : (f : ℕ → ℕ) → Pending s v m x r f → ((y : ℕ) → a ≤ y → y < e → f y ≡ g y)
             → Runs (set s (m + 1) e) (set v m r) (m + 1) e f
         put f p k =
-            runs-put f s v m (p .at) e r (omega (arith, p .upto)) (held-room z (omega arith) .0)
-            (held-room z (omega arith) .1) (p .runs) (run f p k)
+            runs-close f (runs-on f e p (omega arith) (λ y lo hi. k y (omega arith) hi ∙ h y lo hi))
+            (omega (arith, p .upto)) (held-room z (omega arith) .0) (held-room z (omega arith) .1)
 
     pub held-next : (t : ℕ) → Held s₀ v₀ s v n m a q x r g → s' ≡ set s (m + 1) e → v' ≡ set v m r → a ≤ x
         → x < e → e ≤ b → ((y : ℕ) → x ≤ y → y < e → g y ≡ r)
         → Held s₀ v₀ s' v' n (m + 1) a q e t g
-    held-next t z es ev l o u h =
-        let w = held-put z es ev l o u h in
-        record {
-          runs =
-              λ f p k. runs-open f t (w .runs f p k);
-          long-s = w .long-s;
-          long-v = w .long-v;
-          few = w .few;
-        }
+    held-next t z es ev l o u h = added-held t (held-put z es ev l o u h)
+
+  -- the open run goes on
+  pub held-on : {s v : List ℕ} {m q x r : ℕ} {g : ℕ → ℕ} → Held s₀ v₀ s v n m a q x r g → a ≤ x → x ≤ b
+      → ((y : ℕ) → x ≤ y → y < b → g y ≡ r) → Held s₀ v₀ s v n m a q b r g
+  held-on z l o h = record {
+    runs =
+        λ f p k. runs-on f b (z .runs f p (λ y lo hi. k y lo (omega arith))) o
+        (λ y lo hi. k y (omega arith) hi ∙ h y lo hi);
+    long-s = z .long-s;
+    long-v = z .long-v;
+    few = omega (arith, z .few);
+  }
 
   -- FLAT
-  pub flat-added : (s v : List ℕ) (q w : ℕ) → q ≡ w → s ≡ set s₀ (n + 1) b → v ≡ set v₀ n q
-      → Added s₀ v₀ s v n (n + 1) a q b (lineAt a q b w)
-  flat-added s v q w z es ev =
-      held-put s₀ v₀ s v n a q b q _ (held-start q _) es ev (omega arith) (room .apart) (omega arith)
-      (λ y lo hi. rw (← z) (value-flat y a q b lo hi))
+  pub flat-held : (q w : ℕ) → q ≡ w → Held s₀ v₀ s₀ v₀ n n a q b w (lineAt a q b w)
+  flat-held q w z =
+      rw (← z) (held-on (held-start q _) (omega arith) (omega (arith, room .apart))
+      (λ y lo hi. value-flat y a q b lo hi))
 
   -- ONE TICK
-  pub tick-added : (s v : List ℕ) (q w : ℕ) → b ≡ a + 1 → s ≡ set s₀ (n + 1) b → v ≡ set v₀ n q
-      → Added s₀ v₀ s v n (n + 1) a q b (lineAt a q b w)
-  tick-added s v q w z es ev =
-      held-put s₀ v₀ s v n a q b q _ (held-start q _) es ev (omega arith) (room .apart) (omega arith)
+  pub tick-held : (s v : List ℕ) (q w : ℕ) → b ≡ a + 1 → s ≡ set s₀ (n + 1) b → v ≡ set v₀ n q
+      → Held s₀ v₀ s v n (n + 1) a q b w (lineAt a q b w)
+  tick-held s v q w z es ev =
+      held-next s₀ v₀ s v n a q b q _ w (held-start q _) es ev (omega arith) (room .apart) (omega arith)
       (λ y lo hi. let e : y ≡ a = omega arith in rw e (value-first a q b w (room .apart)))
 
--- THE RESULT: n runs up to tick a, of whatever f, are m runs of it up to tick b, where f is g from a on
-pub record Extended (s₀ v₀ s v : List ℕ) (n m a b : ℕ) (g : ℕ → ℕ) : Type 0 where
-  pub runs : (f : ℕ → ℕ) → Runs s₀ v₀ n a f → ((y : ℕ) → a ≤ y → y < b → f y ≡ g y) → Runs s v m b f
+-- what the code rests on that ends a day at tick b, where the run after the n-th is open
+pub record Ending (s v : List ℕ) (n b : ℕ) : Type 0 where
+  pub few : n ≤ getD s n 0
+  pub begun : getD s n 0 ≤ b
+  pub last : b ≤ 65535
+  pub in-s : b < length s
+  pub in-v : b ≤ length v
+
+-- THE RESULT: a day of n runs and an open one of value q, whatever it is of, is one of m runs
+pub record Closed (s₀ v₀ s v : List ℕ) (n m b q : ℕ) : Type 0 where
+  pub runs : (f : ℕ → ℕ) → Pending s₀ v₀ n b q f → Runs s v m b f
   pub long-s : length s ≡ length s₀
   pub long-v : length v ≡ length v₀
-  pub few : m ≤ b
 
--- the last run was taken up again, if it has the value with which the piece begins
-module _ {s v : List ℕ} {n a b : ℕ} (r q : ℕ) (back : (n ≡ r) ⊎ ((n ≡ r + 1) × (getD v r 0 ≡ q))) where
-  pub back-room : Room s v n a b → Room s v r a b
-  back-room h =
-      record { apart = h .apart; few = few back; last = h .last; in-s = h .in-s; in-v = h .in-v }
-    where
-      few : ((n ≡ r) ⊎ ((n ≡ r + 1) × (getD v r 0 ≡ q))) → r ≤ a
-      few (inl z) = omega (arith, h .few)
-      few (inr (z, u)) = omega (arith, h .few)
+module _ (s v : List ℕ) (n b q : ℕ) (h : Ending s v n b) where
+  pub closed-put : (s' v' : List ℕ) → getD s n 0 < b → s' ≡ set s (n + 1) b → v' ≡ set v n q
+      → Closed s v s' v' n (n + 1) b q
+  closed-put s' v' l es ev = record {
+    runs =
+        λ f p. rw (es, ev) (runs-close f p (omega (arith, p .runs .grid .ended))
+        (omega (arith, h .few, h .in-s))
+        (omega (arith, h .few, h .in-v)));
+    long-s = rw es (length-set s (n + 1) b);
+    long-v = rw ev (length-set v n q);
+  }
 
-  pub back-extended : {s' v' : List ℕ} {m : ℕ} {g : ℕ → ℕ} → Added s v s' v' r m a q b g
-      → Extended s v s' v' n m a b g
-  back-extended h = record {
-    runs = λ f p k. h .runs f (runs-either f r q p back) k;
-    long-s = h .long-s;
-    long-v = h .long-v;
-    few = h .few;
+  pub closed-none : b ≤ getD s n 0 → Closed s v s v n n b q
+  closed-none l = record {
+    runs = λ f p. let e : p .at ≡ b = omega (arith, p .runs .grid .ended, p .upto) in rw (← e) (p .runs);
+    long-s = refl;
+    long-v = refl;
   }

@@ -1,11 +1,10 @@
 -- A day as runs of equal value: run i holds the ticks from starts[i] up to starts[i + 1], where starts[n] is
 -- the period.
-use mathlib.Core.Path.{_≡_, refl, sym, _∙_}
-use mathlib.Core.Logic.{_⊎_, inl, inr}
+use mathlib.Core.Path.{_≡_, sym, _∙_}
 use mathlib.Core.List.{List}
 use Prim.Native.Nat.{ℕ, zero, suc, _+_, _-_, _≤_, _<_}
 use native.Mathlib.Numerals.{add-one}
-use native.Mathlib.Decide.{ℕ-discrete}
+use native.Mathlib.Decide.{ℕ-discrete, decLt}
 use native.Mathlib.Omega.{arith}
 use lib.ListN.{length, getD, set}
 use lib.Seq.{getD-set-same, getD-set-other}
@@ -120,24 +119,22 @@ module _ (f : ℕ → ℕ) where
         → Runs (set s (n + 1) e) (set v n r) (n + 1) e f
     runs-put p h = record { grid = put-grid (p .grid); held = put-held p h }
 
-  -- the last run is taken up again, where it has the value q
+  -- the next run is open, and has no tick yet
   pub runs-open : {s v : List ℕ} {n x : ℕ} (q : ℕ) → Runs s v n x f → Pending s v n x q f
   runs-open {x =
       x} q p = record { at = x; upto = omega arith; runs = p; same = λ y l m. absurd (omega arith) }
 
-  pub runs-back : {s v : List ℕ} {n x : ℕ} (q : ℕ) → Runs s v (n + 1) x f → getD v n 0 ≡ q
-      → Pending s v n x q f
-  runs-back {s} {v} {n} {x} q p e = record {
-    at = getD s n 0;
-    upto = starts-within (p .grid) n (omega arith);
-    runs = record {
-      grid = record { begun = p .grid .begun; ended = refl; rise = λ i l. p .grid .rise i (omega arith) };
-      held = λ i y l lo hi. p .held i y (omega arith) lo hi;
-    };
-    same = λ y l m. p .held n y (omega arith) l (rw (p .grid .ended) m) ∙ e;
+  -- the open run goes on
+  unfoldable pub runs-on : {s v : List ℕ} {n x q : ℕ} (e : ℕ) → Pending s v n x q f → x ≤ e
+      → ((y : ℕ) → x ≤ y → y < e → f y ≡ q) → Pending s v n e q f
+  runs-on {x = x} e p l h = record {
+    at = p .at;
+    upto = omega (arith, p .upto);
+    runs = p .runs;
+    same = λ y lo hi. elim (decLt y x) [ yes i ↦ p .same y lo i | no i ↦ h y (omega arith) hi ];
   }
 
-  pub runs-either : {s v : List ℕ} {n x : ℕ} (r q : ℕ) → Runs s v n x f
-      → ((n ≡ r) ⊎ ((n ≡ r + 1) × (getD v r 0 ≡ q))) → Pending s v r x q f
-  runs-either {s} {v} {n} {x} r q p (inl e) = runs-open q (rw e at p)
-  runs-either {s} {v} {n} {x} r q p (inr (e, h)) = runs-back q (rw e at p) h
+  -- and ends
+  pub runs-close : {s v : List ℕ} {n e q : ℕ} (p : Pending s v n e q f) → p .at < e → n + 1 < length s
+      → n < length v → Runs (set s (n + 1) e) (set v n q) (n + 1) e f
+  runs-close {s} {v} {n} {e} {q} p m in-s in-v = runs-put s v n (p .at) e q m in-s in-v (p .runs) (p .same)

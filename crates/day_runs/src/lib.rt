@@ -1,14 +1,14 @@
 // day_runs: a day's values as runs of equal value, put after one another: at most one division for each piece
-// of the line, none for a tick or a run. Run i holds the ticks from starts[i] up to starts[i + 1]. A piece
-// whose first value is that of the last run takes that run up again (`back`). Rounding stands in `rising` and
-// `falling` alone, and in `climb` and `sink` for lines with a new value at each tick.
+// of the line, none for a tick or a run. Run i holds the ticks from starts[i] up to starts[i + 1]. The last
+// run stays open, so that a piece which begins with its value goes on with it, until `close` ends the day.
+// Rounding stands in `rising` and `falling` alone, and in `climb` and `sink` for lines with a new value at
+// each tick. `extend` counts itself, and nothing else that is public here divides.
 // It may call `travel_runs` for steps, and cites `theory_travel` for the line.
 ghost use mathlib.Core.Path.{_≡_};
-ghost use mathlib.Core.Logic.{_⊎_};
-ghost use Prim.Native.Nat.{_+_, _-_, _*_, _/_, _≤_, _<_, min, max};
-ghost use lib.ListN.{length, getD, set};
+ghost use Prim.Native.Nat.{_+_, _-_, _*_, _/_, _^_, _≤_, _<_, min, max};
+ghost use lib.ListN.{length, set};
 ghost use Rattle.theory_travel.specs.Pieces.{lineAt};
-ghost use Rattle.day_runs.specs.Held.{Added, Room, Extended};
+ghost use Rattle.day_runs.specs.Held.{Added, Held, Room, Ending, Closed};
 
 // Puts run n: from where run n - 1 ends up to tick e.
 fn put(starts: &mut [u16], values: &mut [u32], n: usize, e: usize, v: u32)
@@ -63,7 +63,7 @@ fn rising(
 }
 
 // Runs of a line that falls by less than its ticks: value v - (j + 1) begins after the `floored`-th tick of
-// j.
+// j. The last, of value w, stays open.
 fn falling(
     starts: &mut [u16],
     values: &mut [u32],
@@ -75,8 +75,8 @@ fn falling(
 ) -> usize
     requires { ⌜ Room (now starts) (now values) n a b ⌝ }
     requires { ⌜ (w < v) × (v - w < b - a) ⌝ }
-    ensures { λ r. ⌜ Added (now (starts .entry)) (now (values .entry)) (now (starts .exit))
-        (now (values .exit)) n r a v b (lineAt a v b w) ⌝ }
+    ensures { λ r. ⌜ Held (now (starts .entry)) (now (values .entry)) (now (starts .exit))
+        (now (values .exit)) n r a v b w (lineAt a v b w) ⌝ }
 {
     let fall = (v - w) as usize;
     let step = travel_runs::step_up((b - a) as u32, fall);
@@ -86,8 +86,7 @@ fn falling(
         put(starts, values, n + j, e, v - j as u32);
         parts += step;
     }
-    put(starts, values, n + fall, b, w);
-    n + fall + 1
+    n + fall
 }
 
 // Runs of a line that rises by its ticks or more: one for each tick.
@@ -144,7 +143,7 @@ fn sink(
     n + (b - a)
 }
 
-// Runs of any line: at most ONE division.
+// Runs of any line: at most ONE division. A flat one only goes on with the run that is open.
 fn piece(
     starts: &mut [u16],
     values: &mut [u32],
@@ -155,12 +154,11 @@ fn piece(
     w: u32,
 ) -> usize
     requires { ⌜ Room (now starts) (now values) n a b ⌝ }
-    ensures { λ r. ⌜ Added (now (starts .entry)) (now (values .entry)) (now (starts .exit))
-        (now (values .exit)) n r a v b (lineAt a v b w) ⌝ }
+    ensures { λ r. ⌜ Held (now (starts .entry)) (now (values .entry)) (now (starts .exit))
+        (now (values .exit)) n r a v b w (lineAt a v b w) ⌝ }
 {
     if v == w {
-        put(starts, values, n, b, v);
-        return n + 1;
+        return n;
     }
     if b == a + 1 {
         put(starts, values, n, b, v);
@@ -179,22 +177,9 @@ fn piece(
     sink(starts, values, n, a, v, b, w)
 }
 
-// The runs to go on from where a piece begins with value v: without the last, if it has that value.
-fn back(values: &[u32], n: usize, v: u32) -> usize
-    requires { ⌜ n ≤ length (now values) ⌝ }
-    ensures { λ r. ⌜ (n ≡ r) ⊎ ((n ≡ r + 1) × (getD (now (values .entry)) r 0 ≡ v)) ⌝ }
-{
-    if n == 0 {
-        return n;
-    }
-    if values[n - 1] == v {
-        return n - 1;
-    }
-    n
-}
-
-// The runs of a day up to tick `a`, n of them, and those of the line from (a, v) to (b, w) after them.
-// Answers their number.
+// The runs of a day up to tick `a`, n of them and an open one of value v, and those of the line from (a, v)
+// to (b, w) after them: one find, which counts itself. Answers the number of runs before the open one, which
+// then has the value w.
 pub fn extend(
     starts: &mut [u16],
     values: &mut [u32],
@@ -203,13 +188,34 @@ pub fn extend(
     v: u32,
     b: usize,
     w: u32,
+    finds: &mut u64,
 ) -> usize
     requires { ⌜ Room (now starts) (now values) n a b ⌝ }
-    ensures { λ r. ⌜ Extended (now (starts .entry)) (now (values .entry)) (now (starts .exit))
-        (now (values .exit)) n r a b (lineAt a v b w) ⌝ }
+    requires { ⌜ now finds + 1 < 2 ^ 64 ⌝ }
+    ensures { λ r. ⌜ Held (now (starts .entry)) (now (values .entry)) (now (starts .exit))
+        (now (values .exit)) n r a v b w (lineAt a v b w) × (now (finds .exit) ≡ now (finds .entry) + 1) ⌝ }
 {
-    let kept = back(values, n, v);
-    piece(starts, values, kept, a, v, b, w)
+    *finds = *finds + 1;
+    piece(starts, values, n, a, v, b, w)
+}
+
+fn wide(x: u16) -> usize
+    ensures { λ r. ⌜ r ≡ x ⌝ }
+{
+    x as usize
+}
+
+// Ends the day at tick b with the run that is open, of value v, if it has a tick. Answers the number of runs.
+pub fn close(starts: &mut [u16], values: &mut [u32], n: usize, b: usize, v: u32) -> usize
+    requires { ⌜ Ending (now starts) (now values) n b ⌝ }
+    ensures { λ r. ⌜ Closed (now (starts .entry)) (now (values .entry)) (now (starts .exit))
+        (now (values .exit)) n r b v ⌝ }
+{
+    if wide(starts[n]) < b {
+        put(starts, values, n, b, v);
+        return n + 1;
+    }
+    n
 }
 
 // For a reader that looks for the least or the greatest value: the lesser of two.

@@ -105,7 +105,9 @@ fn print_flagged(file: &[u8; 2048], plan: &[u8; 2048], from: u32, to: u32, depar
 
 // The check's verdict on a plan.
 fn print_verdict(file: &[u8; 2048], plan: &[u8; 2048]) {
-    print_checking(plan_check::check::check_plan(file, plan));
+    let report = plan_check::check::check_plan(file, plan);
+    let verdict = report.verdict;
+    print_checking(verdict);
 }
 
 // The check of the plan in a file.

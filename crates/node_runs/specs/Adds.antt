@@ -19,9 +19,8 @@ use Rattle.plan.specs.Plan.{Plan, flag, pointCount, profile, profileValue}
 use Rattle.plan.specs.PlanDecode.{decodePlan}
 use Rattle.plan_tests.specs.declared.tests.Layouts.{Layouts}
 use Rattle.plan_tests.specs.declared.tests.Target.{Target}
-use Rattle.plan_tests.specs.declared.tests.Asked.the-variants.{Less, Same, Flagged}
 use Rattle.plan_tests.specs.Tests as Tests
-use Rattle.plan_tests.specs.Giving.{Prepared, passes, profile-same}
+use Rattle.plan_tests.specs.Giving.{Less, Same, Flagged, Prepared, passes, profile-same}
 use Rattle.day_runs.specs.Runs.{Runs}
 use Rattle.day_runs.specs.Bounds.{Floor, Ceiling}
 use Rattle.day_merge.specs.Merged.{giving, bits, bitsAt, painted, Told}

@@ -1,8 +1,8 @@
 -- A byte of three answers: does an arc give less, does one give the same, and has one that does the flag.
 -- Bytes are put together as the answers are, by `||`.
 use mathlib.Core.Path.{_≡_, refl, sym, _∙_}
-use mathlib.Core.Bool.{Bool, true, false, cond, not, _&&_, _||_}
-use Prim.Native.Nat.{ℕ, _+_, _*_, _/_, _%_, _<_}
+use mathlib.Core.Bool.{Bool, true, false, cond, _&&_, _||_}
+use Prim.Native.Nat.{ℕ, _+_, _*_, _<_}
 use native.Mathlib.Omega.{arith}
 use lib.Dec.{ltb, eqb}
 use lib.Bits.{bitOr, or-block}
@@ -39,20 +39,6 @@ byte-or l s f l' s' f' =
       digit-or s s',
       digit-or f f',
     )
-
--- the answers by the byte: less; none the same; the same, but none with the flag
-pub byte-answers : (l s f : Bool)
-    → (eqb (byteOf l s f % 2) 1 ≡ l) × (eqb (byteOf l s f / 2 % 2) 0 ≡ not s)
-    × (eqb (byteOf l s f / 2) 1 ≡ s && not f)
-unfolding byteOf digit
-byte-answers true true true = (refl, refl, refl)
-byte-answers true true false = (refl, refl, refl)
-byte-answers true false true = (refl, refl, refl)
-byte-answers true false false = (refl, refl, refl)
-byte-answers false true true = (refl, refl, refl)
-byte-answers false true false = (refl, refl, refl)
-byte-answers false false true = (refl, refl, refl)
-byte-answers false false false = (refl, refl, refl)
 
 -- the bits that a merge sets, where those of the same are 6 with the flag and 2 without
 abbrev pub sameBits : Bool → ℕ

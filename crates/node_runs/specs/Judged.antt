@@ -1,19 +1,17 @@
 -- A node whose arcs were met one after the other, by their chain: at the end the byte of each tick tells
 -- whether the tests 22, 23 and 24 fail there.
-use mathlib.Core.Path.{_≡_, refl, sym, _∙_, ap}
+use mathlib.Core.Path.{_≡_, refl, sym, _∙_}
 use mathlib.Core.Logic.{_≢_}
 use mathlib.Core.Bool.{Bool, true, false, _&&_, _||_}
 use mathlib.Core.List.{List}
-use Prim.Native.Nat.{ℕ, _+_, _-_, _/_, _%_, _≤_, _<_, min}
+use Prim.Native.Nat.{ℕ, _+_, _-_, _≤_, _<_, min}
 use native.Mathlib.Decide.{decLt}
 use native.Mathlib.Omega.{arith}
 use lib.ListN.{getD}
-use lib.Dec.{eqb}
 use borrow.Author.Tests.{ne-eqb}
 use Rattle.theory_loops.specs.First.{any, any-clear, any-found, any-more, yes-any}
 use Rattle.theory_paths.specs.Graph.{all}
 use Rattle.theory_paths.specs.Partition.{Partition}
-use Rattle.theory_paths.specs.Profiles.{ticks}
 use Rattle.network.specs.declared.header.Layout.{Layout}
 use Rattle.network.specs.Network.{tail}
 use Rattle.network.specs.Decode.{decode}
@@ -21,12 +19,10 @@ use Rattle.network.specs.Town.{partitionOf}
 use Rattle.search_arcs.specs.Town.{Town}
 use Rattle.search_arcs.specs.Chain.{Chained, NextArc}
 use Rattle.plan.specs.Border.{borderAt}
-use Rattle.plan.specs.Plan.{Plan, towards, profile}
-use Rattle.plan_tests.specs.declared.tests.Asked.{Asked}
-use Rattle.plan_tests.specs.declared.tests.Asked.the-variants.{Less, Same, Flagged}
-use Rattle.plan_tests.specs.Tests.{fails22, fails23, fails24, given}
-use Rattle.plan_tests.specs.Giving.{permits, passes}
-use Rattle.node_runs.specs.Bytes.{byteOf, digit, byte-or, byte-answers}
+use Rattle.plan.specs.Plan.{Plan, towards}
+use Rattle.plan_tests.specs.Tests.{fails22, given}
+use Rattle.plan_tests.specs.Giving.{Asked, Less, Same, Flagged, permits, passes}
+use Rattle.node_runs.specs.Bytes.{byteOf, digit, byte-or}
 use Rattle.node_runs.specs.Adds.{adds, Met}
 
 -- THE RESULT: the byte of each tick has the three answers
@@ -34,22 +30,6 @@ pub record Judged (G : Partition) (p : Plan) (i u period : ℕ) (marks : List �
   pub at : (x : ℕ) → x < period
       → getD marks x 0
       ≡ byteOf (fails22 G p i u x) (given G p all i u x) (given G p (towards G p (borderAt G i)) i u x)
-
--- and the tests by it
-module _ {G : Partition} {p : Plan} {i u period : ℕ} {marks : List ℕ} (j : Judged G p i u period marks)
-    (x : ℕ)
-    (h : x < period) where
-  pub less-byte : fails22 G p i u x ≡ eqb (getD marks x 0 % 2) 1
-  less-byte = sym (ap (λ (m : ℕ). eqb (m % 2) 1) (j .at x h) ∙ byte-answers _ _ _ .0)
-
-  module _ (d : ℕ) (e : profile (G .graph) p i u x ≡ ticks d) where
-    pub none-byte : u ≢ borderAt G i → fails23 G p i u x ≡ eqb (getD marks x 0 / 2 % 2) 0
-    none-byte q =
-        rw (e, ne-eqb u (borderAt G i) q)
-        (sym (ap (λ (m : ℕ). eqb (m / 2 % 2) 0) (j .at x h) ∙ byte-answers _ _ _ .1))
-
-    pub unflagged-byte : fails24 G p i u x ≡ eqb (getD marks x 0 / 2) 1
-    unflagged-byte = rw e (sym (ap (λ (m : ℕ). eqb (m / 2) 1) (j .at x h) ∙ byte-answers _ _ _ .2))
 
 -- The walk of the arcs out of u stands at arc k, or past the last, and those before it are met.
 pub record Judging (network : List ℕ) (l : Layout) (p : Plan) (first next : List ℕ) (c i u period k : ℕ)

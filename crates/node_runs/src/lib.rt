@@ -5,6 +5,7 @@
 // It may call `arc_runs` and `profile_runs` for runs, `day_merge` to merge them, `network`, `plan` and
 // `search_arcs` to read files and tables; it cites `plan_tests` for the tests, `plan_values` for profiles,
 // `day_runs`, `theory_loops` and `theory_paths`.
+use arc_runs::brief;
 use network::limits::MOST_ARCS;
 use network::limits::MOST_NODES;
 use plan::flag::is_set;
@@ -13,29 +14,39 @@ use plan_tests::tests::Layouts;
 use plan_tests::tests::Target;
 use search_arcs::wide;
 ghost use mathlib.Core.Path.{_≡_};
-ghost use mathlib.Core.Bool.{true, false};
-ghost use Prim.Native.Nat.{_+_, _*_, _≤_, _<_};
-ghost use lib.ListN.{length, getD};
+ghost use Prim.Native.Nat.{_+_, _*_, _^_, _≤_, _<_};
+ghost use lib.ListN.{length};
 ghost use lib.Dec.{ltb};
+ghost use Rattle.theory_loops.specs.Total.{total};
 ghost use Rattle.network.specs.Limits.{mostCells};
 ghost use Rattle.network.specs.Network;
 ghost use Rattle.network.specs.Decode.{decode};
-ghost use Rattle.network.specs.Town.{partitionOf};
+ghost use Rattle.network.specs.Town.{partitionOf, travelAt};
 ghost use Rattle.plan.specs.Plan.{flag, pointCount};
 ghost use Rattle.plan.specs.PlanDecode.{PlanLaid, decodePlan};
 ghost use Rattle.plan_values.specs.Formed.{Formed};
 ghost use Rattle.plan_values.specs.Starts.{Started};
+ghost use Rattle.plan_tests.specs.Finds.{Counted, outFinds, nodeFinds};
 ghost use Rattle.plan_tests.specs.Giving.{Prepared};
 ghost use Rattle.plan_tests.specs.Failing.{AtBorder};
-ghost use Rattle.day_runs.specs.Filling.{Space};
+ghost use Rattle.arc_runs.specs.Brief.{Brief, Briefs};
 ghost use Rattle.day_runs.specs.Bounds.{Ceiling};
 ghost use Rattle.node_runs.specs.Bytes.{sameBits};
 ghost use Rattle.node_runs.specs.Adds.{Met, numbersOf};
 ghost use Rattle.node_runs.specs.Judged.{Judged};
+ghost use Rattle.node_runs.specs.Finding.{arcFinds};
 ghost use Rattle.node_runs.specs.Ready.{Own, Rooms, Low, Lows, Blank};
 
-// A number that a profile is never below: the least of its points, and 0 where it has none.
-fn low_value(plan: &[u8], l: PlanLayout, firsts: &[u32; MOST_NODES], i: usize, u: usize) -> u32
+// A sixteenth of a number where a byte holds it, and else the greatest that it holds.
+fn sixteenth(x: u32) -> u8
+    ensures { λ r. ⌜ 16 * r ≤ x ⌝ }
+{
+    let part = x / 16;
+    if part < 256 { part as u8 } else { 255 }
+}
+
+// A byte of which a profile is never below sixteen: by the least of its points, and 0 where it has none.
+fn low_value(plan: &[u8], l: PlanLayout, firsts: &[u32; MOST_NODES], i: usize, u: usize) -> u8
     requires { ⌜ Formed (now plan) l ⌝ }
     requires { ⌜ Started (now plan) l i (now firsts) ⌝ }
     requires { ⌜ (i < l .borders) × (u < l .nodes) ⌝ }
@@ -44,27 +55,33 @@ fn low_value(plan: &[u8], l: PlanLayout, firsts: &[u32; MOST_NODES], i: usize, u
     if plan::read::point_count(plan, l, i * l.nodes + u) == 0 {
         return 0;
     }
-    profile_runs::least_value(plan, l, firsts, i, u)
+    sixteenth(profile_runs::least_value(plan, l, firsts, i, u))
 }
 
-// The table of such numbers of all nodes, towards border number i.
+// The table of such bytes of all nodes, towards border number i.
 pub fn fill_lows(
     plan: &[u8],
     l: PlanLayout,
     firsts: &[u32; MOST_NODES],
     i: usize,
-    lows: &mut [u32; MOST_NODES],
+    lows: &mut [u8; MOST_NODES],
 )
     requires { ⌜ Formed (now plan) l ⌝ }
     requires { ⌜ Started (now plan) l i (now firsts) ⌝ }
     requires { ⌜ (i < l .borders) × (l .nodes ≤ length (now lows)) ⌝ }
-    ensures { λ _. ⌜ Lows (now (plan .entry)) l i (l .nodes) (now (lows .exit)) ⌝ }
+    ensures { λ _. ⌜ Lows (now (plan .entry)) l i (l .nodes) (now (lows .exit))
+        × (length (now (lows .exit)) ≡ length (now (lows .entry))) ⌝ }
 {
     let nodes = l.nodes;
     for u in 0..nodes {
         lows[u] = low_value(plan, l, firsts, i, u);
     }
 }
+
+// The bits of a tick at which an arc gives the same, and has the flag.
+const GIVEN: u8 = 2;
+
+const GIVEN_FLAGGED: u8 = 6;
 
 // The bits of a tick at which an arc gives the same.
 fn same_bits(plan: &[u8], l: PlanLayout, arc: usize, cell: usize) -> u8
@@ -73,16 +90,16 @@ fn same_bits(plan: &[u8], l: PlanLayout, arc: usize, cell: usize) -> u8
     ensures { λ r. ⌜ r ≡ sameBits (flag (decodePlan (now (plan .entry))) arc cell) ⌝ }
 {
     if is_set(plan::read::flag_word(plan, l, arc), cell) {
-        return 6;
+        return GIVEN_FLAGGED;
     }
-    2
+    GIVEN
 }
 
 // Is even the least travel to the least value more than the greatest?
-fn is_far(top: u32, low: u32, least: u32) -> bool
-    ensures { λ r. ⌜ r ≡ ltb top (low + least) ⌝ }
+fn is_far(top: u32, low: u8, least: u32) -> bool
+    ensures { λ r. ⌜ r ≡ ltb top (16 * low + least) ⌝ }
 {
-    (top as u64) < low as u64 + least as u64
+    (top as u64) < 16 * low as u64 + least as u64
 }
 
 // Takes all marks off.
@@ -106,6 +123,7 @@ fn meet(
     node: usize,
     arc: usize,
     head: usize,
+    brief: u8,
     so: &[u16],
     vo: &[u32],
     n: usize,
@@ -115,33 +133,40 @@ fn meet(
     sh: &mut [u16],
     vh: &mut [u32],
     marks: &mut [u8],
+    finds: &mut u64,
 )
     requires { ⌜ Prepared (now network) (now plan) l (now points) (now firsts) target ⌝ }
     requires { ⌜ (arc < l .network .arcs) × (Network.tail (decode (now network)) arc ≡ node)
         × (head ≡ Network.head (decode (now network)) arc)
-        × (0 < pointCount (decodePlan (now plan)) (target .number * l .plan .nodes + head)) ⌝ }
+        × (0 < pointCount (decodePlan (now plan)) (target .number * l .plan .nodes + head))
+        × Brief (travelAt (decode (now network)) arc) (l .network .period) brief ⌝ }
     requires { ⌜ Own (now plan) l target node (now so) (now vo) n
         × (same ≡ sameBits (flag (decodePlan (now plan)) arc (target .cell))) ⌝ }
     requires { ⌜ Rooms (l .network .period) (now sa) (now va) (now sh) (now vh) (now marks) ⌝ }
+    requires { ⌜ now finds + arcFinds (decode (now network)) (decodePlan (now plan)) (target .number) arc
+        < 2 ^ 64 ⌝ }
     ensures { λ _. ⌜ Met (partitionOf (decode (now (network .entry)))) (decodePlan (now (plan .entry)))
         (target .cell) (target .number) node arc (l .network .period) (now (marks .entry))
-        (now (marks .exit)) ⌝ }
+        (now (marks .exit))
+        × Counted 0 (arcFinds (decode (now (network .entry))) (decodePlan (now (plan .entry)))
+        (target .number) arc) (now (finds .entry)) (now (finds .exit)) ⌝ }
 {
-    let na = arc_runs::fill_arc(network, l.network, points, arc, sa, vh, va);
-    let nh = profile_runs::fill_profile(plan, l.plan, firsts, target.number, head, sh, vh);
+    let na = brief::fill_runs(network, l.network, points, arc, brief, sa, vh, va, finds);
+    let nh = profile_runs::fill_profile(plan, l.plan, firsts, target.number, head, sh, vh, finds);
     let period = l.network.period;
     day_merge::merge(so, vo, n, sa, va, na, sh, vh, nh, period, same, marks);
 }
 
-// Meets an arc out of a node, or passes it. `lows` has a number for each node that its profile is never
-// below, and `top` is one that the node's own is never above.
+// Meets an arc out of a node, or passes it and finds nothing. `briefs` has the arcs' briefs, `lows` a number
+// for each node that its profile is never below, and `top` is one that the node's own is never above.
 fn judge_arc(
     network: &[u8],
     plan: &[u8],
     l: Layouts,
     points: &[u16; MOST_ARCS],
+    briefs: &[u8; MOST_ARCS],
     firsts: &[u32; MOST_NODES],
-    lows: &[u32; MOST_NODES],
+    lows: &[u8; MOST_NODES],
     target: Target,
     node: usize,
     arc: usize,
@@ -154,23 +179,29 @@ fn judge_arc(
     sh: &mut [u16],
     vh: &mut [u32],
     marks: &mut [u8],
+    finds: &mut u64,
 )
     requires { ⌜ Prepared (now network) (now plan) l (now points) (now firsts) target ⌝ }
-    requires { ⌜ Lows (now plan) (l .plan) (target .number) (l .plan .nodes) (now lows) ⌝ }
+    requires { ⌜ Briefs (decode (now network)) (l .network .period) (l .network .arcs) (now briefs)
+        × Lows (now plan) (l .plan) (target .number) (l .plan .nodes) (now lows) ⌝ }
     requires { ⌜ (arc < l .network .arcs) × (Network.tail (decode (now network)) arc ≡ node) ⌝ }
     requires { ⌜ Own (now plan) l target node (now so) (now vo) n
         × Ceiling (numbersOf (now plan) l target node) (l .network .period) top ⌝ }
     requires { ⌜ Rooms (l .network .period) (now sa) (now va) (now sh) (now vh) (now marks) ⌝ }
+    requires { ⌜ now finds + arcFinds (decode (now network)) (decodePlan (now plan)) (target .number) arc
+        < 2 ^ 64 ⌝ }
     ensures { λ _. ⌜ Met (partitionOf (decode (now (network .entry)))) (decodePlan (now (plan .entry)))
         (target .cell) (target .number) node arc (l .network .period) (now (marks .entry))
-        (now (marks .exit)) ⌝ }
+        (now (marks .exit))
+        × Counted 0 (arcFinds (decode (now (network .entry))) (decodePlan (now (plan .entry)))
+        (target .number) arc) (now (finds .entry)) (now (finds .exit)) ⌝ }
 {
     let head = network::read::head(network, l.network, arc);
     if plan::read::point_count(plan, l.plan, target.number * l.plan.nodes + head) == 0 {
         return;
     }
-    let least = arc_runs::least_travel(network, l.network, points, arc);
-    if is_far(top, lows[head], least) {
+    let brief = briefs[arc];
+    if is_far(top, lows[head], brief::least(brief)) {
         return;
     }
     let same = same_bits(plan, l.plan, arc, target.cell);
@@ -184,6 +215,7 @@ fn judge_arc(
         node,
         arc,
         head,
+        brief,
         so,
         vo,
         n,
@@ -193,6 +225,7 @@ fn judge_arc(
         sh,
         vh,
         marks,
+        finds,
     );
 }
 
@@ -202,10 +235,11 @@ fn judge_arcs(
     plan: &[u8],
     l: Layouts,
     points: &[u16; MOST_ARCS],
+    briefs: &[u8; MOST_ARCS],
     first: &[u16; MOST_NODES],
     next: &[u16; MOST_ARCS],
     firsts: &[u32; MOST_NODES],
-    lows: &[u32; MOST_NODES],
+    lows: &[u8; MOST_NODES],
     target: Target,
     node: usize,
     so: &[u16],
@@ -217,16 +251,23 @@ fn judge_arcs(
     sh: &mut [u16],
     vh: &mut [u32],
     marks: &mut [u8],
+    finds: &mut u64,
 )
     requires { ⌜ AtBorder (now network) (now plan) l (now points) (now first) (now next) (now firsts)
         target ⌝ }
-    requires { ⌜ Lows (now plan) (l .plan) (target .number) (l .plan .nodes) (now lows) ⌝ }
+    requires { ⌜ Briefs (decode (now network)) (l .network .period) (l .network .arcs) (now briefs)
+        × Lows (now plan) (l .plan) (target .number) (l .plan .nodes) (now lows) ⌝ }
     requires { ⌜ (node < l .network .nodes) × Own (now plan) l target node (now so) (now vo) n
         × Ceiling (numbersOf (now plan) l target node) (l .network .period) top ⌝ }
     requires { ⌜ Rooms (l .network .period) (now sa) (now va) (now sh) (now vh) (now marks)
         × Blank (l .network .period) (now marks) ⌝ }
+    requires { ⌜ now finds + total (Network.arcs (decode (now network)))
+        (outFinds (decode (now network)) (decodePlan (now plan)) (target .number) node) < 2 ^ 64 ⌝ }
     ensures { λ _. ⌜ Judged (partitionOf (decode (now (network .entry)))) (decodePlan (now (plan .entry)))
-        (target .number) node (l .network .period) (now (marks .exit)) ⌝ }
+        (target .number) node (l .network .period) (now (marks .exit))
+        × Counted 0 (total (Network.arcs (decode (now (network .entry))))
+        (outFinds (decode (now (network .entry))) (decodePlan (now (plan .entry))) (target .number) node))
+        (now (finds .entry)) (now (finds .exit)) ⌝ }
 {
     let arcs = l.network.arcs;
     let mut a = wide(first[node]);
@@ -236,6 +277,7 @@ fn judge_arcs(
             plan,
             l,
             points,
+            briefs,
             firsts,
             lows,
             target,
@@ -250,21 +292,23 @@ fn judge_arcs(
             sh,
             vh,
             marks,
+            finds,
         );
         a = wide(next[a]);
     }
 }
 
-// Judges a node whose profile towards the target has points, at all ticks.
+// Judges a node whose profile towards the target has points, at all ticks, and counts the finds.
 pub fn judge_node(
     network: &[u8],
     plan: &[u8],
     l: Layouts,
     points: &[u16; MOST_ARCS],
+    briefs: &[u8; MOST_ARCS],
     first: &[u16; MOST_NODES],
     next: &[u16; MOST_ARCS],
     firsts: &[u32; MOST_NODES],
-    lows: &[u32; MOST_NODES],
+    lows: &[u8; MOST_NODES],
     target: Target,
     node: usize,
     so: &mut [u16],
@@ -274,18 +318,25 @@ pub fn judge_node(
     sh: &mut [u16],
     vh: &mut [u32],
     marks: &mut [u8],
+    finds: &mut u64,
 )
     requires { ⌜ AtBorder (now network) (now plan) l (now points) (now first) (now next) (now firsts)
         target ⌝ }
-    requires { ⌜ Lows (now plan) (l .plan) (target .number) (l .plan .nodes) (now lows) ⌝ }
+    requires { ⌜ Briefs (decode (now network)) (l .network .period) (l .network .arcs) (now briefs)
+        × Lows (now plan) (l .plan) (target .number) (l .plan .nodes) (now lows) ⌝ }
     requires { ⌜ (node < l .network .nodes)
         × (0 < pointCount (decodePlan (now plan)) (target .number * l .plan .nodes + node)) ⌝ }
     requires { ⌜ (l .network .period < length (now so)) × (l .network .period ≤ length (now vo)) ⌝ }
     requires { ⌜ Rooms (l .network .period) (now sa) (now va) (now sh) (now vh) (now marks) ⌝ }
+    requires { ⌜ now finds + nodeFinds (decode (now network)) (decodePlan (now plan)) (target .number) node
+        < 2 ^ 64 ⌝ }
     ensures { λ _. ⌜ Judged (partitionOf (decode (now (network .entry)))) (decodePlan (now (plan .entry)))
-        (target .number) node (l .network .period) (now (marks .exit)) ⌝ }
+        (target .number) node (l .network .period) (now (marks .exit))
+        × Counted (pointCount (decodePlan (now (plan .entry))) (target .number * l .plan .nodes + node))
+        (nodeFinds (decode (now (network .entry))) (decodePlan (now (plan .entry))) (target .number) node)
+        (now (finds .entry)) (now (finds .exit)) ⌝ }
 {
-    let n = profile_runs::fill_profile(plan, l.plan, firsts, target.number, node, so, vo);
+    let n = profile_runs::fill_profile(plan, l.plan, firsts, target.number, node, so, vo, finds);
     let top = profile_runs::greatest_value(plan, l.plan, firsts, target.number, node);
     clear(marks, l.network.period);
     judge_arcs(
@@ -293,6 +344,7 @@ pub fn judge_node(
         plan,
         l,
         points,
+        briefs,
         first,
         next,
         firsts,
@@ -308,5 +360,6 @@ pub fn judge_node(
         sh,
         vh,
         marks,
+        finds,
     );
 }

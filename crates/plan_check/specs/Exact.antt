@@ -19,7 +19,7 @@ use Rattle.plan.specs.Border.{borderCount}
 use Rattle.plan.specs.Plan.{Plan, flag, profileTo}
 use Rattle.plan_tests.specs.Tests.{fails20, fails}
 use Rattle.plan_check.specs.Check.{tripleRung, checked}
-use Rattle.plan_check.specs.Meaning.{Nowhere, inside-exactly, local-exactly, flags-exactly}
+use Rattle.plan_tests.specs.Meaning.{Nowhere, inside-exactly, local-exactly, flags-exactly}
 
 -- no test fails anywhere
 pub record NoneFails (G : Partition) (p : Plan) : Type 0 where

@@ -1,5 +1,6 @@
-// plan_values: the profiles of a plan file, read in place.
-//   value   the value of a profile at a tick, and values compared and added to
-// It may call `plan` for the entries of the file and `theory_travel` for the straight line, and cites
-// `theory_loops` and `theory_paths`.
-pub mod value;
+// plan_values: the profiles of a plan file: what their readers rest on, and values compared, which is theory
+// alone, and where the profiles of a border start.
+//   starts   the table of where the profiles of a border start
+// It may call `plan` for the entries of the file, and cites `theory_loops`, `theory_paths` and
+// `theory_travel`.
+pub mod starts;

@@ -10,8 +10,7 @@ use Rattle.theory_travel.specs.Table.{entryAt, valueAt}
 use Rattle.plan.specs.declared.header.PlanLayout.{PlanLayout}
 use Rattle.plan.specs.Plan.{Plan, pointCount, pointStart, pointTicks, pointTravels, profileValue}
 use Rattle.plan.specs.PlanDecode.{decodePlan}
-use Rattle.plan_values.specs.Formed.{Formed}
-use Rattle.plan_values.specs.Value.{value-points, value-day}
+use Rattle.plan_values.specs.Formed.{Formed, profile-points}
 use Rattle.day_runs.specs.Runs.{Runs}
 use Rattle.day_runs.specs.Bounds.{Least, Most, Floor, Ceiling, least-day, most-day}
 
@@ -37,10 +36,10 @@ module _ {plan : List ℕ} {l : PlanLayout} (f : Formed plan l) {k : ℕ} (h : k
     (some : 0 < pointCount (decodePlan plan) k) where
   -- they are a day's points, and stand among the points
   pub points-day : Day (entryAt (decodePlan plan .ticks) from) m (l .period)
-  points-day = value-day f h e q (λ z. omega arith)
+  points-day = rw (e, q) (f .day k h some)
 
   pub points-in : from + m ≤ l .points
-  points-in = value-points f h e q
+  points-in = omega (arith, profile-points f k h)
 
   is-number : (x : ℕ)
       → valueAt (decodePlan plan .ticks) (decodePlan plan .travels) from m (l .period) x

@@ -1,13 +1,13 @@
 // profile_runs: the numbers of a profile over the day, from its points as the plan file has them: as runs of
-// equal value, their least and their greatest. Each point is read once, so a call finds as many segments as
-// the profile has points. A profile without points has no numbers, and is not asked for.
+// equal value, their least and their greatest. Each point is read once, so its runs take as many finds as
+// it has points. A profile without points has no numbers, and is not asked for.
 // It may call `plan` for the entries of the file and `day_runs` for runs; it cites `plan_values` and
 // `theory_paths` for profiles and `theory_travel` for the line.
 use network::limits::MOST_NODES;
 use plan::header::PlanLayout;
 use plan::read;
 ghost use mathlib.Core.Path.{_≡_};
-ghost use Prim.Native.Nat.{_+_, _*_, _≤_, _<_};
+ghost use Prim.Native.Nat.{_+_, _*_, _^_, _≤_, _<_};
 ghost use Rattle.theory_travel.specs.Day.{Day};
 ghost use Rattle.theory_travel.specs.Table.{entryAt, valueAt};
 ghost use Rattle.plan.specs.Plan.{pointCount};
@@ -34,14 +34,15 @@ fn fill_points(
     count: usize,
     starts: &mut [u16],
     values: &mut [u32],
+    finds: &mut u64,
 ) -> usize
     requires { ⌜ PlanLaid (now plan) l ⌝ }
     requires { ⌜ Day (entryAt (decodePlan (now plan) .ticks) from) count (l .period)
         × (from + count ≤ l .points) ⌝ }
-    requires { ⌜ Space (now starts) (now values) (l .period) ⌝ }
+    requires { ⌜ Space (now starts) (now values) (l .period) × (now finds + count < 2 ^ 64) ⌝ }
     ensures { λ r. ⌜ Runs (now (starts .exit)) (now (values .exit)) r (l .period)
         (valueAt (decodePlan (now (plan .entry)) .ticks) (decodePlan (now (plan .entry)) .travels) from count
-        (l .period)) ⌝ }
+        (l .period)) × (now (finds .exit) ≡ now (finds .entry) + count) ⌝ }
 {
     let last = count - 1;
     let begin = read::travel(plan, l, from);
@@ -52,11 +53,12 @@ fn fill_points(
     for k in 0..last {
         let b = read::tick(plan, l, from + (k + 1));
         let w = read::travel(plan, l, from + (k + 1));
-        n = day_runs::extend(starts, values, n, a, v, b, w);
+        n = day_runs::extend(starts, values, n, a, v, b, w, finds);
         a = b;
         v = w;
     }
-    day_runs::extend(starts, values, n, a, v, l.period, begin)
+    let closed = day_runs::extend(starts, values, n, a, v, l.period, begin, finds);
+    day_runs::close(starts, values, closed, l.period, begin)
 }
 
 // The runs of the profile of border number i and node u, which has points: `firsts` is the table of where
@@ -69,18 +71,22 @@ pub fn fill_profile(
     u: usize,
     starts: &mut [u16],
     values: &mut [u32],
+    finds: &mut u64,
 ) -> usize
     requires { ⌜ Formed (now plan) l ⌝ }
     requires { ⌜ Started (now plan) l i (now firsts) ⌝ }
     requires { ⌜ (i < l .borders) × (u < l .nodes)
         × (0 < pointCount (decodePlan (now plan)) (i * l .nodes + u)) ⌝ }
     requires { ⌜ Space (now starts) (now values) (l .period) ⌝ }
+    requires { ⌜ now finds + pointCount (decodePlan (now plan)) (i * l .nodes + u) < 2 ^ 64 ⌝ }
     ensures { λ r. ⌜ Runs (now (starts .exit)) (now (values .exit)) r (l .period)
-        (numberAt (l .period) (decodePlan (now (plan .entry))) (i * l .nodes + u)) ⌝ }
+        (numberAt (l .period) (decodePlan (now (plan .entry))) (i * l .nodes + u))
+        × (now (finds .exit) ≡ now (finds .entry)
+        + pointCount (decodePlan (now (plan .entry))) (i * l .nodes + u)) ⌝ }
 {
     let from = wide(firsts[u]);
     let count = read::point_count(plan, l, i * l.nodes + u);
-    fill_points(plan, l, from, count, starts, values)
+    fill_points(plan, l, from, count, starts, values, finds)
 }
 
 // The least value of `count` points from `from` on.

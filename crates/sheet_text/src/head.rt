@@ -83,5 +83,7 @@ pub fn put_head(network: &[u8], plan: &[u8], out: &mut [u8]) -> Head
     if MOST < plan.len() {
         return put_too_large(out);
     }
-    put_verdict(out, check_plan(network, plan))
+    let report = check_plan(network, plan);
+    let checked = report.verdict;
+    put_verdict(out, checked)
 }

@@ -16,6 +16,10 @@ use Rattle.network.specs.Limits.{mostRoads}
 use Rattle.network.specs.Tables.{Tables}
 use Rattle.network_open.specs.Open.{OpenCall}
 use Rattle.file_refusals.specs.Writing.{writingSays, Writes}
+use Rattle.plan_check.specs.declared.answer.Report.{Report}
+use Rattle.plan_check.specs.Answer.{reportSays}
+use Rattle.plan_check.specs.CheckPlan.{checking}
+use Rattle.plan_check.specs.Finds.{Finds}
 use Rattle.plan_make.specs.Make.{MakeCall}
 use Rattle.file_refusals.specs.declared.writing.Writing.{Writing}
 use Rattle.search_path.specs.declared.answer.Arrival.{Arrival}
@@ -32,7 +36,8 @@ use Rattle.trip.specs.Calls.{plainAnswer, flaggedAnswer}
 use Rattle.c_replies.specs.Reply.{tripSize, bytes, roadBytes, tripBytes}
 use Rattle.c_replies.specs.Writing.{trip-long}
 use Rattle.varnwalnut.specs.Room.{roomed, kept}
-use Rattle.varnwalnut.specs.Replies.{TripReply, DeskReply, OpenReply, WriteReply, MakeReply, TripDesk}
+use Rattle.varnwalnut.specs.Replies.{TripReply, DeskReply, CheckReply, OpenReply, WriteReply, MakeReply}
+use Rattle.varnwalnut.specs.Replies.{TripDesk}
 
 -- ROOM
 module _ (w room : ℕ) where
@@ -61,7 +66,26 @@ module _ (w : ℕ) (says : Says) (before : List ℕ) (r : ℕ) where
       → after ≡ overwritten (numbersOf says) before → DeskReply w says before after r
   desk-written after l e f = record { code = room-enough w _ _ r l e; numbers = kept-enough w _ before l f }
 
--- OPEN: o is what the operation answered, and `after` what was written of it; so below
+-- THE CHECK: o is what the operation answered, and `after` what was written of it; so below
+module _ (network plan before : List ℕ) (r : ℕ) where
+  pub check-short : length before < 5 → r ≡ 31 → CheckReply network plan before before r
+  check-short l e = record {
+    finds = 0;
+    counted = λ m. absurd (omega (arith, l, m));
+    reply = desk-short 5 _ before r l e;
+  }
+
+  pub check-written : (o : Report) (after : List ℕ) → 5 ≤ length before → o .verdict ≡ checking network plan
+      → Finds network plan (o .verdict) (o .finds) → r ≡ reportSays (o .verdict) (o .finds) .number
+      → after ≡ overwritten (numbersOf (reportSays (o .verdict) (o .finds))) before
+      → CheckReply network plan before after r
+  check-written o after l q c e f = record {
+    finds = o .finds;
+    counted = λ _. rw q at c;
+    reply = rw q at (desk-written 5 (reportSays (o .verdict) (o .finds)) before r after l e f);
+  }
+
+-- OPEN
 module _ (file : List ℕ) (tables₀ : Tables) (before : List ℕ) (r : ℕ) where
   pub open-short : length before < 9 → r ≡ 31 → OpenReply file tables₀ tables₀ before before r
   open-short l e = record { reply = desk-short 9 _ before r l e; written = kept-short 9 _ tables₀ _ l }

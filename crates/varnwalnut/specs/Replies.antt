@@ -3,7 +3,7 @@
 -- returns. Tables and lists at entry and at exit have a 0 and a 1.
 use mathlib.Core.Path.{_≡_}
 use mathlib.Core.List.{List}
-use Prim.Native.Nat.{ℕ}
+use Prim.Native.Nat.{ℕ, _≤_}
 use lib.ListN.{length}
 use Rattle.theory_loops.specs.Fill.{overwritten}
 use Rattle.theory_paths.specs.Graph.{Graph, Permit, all}
@@ -20,6 +20,9 @@ use Rattle.file_refusals.specs.declared.writing.Writing.{Writing}
 use Rattle.file_refusals.specs.Writing.{writingSays, bytesAfter}
 use Rattle.network_pack.specs.Pack.{packing}
 use Rattle.dimacs_import.specs.Import.{importing, importedFile}
+use Rattle.plan_check.specs.Answer.{reportSays}
+use Rattle.plan_check.specs.CheckPlan.{checking}
+use Rattle.plan_check.specs.Finds.{Finds}
 use Rattle.plan_made.specs.File.{madeFile}
 use Rattle.plan_make.specs.Make.{making, workAfter}
 use Rattle.search_path.specs.declared.answer.Answer.{Answer}
@@ -40,6 +43,13 @@ pub record TripReply (trip : Answer) (path before after : List ℕ) (returned : 
 pub record DeskReply (size : ℕ) (says : Says) (before after : List ℕ) (returned : ℕ) : Type 0 where
   pub code : returned ≡ roomed size (length before) (says .number)
   pub numbers : after ≡ kept size (length before) before (overwritten (numbersOf says) before)
+
+-- The check: the papers bound the count of finds and do not fix it, so it is some count within their bounds.
+-- A list that is too short tells none.
+pub record CheckReply (network plan before after : List ℕ) (returned : ℕ) : Type 0 where
+  pub finds : ℕ
+  pub counted : 5 ≤ length before → Finds network plan (checking network plan) finds
+  pub reply : DeskReply 5 (reportSays (checking network plan) finds) before after returned
 
 -- Open: beside the reply, the six tables
 pub record OpenReply (file : List ℕ) (tables₀ tables₁ : Tables) (before after : List ℕ)

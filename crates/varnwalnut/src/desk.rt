@@ -15,18 +15,16 @@ use trip::flagged::flagged_trip;
 use trip::plain::plain_trip;
 ghost use Rattle.network.specs.Tables.{tables};
 ghost use Rattle.network_pack.specs.Pack.{numbers};
-ghost use Rattle.plan_check.specs.CheckPlan.{checking as checkingOf};
-ghost use Rattle.plan_check.specs.Answer.{checkingSays};
-ghost use Rattle.varnwalnut.specs.Replies.{DeskReply, OpenReply, PackReply, ImportReply, MakeReply};
+ghost use Rattle.varnwalnut.specs.Replies.{CheckReply, OpenReply, PackReply, ImportReply, MakeReply};
 ghost use Rattle.varnwalnut.specs.Replies.{PlainDesk, FlaggedDesk};
 
-// Is the plan one that the flagged trips of the network may trust?
+// Is the plan one that the flagged trips of the network may trust? And how many finds that took.
 #[no_mangle]
 pub extern "C" fn varnwalnut_check_plan(network: &[u8], plan: &[u8], answer: &mut [u32]) -> u32
-    ensures { λ r. ⌜ DeskReply 3 (checkingSays (checkingOf (now (network .entry)) (now (plan .entry))))
+    ensures { λ r. ⌜ CheckReply (now (network .entry)) (now (plan .entry))
         (now (answer .entry)) (now (answer .exit)) r ⌝ }
 {
-    if answer.len() < 3 {
+    if answer.len() < 5 {
         return ANSWER_SHORT;
     }
     write_checking(check_plan(network, plan), answer)

@@ -2,6 +2,7 @@
 //! the answer and every entry of lent memory, and each difference becomes a line of text. The import has
 //! inputs of its own.
 
+mod check_plan;
 mod import;
 mod make_plan;
 
@@ -12,9 +13,10 @@ use crate::marked::{Entry, Lent};
 use crate::reference::network::{self, Network};
 use crate::reference::plan::{self, Plan};
 use crate::reference::trips::{flagged_trip, plain_trip, ListLengths, Trip, TripCall};
-use crate::reference::{check, refuse, Refusal};
+use crate::reference::{refuse, Refusal};
 use std::rc::Rc;
 
+pub use check_plan::{compare_check, TellsFinds};
 pub use import::{compare_import, ImportCall, Imported};
 pub use make_plan::PlannerLengths;
 
@@ -28,6 +30,7 @@ pub struct Verdict {
     /// The reference's reading of the files, for the oracles.
     pub opened: Result<Network, Refusal>,
     pub planned: Result<Plan, Refusal>,
+    pub finds: TellsFinds,
     /// What the reference's planner makes of the network, if it opens.
     pub made: Option<Rc<Made>>,
 }
@@ -47,6 +50,7 @@ struct Run<'a> {
     opened: &'a Result<Network, Refusal>,
     planned: &'a Result<Plan, Refusal>,
     made: Option<Rc<Made>>,
+    check: Check,
     differences: Vec<String>,
 }
 
@@ -58,10 +62,11 @@ pub fn compare(input: &Input) -> Verdict {
     };
     let made = opened.as_ref().ok().map(|network| made::of(&input.network, network));
     let mut run = Run::new(input, &opened, &planned, made);
+    let (checked, finds) = run.check_plan();
     let predicted = [
         run.open_network(),
         run.pack_network(),
-        run.check_plan(),
+        checked,
         run.c_trip(PLAIN),
         run.c_trip(FLAGGED),
         run.trip_lists(PLAIN_LISTS),
@@ -69,7 +74,7 @@ pub fn compare(input: &Input) -> Verdict {
         run.make_plan(),
     ];
     let (made, differences) = (run.made, run.differences);
-    Verdict { predicted, differences, opened, planned, made }
+    Verdict { predicted, differences, opened, planned, finds, made }
 }
 
 /// Both C trips for every pair of nodes and every tick of the input's town.
@@ -138,6 +143,7 @@ impl<'a> Run<'a> {
             opened,
             planned,
             made,
+            check: varnwalnut_check_plan,
             differences: Vec::new(),
         }
     }
@@ -252,32 +258,6 @@ impl<'a> Run<'a> {
         let words = answer_words(answer.length(), PACK_ANSWER, refused, &[file.len() as u32]);
         self.expect_list(PACK, "answer", &answer, &words);
         refused
-    }
-
-    fn check_plan(&mut self) -> Predicted {
-        let mut answer = Lent::<u32>::blank(self.input.lengths.check_answer);
-        let predicted = self.predict_check();
-        // SAFETY: each pointer leads to as many entries as its count says, and no two lists overlap.
-        #[rustfmt::skip]
-        let returned = unsafe {
-            varnwalnut_check_plan(
-                self.network.pointer(), self.network.length(),
-                self.plan.pointer(), self.plan.length(),
-                answer.pointer_mut(), answer.length(),
-            )
-        };
-        let refused = predicted.err();
-        self.expect_return(CHECK, returned, refused);
-        let words = answer_words(answer.length(), CHECK_ANSWER, refused, &[]);
-        self.expect_list(CHECK, "answer", &answer, &words);
-        refused
-    }
-
-    fn predict_check(&self) -> Result<(), Refusal> {
-        judge_answer(self.input.lengths.check_answer, CHECK_ANSWER)?;
-        let network = self.opened.as_ref().map_err(|refusal| *refusal)?;
-        let plan = self.planned.as_ref().map_err(|refusal| *refusal)?;
-        check::check(network, plan)
     }
 
     /// Both trips by lists of these lengths, once no file is refused.

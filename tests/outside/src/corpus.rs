@@ -1,9 +1,10 @@
-//! Inputs kept as files. A corpus file is the four bytes VWC2, 34 numbers of 32 bits, low byte first, the
+//! Inputs kept as files. A corpus file is the four bytes VWC3, 34 numbers of 32 bits, low byte first, the
 //! network's bytes and the plan's. The numbers: from, to, departure; pack's number, P, N, R, K, Q; the lengths
 //! of the arrival list, the road list, the C trips' answer, the answers of the lists, the check, open and pack,
 //! pack's out-bytes, open's six tables and pack's six; the network's length and the plan's; the lengths of
-//! the planner's work list, out-bytes and answer. A file that starts with VWC1 is older and without the last
-//! three: there they are one entry more than the network needs.
+//! the planner's work list, out-bytes and answer. Files that start with VWC2 and VWC1 are older. They are for
+//! a check whose answer has two numbers less, which are added to the length that they tell. The oldest are
+//! without the last three numbers: there they are one entry more than the network needs.
 //!
 //! Texts for the import are kept there too, written by hand. Such a file is a line with VWD1 and six decimal
 //! numbers, one space apart, and then the text's bytes. The numbers: network number, lengths of the out-bytes
@@ -19,11 +20,12 @@ use crate::reference::Refusal;
 use std::path::{Path, PathBuf};
 use std::{fs, io};
 
-const MAGIC: &[u8; 4] = b"VWC2";
+const MAGIC: &[u8; 4] = b"VWC3";
 const NUMBERS: usize = 34;
-const OLDER_MAGIC: &[u8; 4] = b"VWC1";
-const OLDER_NUMBERS: usize = 31;
+/// A file's first bytes, how many numbers follow, and by how much the check's answer is lengthened.
+const FORMS: [(&[u8; 4], usize, u32); 3] = [(MAGIC, NUMBERS, 0), (b"VWC2", NUMBERS, 2), (b"VWC1", NUMBERS - 3, 2)];
 const TEXT_MAGIC: &[u8; 5] = b"VWD1 ";
+const CHECK_ANSWER_AT: usize = 13;
 /// No lent list of a corpus file is longer: a plan's most bytes and some.
 const MOST_LENGTH: u32 = 8_000_000;
 
@@ -71,7 +73,7 @@ pub fn from_bytes(bytes: &[u8]) -> Option<Input> {
         },
         lengths: lengths_of(&numbers)?,
     };
-    if numbers.len() == OLDER_NUMBERS {
+    if numbers.len() < NUMBERS {
         input.plan_what_the_network_says(NO_LISTS, 1);
     } else {
         input.lengths.make = MakeLengths { work: count(&numbers, 31)?, out: count(&numbers, 32)? };
@@ -82,13 +84,13 @@ pub fn from_bytes(bytes: &[u8]) -> Option<Input> {
 
 /// The numbers at a file's head, and the bytes after them.
 fn read_numbers(bytes: &[u8]) -> Option<(Vec<u32>, &[u8])> {
-    let (rest, numbers) = match bytes.strip_prefix(MAGIC) {
-        Some(rest) => (rest, NUMBERS),
-        None => (bytes.strip_prefix(OLDER_MAGIC)?, OLDER_NUMBERS),
-    };
-    let (head, files) = rest.split_at_checked(4 * numbers)?;
+    let form = FORMS.iter().find(|(magic, ..)| bytes.starts_with(*magic))?;
+    let (magic, count, lengthened) = *form;
+    let (head, files) = bytes[magic.len()..].split_at_checked(4 * count)?;
     let words = head.chunks_exact(4);
-    Some((words.map(|word| u32::from_le_bytes([word[0], word[1], word[2], word[3]])).collect(), files))
+    let mut numbers: Vec<u32> = words.map(|word| u32::from_le_bytes([word[0], word[1], word[2], word[3]])).collect();
+    numbers[CHECK_ANSWER_AT] = numbers[CHECK_ANSWER_AT].saturating_add(lengthened);
+    Some((numbers, files))
 }
 
 fn count(numbers: &[u32], place: usize) -> Option<usize> {
@@ -107,7 +109,7 @@ fn lengths_of(numbers: &[u32]) -> Option<Lengths> {
         roads: one(10)?,
         trip_answer: one(11)?,
         lists_answer: one(12)?,
-        check_answer: one(13)?,
+        check_answer: one(CHECK_ANSWER_AT)?,
         open_answer: one(14)?,
         pack_answer: one(15)?,
         pack_out: one(16)?,

@@ -2,8 +2,13 @@
 //! At the end every refusal that documents 01 and 02 let an operation give must have occurred both ways. And
 //! how many trips of valid cases tell wish 2's rule for ties from others: each has to be told from it.
 
+mod finds;
+mod plans;
+
 use crate::library::*;
 use crate::oracle::{Unlike, RULES};
+use finds::Finds;
+use plans::DamagedPlans;
 
 /// Refusals up to 36; 32 is the run sheet's.
 const NUMBERS: usize = 37;
@@ -14,6 +19,8 @@ pub struct Coverage {
     /// By plain and flagged trips: how many there were, and how many take another way by each other rule.
     trips: [u64; 2],
     unlike: [[u64; RULES.len()]; 2],
+    pub plans: DamagedPlans,
+    pub finds: Finds,
 }
 
 const TRIPS: [&str; 2] = ["plain", "flagged"];
@@ -25,6 +32,8 @@ impl Default for Coverage {
             second: [[0; NUMBERS]; COUNT],
             trips: [0; 2],
             unlike: [[0; RULES.len()]; 2],
+            plans: DamagedPlans::default(),
+            finds: Finds::default(),
         }
     }
 }
@@ -60,6 +69,8 @@ impl Coverage {
                 self.unlike[trip][rule] += other.unlike[trip][rule];
             }
         }
+        self.plans.add(&other.plans);
+        self.finds.add(&other.finds);
     }
 
     pub fn print(&self) {

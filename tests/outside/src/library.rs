@@ -72,6 +72,14 @@ extern "C" {
     ) -> u32;
 }
 
+/// The check's C function, or one that stands in for it.
+#[rustfmt::skip]
+pub type Check = unsafe extern "C" fn(
+    network: *const u8, network_length: usize,
+    plan: *const u8, plan_length: usize,
+    answer: *mut u32, answer_length: usize,
+) -> u32;
+
 /// The import's C function, or one that stands in for it.
 #[rustfmt::skip]
 pub type Import = unsafe extern "C" fn(
@@ -131,7 +139,7 @@ pub const TRIP_ANSWER_BYTES: usize = 1_032;
 /// Words each answer list has to have, as the C interface names them.
 pub const OPEN_ANSWER: usize = 9;
 pub const PACK_ANSWER: usize = 4;
-pub const CHECK_ANSWER: usize = 3;
+pub const CHECK_ANSWER: usize = 5;
 pub const LISTS_ANSWER: usize = 5;
 pub const MAKE_ANSWER: usize = 4;
 pub const IMPORT_ANSWER: usize = 4;

@@ -16,6 +16,8 @@ mod made;
 mod marked;
 mod oracle;
 mod planner;
+mod plans;
+mod planted;
 mod quay;
 mod reference;
 mod rng;
@@ -34,15 +36,26 @@ const DEFAULT_SEED: u64 = 20_261_115;
 const DEFAULT_CASES: u64 = 110_000;
 const DEFAULT_LARGE: u64 = 550;
 const DEFAULT_IMPORTS: u64 = 20_000;
+const DEFAULT_PLANS: u64 = 1_200;
 /// Below this many small cases a run may miss a refusal by chance, and is not held to all of them.
 const CASES_THAT_MEET_ALL: u64 = 40_000;
+/// Below this many towns with damaged plans the same holds of the verdicts on these.
+const PLANS_THAT_MEET_ALL: u64 = 1_000;
 
 enum Mode {
-    Cases { cases: u64, large: u64, imports: u64 },
+    Cases(Counts),
     Only(CaseName),
     Planted(u64),
     Replay(PathBuf),
     Fuzz { folder: PathBuf, seconds: Option<u64> },
+}
+
+/// How many cases of each series that a seed makes.
+struct Counts {
+    cases: u64,
+    large: u64,
+    imports: u64,
+    plans: u64,
 }
 
 struct Arguments {
@@ -52,15 +65,17 @@ struct Arguments {
 
 fn main() -> ExitCode {
     let Some(arguments) = parse(std::env::args().skip(1)) else {
-        println!("usage: outside [--seed S] [--cases N] [--large M] [--imports I] [--only CASE]");
-        println!("               [--planted I] [--replay DIR] [--fuzz DIR [--seconds T]]");
+        println!("usage: outside [--seed S] [--cases N] [--large M] [--imports I] [--plans D]");
+        println!("               [--only CASE] [--planted N] [--replay DIR] [--fuzz DIR [--seconds T]]");
         return ExitCode::from(2);
     };
     watch::start(arguments.seed);
     let differences = match arguments.mode {
-        Mode::Cases { cases, large, imports } => run_cases(arguments.seed, cases, large, imports),
+        Mode::Cases(counts) => run_cases(arguments.seed, &counts),
         Mode::Only(name) => run_only(arguments.seed, name),
-        Mode::Planted(imports) => import::planted::run(arguments.seed, imports),
+        Mode::Planted(cases) => {
+            import::planted::run(arguments.seed, cases) + plans::planted::run(arguments.seed, cases)
+        }
         Mode::Replay(folder) => corpus::replay(&folder).expect("the corpus folder can be read"),
         Mode::Fuzz { folder, seconds } => {
             fuzz::fuzz(arguments.seed, &folder, seconds).expect("the corpus folder can be written")
@@ -74,6 +89,7 @@ fn parse(mut words: impl Iterator<Item = String>) -> Option<Arguments> {
     let mut cases = None;
     let mut large = None;
     let mut imports = None;
+    let mut plans = None;
     let mut other = None;
     let mut seconds = None;
     while let Some(word) = words.next() {
@@ -83,6 +99,7 @@ fn parse(mut words: impl Iterator<Item = String>) -> Option<Arguments> {
             "--cases" => cases = Some(value.parse().ok()?),
             "--large" => large = Some(value.parse().ok()?),
             "--imports" => imports = Some(value.parse().ok()?),
+            "--plans" => plans = Some(value.parse().ok()?),
             "--planted" => other = Some(Mode::Planted(value.parse().ok()?)),
             "--only" => other = Some(Mode::Only(CaseName::parse(&value)?)),
             "--replay" => other = Some(Mode::Replay(PathBuf::from(value))),
@@ -95,13 +112,14 @@ fn parse(mut words: impl Iterator<Item = String>) -> Option<Arguments> {
         Some(Mode::Fuzz { folder, .. }) => Mode::Fuzz { folder, seconds },
         Some(mode) => mode,
         None => {
-            let nothing_said = cases.is_none() && large.is_none() && imports.is_none();
+            let nothing_said = [cases, large, imports, plans].iter().all(Option::is_none);
             let count = |said: Option<u64>, usual| said.unwrap_or(if nothing_said { usual } else { 0 });
-            Mode::Cases {
+            Mode::Cases(Counts {
                 cases: count(cases, DEFAULT_CASES),
                 large: count(large, DEFAULT_LARGE),
                 imports: count(imports, DEFAULT_IMPORTS),
-            }
+                plans: count(plans, DEFAULT_PLANS),
+            })
         }
     };
     Some(Arguments { seed, mode })
@@ -117,7 +135,7 @@ fn run_quay_town() -> u64 {
     failures.len() as u64
 }
 
-fn run_cases(seed: u64, cases: u64, large: u64, imports: u64) -> u64 {
+fn run_cases(seed: u64, counts: &Counts) -> u64 {
     let mut differences = run_quay_town();
     let mut runner = Runner::new(seed);
     if library::import_dimacs().is_none() {
@@ -128,9 +146,10 @@ fn run_cases(seed: u64, cases: u64, large: u64, imports: u64) -> u64 {
         (Series::Towns, on_purpose(Series::Towns), "towns made on purpose"),
         (Series::Ways, on_purpose(Series::Ways), "towns made for ties"),
         (Series::Texts, on_purpose(Series::Texts), "texts made on purpose"),
-        (Series::Small, cases, "small cases"),
-        (Series::Large, large, "large cases"),
-        (Series::Imports, imports, "imports"),
+        (Series::Small, counts.cases, "small cases"),
+        (Series::Large, counts.large, "large cases"),
+        (Series::Imports, counts.imports, "imports"),
+        (Series::Plans, counts.plans, "towns with damaged plans"),
     ];
     for (series, count, what) in parts {
         let started = Instant::now();
@@ -138,18 +157,32 @@ fn run_cases(seed: u64, cases: u64, large: u64, imports: u64) -> u64 {
         println!("{count} {what} in {:.1} s", started.elapsed().as_secs_f64());
     }
     runner.coverage.print();
+    runner.coverage.plans.print();
+    runner.coverage.finds.print();
     differences += runner.differences;
-    if cases >= CASES_THAT_MEET_ALL {
-        for text in runner.coverage.missing() {
-            println!("DIFFERENCE {text}");
-            differences += 1;
-        }
-    } else {
-        println!("fewer than {CASES_THAT_MEET_ALL} small cases: not held to meeting every refusal");
-    }
+    differences += missing(&runner, counts);
     let count: u64 = parts.iter().map(|(_, count, _)| count).sum();
     println!("outside: {count} cases, {differences} differences");
     differences
+}
+
+/// How many refusals a run of so many cases should have met and did not; each is printed.
+fn missing(runner: &Runner, counts: &Counts) -> u64 {
+    let coverage = &runner.coverage;
+    let held = [
+        (counts.cases >= CASES_THAT_MEET_ALL, "small cases", coverage.missing()),
+        (counts.plans >= PLANS_THAT_MEET_ALL, "towns with damaged plans", coverage.plans.missing()),
+    ];
+    let mut missing = 0;
+    for (enough, what, texts) in held {
+        if !enough {
+            println!("few {what}: not held to meeting every refusal");
+            continue;
+        }
+        missing += texts.len() as u64;
+        texts.iter().for_each(|text| println!("DIFFERENCE {text}"));
+    }
+    missing
 }
 
 /// The cases from 0 on, dealt out one by one to as many threads as there are cores. A case depends on its name and the

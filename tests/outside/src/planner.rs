@@ -9,10 +9,27 @@ use crate::reference::NEVER;
 use crate::rng::Rng;
 
 /// The least travel to one border, by node and tick (node × P + tick), NEVER where there is no way.
-struct LeastTravels {
-    border: usize,
-    travels: Vec<u32>,
+pub struct LeastTravels {
+    pub border: usize,
+    pub travels: Vec<u32>,
 }
+
+/// What is true of a town: each arc's travel at each tick, and the least travels to each border.
+pub struct Exact {
+    pub arc_travels: Vec<Vec<u32>>,
+    pub least: Vec<LeastTravels>,
+}
+
+impl Exact {
+    pub fn of(network: &Network) -> Exact {
+        let arc_travels = arc_travels(network);
+        let least = borders(network).into_iter().map(|border| least_travels(network, &arc_travels, border)).collect();
+        Exact { arc_travels, least }
+    }
+}
+
+/// A profile's ticks and travels.
+pub type Points = Vec<(u16, u32)>;
 
 /// The work an exact plan of this town takes, in relaxations of one arc at one tick per round.
 pub fn work(network: &Network) -> usize {
@@ -22,28 +39,31 @@ pub fn work(network: &Network) -> usize {
 /// An exact plan, or none if its profiles would need more points than a plan may have, be it these or be it
 /// those that the engine's planner has to write.
 pub fn exact_plan(rng: &mut Rng, network: &Network) -> Option<PlanDraft> {
-    let arc_travels = arc_travels(network);
-    let least: Vec<LeastTravels> =
-        borders(network).into_iter().map(|border| least_travels(network, &arc_travels, border)).collect();
+    let Exact { arc_travels, least } = Exact::of(network);
     let flags = flags(rng, network, &arc_travels, &least);
-    let mut plan = PlanDraft {
+    let plan = plan_of(network, flags, &profiles(rng, network, &least));
+    (plan.ticks.len() <= MOST_POINTS as usize && even_runs_fit(network, &least)).then_some(plan)
+}
+
+/// The plan of these flag words and these profiles, by border, then by node.
+pub fn plan_of(network: &Network, flags: Vec<u64>, profiles: &[Points]) -> PlanDraft {
+    let points = || profiles.iter().flatten();
+    PlanDraft {
         header: PlanHeader {
             number: network.header.number,
             period: network.header.period,
             nodes: network.header.nodes,
             arcs: network.header.arcs,
             cells: network.header.cells,
-            borders: least.len() as u32,
+            borders: borders(network).len() as u32,
             zero: 0,
-            points: 0,
+            points: points().count() as u32,
         },
         flags,
-        counts: Vec::new(),
-        ticks: Vec::new(),
-        travels: Vec::new(),
-    };
-    add_profiles(rng, network, &least, &mut plan);
-    (plan.ticks.len() <= MOST_POINTS as usize && even_runs_fit(network, &least)).then_some(plan)
+        counts: profiles.iter().map(|profile| profile.len() as u16).collect(),
+        ticks: points().map(|point| point.0).collect(),
+        travels: points().map(|point| point.1).collect(),
+    }
 }
 
 fn even_runs_fit(network: &Network, least: &[LeastTravels]) -> bool {
@@ -67,7 +87,7 @@ fn arc_travels(network: &Network) -> Vec<Vec<u32>> {
 }
 
 /// What taking an arc at a tick gives to the border, or NEVER.
-fn given(network: &Network, arc_travels: &[Vec<u32>], least: &LeastTravels, arc: usize, tick: usize) -> u32 {
+pub fn given(network: &Network, arc_travels: &[Vec<u32>], least: &LeastTravels, arc: usize, tick: usize) -> u32 {
     let period = network.header.period as usize;
     let travel = arc_travels[arc][tick];
     let after = least.travels[network.arcs[arc].to * period + (tick + travel as usize) % period];
@@ -119,13 +139,13 @@ fn flags(rng: &mut Rng, network: &Network, arc_travels: &[Vec<u32>], least: &[Le
     flags
 }
 
-fn all_cells(network: &Network) -> u64 {
+pub fn all_cells(network: &Network) -> u64 {
     u64::MAX >> (64 - network.header.cells)
 }
 
 /// Rule (a), and for each border, node and tick one arc that starts a least way, chosen only if none of the
 /// flagged ones does.
-fn few_flags(rng: &mut Rng, network: &Network, arc_travels: &[Vec<u32>], least: &[LeastTravels]) -> Vec<u64> {
+pub fn few_flags(rng: &mut Rng, network: &Network, arc_travels: &[Vec<u32>], least: &[LeastTravels]) -> Vec<u64> {
     let period = network.header.period as usize;
     let mut flags: Vec<u64> = network
         .arcs
@@ -162,37 +182,30 @@ fn few_flags(rng: &mut Rng, network: &Network, arc_travels: &[Vec<u32>], least: 
     flags
 }
 
-fn add_profiles(rng: &mut Rng, network: &Network, least: &[LeastTravels], plan: &mut PlanDraft) {
+fn profiles(rng: &mut Rng, network: &Network, least: &[LeastTravels]) -> Vec<Points> {
     let period = network.header.period as usize;
     let room = MOST_POINTS as usize;
     let every_tick = least.len() * network.nodes() * period;
     let every_tick_fits = every_tick <= room;
     // A plan that can be filled to its last point is.
     let style = if every_tick == room { 0 } else { rng.below(4) };
-    for to_border in least {
-        for node in 0..network.nodes() {
-            let travels = &to_border.travels[node * period..][..period];
-            let points = match style {
-                _ if travels[0] == NEVER => Vec::new(),
-                0 if every_tick_fits => at_every_tick(travels),
-                1 if every_tick_fits && rng.once_in(2) => at_every_tick(travels),
-                2 if period <= 64 => floor_lines(travels),
-                _ => even_runs(travels),
-            };
-            plan.counts.push(points.len() as u16);
-            plan.ticks.extend(points.iter().map(|point| point.0));
-            plan.travels.extend(points.iter().map(|point| point.1));
-        }
-    }
-    plan.header.points = plan.ticks.len() as u32;
+    let all_travels = least.iter().flat_map(|to_border| to_border.travels.chunks(period));
+    let profile = |travels: &[u32]| match style {
+        _ if travels[0] == NEVER => Vec::new(),
+        0 if every_tick_fits => at_every_tick(travels),
+        1 if every_tick_fits && rng.once_in(2) => at_every_tick(travels),
+        2 if period <= 64 => floor_lines(travels),
+        _ => even_runs(travels),
+    };
+    all_travels.map(profile).collect()
 }
 
-pub fn at_every_tick(travels: &[u32]) -> Vec<(u16, u32)> {
+pub fn at_every_tick(travels: &[u32]) -> Points {
     travels.iter().enumerate().map(|(tick, &travel)| (tick as u16, travel)).collect()
 }
 
 /// Points only where the step from tick to tick changes.
-fn even_runs(travels: &[u32]) -> Vec<(u16, u32)> {
+pub fn even_runs(travels: &[u32]) -> Points {
     let period = travels.len();
     let step = |tick: usize| i64::from(travels[(tick + 1) % period]) - i64::from(travels[tick]);
     (0..period)
@@ -201,18 +214,22 @@ fn even_runs(travels: &[u32]) -> Vec<(u16, u32)> {
         .collect()
 }
 
-/// Each line reaches on as long as, rounded down, it gives the true travel at every tick it passes.
-fn floor_lines(travels: &[u32]) -> Vec<(u16, u32)> {
+/// Few points: lines that, rounded down, are true at every tick they pass.
+pub fn floor_lines(travels: &[u32]) -> Points {
+    lines_through(travels, &[])
+}
+
+/// Points at these ticks, which rise, and at 0. Between two of them each line reaches on as long as, rounded
+/// down, it gives the travel at every tick it passes.
+pub fn lines_through(travels: &[u32], ticks: &[usize]) -> Points {
     let period = travels.len();
     let mut points = Vec::new();
     let mut start = 0;
     while start < period {
         points.push((start as u16, travels[start]));
-        let mut end = start + 1;
-        while end < period && line_is_true(travels, start, end + 1) {
-            end += 1;
-        }
-        start = end;
+        let next = ticks.iter().copied().find(|&tick| tick > start).unwrap_or(period);
+        let reaches = |&end: &usize| line_is_true(travels, start, end);
+        start = if reaches(&next) { next } else { (start + 1..next).take_while(reaches).last().unwrap_or(start + 1) };
     }
     points
 }

@@ -1,6 +1,8 @@
 //! Quay town, document 01's own example: built from its words and held to every row of its table, with the
 //! ways that wish 2 gives it.
 
+mod damaged;
+
 use crate::compare::compare;
 use crate::draft::{Drafts, NetworkDraft, PlanDraft, PlanHeader};
 use crate::input::Input;
@@ -46,6 +48,7 @@ pub fn failures() -> Vec<String> {
     trips(&mut failures);
     changed_ways(&mut failures);
     altered_towns(&mut failures);
+    damaged::damaged_plans(&mut failures);
     failures
 }
 

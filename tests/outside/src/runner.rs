@@ -2,6 +2,7 @@
 //! functions and, where the town is small enough, past the oracles. Towns made on purpose are cases too, and
 //! so are the texts for the import.
 
+mod plans;
 mod texts;
 mod tie_town;
 mod town;
@@ -13,7 +14,7 @@ use crate::damage::{self, damaged, Fault, Intended, Kind};
 use crate::generate::Size;
 use crate::import;
 use crate::input::Input;
-use crate::library::{import_dimacs, Import, ON_NETWORKS, OPERATIONS};
+use crate::library::{import_dimacs, varnwalnut_check_plan, Check, Import, CHECK, ON_NETWORKS, OPERATIONS};
 use crate::made::Written;
 use crate::oracle::{judge_chosen_ways, judge_flags_by_ways, judge_made_plan, judge_plan};
 use crate::oracle::{judge_ways_with_waits, trips_are_plain, unlike};
@@ -32,11 +33,13 @@ pub enum Series {
     /// Texts made on purpose for the import, whatever the seed.
     Texts,
     Imports,
+    /// Towns with plans damaged on purpose.
+    Plans,
 }
 
 impl Series {
-    pub const ALL: [Series; 6] =
-        [Series::Small, Series::Large, Series::Towns, Series::Ways, Series::Texts, Series::Imports];
+    pub const ALL: [Series; 7] =
+        [Series::Small, Series::Large, Series::Towns, Series::Ways, Series::Texts, Series::Imports, Series::Plans];
 
     pub fn letter(self) -> char {
         match self {
@@ -46,13 +49,14 @@ impl Series {
             Series::Ways => 'w',
             Series::Texts => 'd',
             Series::Imports => 'i',
+            Series::Plans => 'p',
         }
     }
 
     /// How many towns or texts there are, in a series of those made on purpose.
     pub fn made_on_purpose(self) -> Option<u64> {
         match self {
-            Series::Small | Series::Large | Series::Imports => None,
+            Series::Small | Series::Large | Series::Imports | Series::Plans => None,
             Series::Towns => Some(towns::COUNT),
             Series::Ways => Some(towns::ties::COUNT),
             Series::Texts => Some((import::by_hand::COUNT + import::every::COUNT) as u64),
@@ -95,6 +99,7 @@ impl CaseName {
     fn stream(self) -> u64 {
         match self.series {
             Series::Imports => self.number | 1 << 63,
+            Series::Plans => self.number | 1 << 62,
             _ => self.number << 1 | u64::from(self.series == Series::Large),
         }
     }
@@ -109,7 +114,10 @@ pub struct Runner {
     text_kinds: Vec<import::damage::Kind>,
     /// The import under test. Without one the reference alone is held to what is known of the texts.
     import: Option<Import>,
-    /// It is a stand-in: its differences are wanted, so they are not printed, and the library is left alone.
+    /// The check under test, where it is tried alone.
+    check: Check,
+    /// One of both is a stand-in: its differences are wanted, so they are not printed, and the library is left
+    /// alone.
     stands_in: bool,
 }
 
@@ -136,6 +144,9 @@ impl Trial<'_> {
         let verdict = compare(input);
         for text in &verdict.differences {
             self.differ(text);
+        }
+        if let Some((finds, bounds)) = verdict.finds {
+            self.runner.coverage.finds.met(verdict.refusal(CHECK), finds, bounds);
         }
         if let (true, Ok(network), Ok(plan)) = (oracles, &verdict.opened, &verdict.planned) {
             if let Some(text) = judge_plan(network, plan) {
@@ -198,6 +209,7 @@ impl Runner {
             kinds: damage::kinds(),
             text_kinds: import::damage::kinds(),
             import: import_dimacs(),
+            check: varnwalnut_check_plan,
             stands_in: false,
         }
     }
@@ -208,12 +220,19 @@ impl Runner {
         self.stands_in = true;
     }
 
+    /// Tries a stand-in for the library's check.
+    pub fn stand_in_for_the_check(&mut self, check: Check) {
+        self.check = check;
+        self.stands_in = true;
+    }
+
     pub fn run(&mut self, name: CaseName) {
         match name.series {
             Series::Towns => self.run_town(name),
             Series::Ways => self.run_tie_town(name),
             Series::Texts => self.run_text(name),
             Series::Imports => self.run_import(name),
+            Series::Plans => self.run_plans(name),
             Series::Small | Series::Large => self.run_generated(name),
         }
     }

@@ -31,7 +31,7 @@ pub enum Gives {
 }
 
 /// A road as the towns list it: from, to, points of tick and travel.
-type Road = (u16, u16, Vec<(u16, u16)>);
+pub type Road = (u16, u16, Vec<(u16, u16)>);
 
 const MAKERS: [fn() -> Town; 25] = [
     small::quay,
@@ -68,7 +68,7 @@ pub fn town(number: u64) -> Town {
 }
 
 /// A network of these roads; as many cells as are in use, or more.
-fn draft(period: u16, cell_count: u16, cells: &[u16], roads: &[Road]) -> NetworkDraft {
+pub fn draft(period: u16, cell_count: u16, cells: &[u16], roads: &[Road]) -> NetworkDraft {
     let mut tables = Tables { cells: cells.to_vec(), ..Tables::default() };
     for (from, to, points) in roads {
         tables.from.push(*from);

@@ -4,7 +4,7 @@ use native.Mathlib.Omega.{arith}
 use Rattle.theory_travel.specs.Table.{entryAt, entry-start}
 use Rattle.network.specs.Decode.{decode}
 use Rattle.day_runs.specs.Filling.{Space, Filling, space-on, filling-start, room-next, room-last}
-use Rattle.day_runs.specs.Filling.{filling-next, filling-last}
+use Rattle.day_runs.specs.Filling.{filling-next, filling-last, pending-ends}
 use lib.ListN.{length, length-set}
 use lib.Seq.{getD-set-same}
 use mathlib.Core.Path.{_≡_, refl, _∙_}
@@ -13,15 +13,16 @@ use Rattle.arc_runs.proofs.fill_points.Statement.{statement}
 use Rattle.arc_runs.proofs.fill_points.Tie as tie
 
 abbrev Inv-loop : tie.InvT-loop
-Inv-loop file l from count starts₀ values₀ last begin n₀ a₀ v₀ k₀ starts values n a v k =
+Inv-loop file l from count starts₀ values₀ finds₀ last begin n₀ a₀ v₀ k₀ starts values finds n a v k =
     (k ≤ last) × (length starts ≡ length starts₀) × (length values ≡ length values₀)
     × Space starts values (l .period)
     × Filling (entryAt (decode file .ticks) from) (entryAt (decode file .travels) from) count (l .period)
     starts
     values n k a v
+    × (finds ≡ finds₀ + k)
 
 abbrev μ-loop : tie.MeasureT-loop
-μ-loop file l from count starts₀ values₀ last begin n₀ a₀ v₀ k₀ starts values n a v k = last - k
+μ-loop file l from count starts₀ values₀ finds₀ last begin n₀ a₀ v₀ k₀ starts values finds n a v k = last - k
 
 sub-last : tie.Need-sub-last Inv-loop μ-loop
 sub-last c = search needs
@@ -35,7 +36,7 @@ slice-write-starts c = search needs
 loop-holds : tie.Need-loop-holds Inv-loop μ-loop
 loop-holds c = let s = c .before .before .before .before in
     let z = length-set (s .args .starts .now) 0 0 in
-    let r = s .pre .1 .1 in (
+    let r = s .pre .1 .1 .0 in (
       search needs,
       refl,
       refl,
@@ -43,6 +44,7 @@ loop-holds c = let s = c .before .before .before .before in
       filling-start (s .pre .1 .0 .0) _ _
           (getD-set-same (s .args .starts .now) 0 0 0 (omega (arith, r .in-s)))
           (entry-start _ (s .args .from) _ (c .travel .ensures)),
+      omega arith,
     )
 
 add-tick : tie.Need-add-tick Inv-loop μ-loop
@@ -66,10 +68,13 @@ travel-requires-2 c κs = search needs
 extend-requires : tie.Need-extend-requires Inv-loop μ-loop
 unfolding entryAt
 extend-requires c κs =
-    let s = c .before .before .before .before .before .before .before .before .before .before in
-    let l = c .before .before .before .before .before .loop in
-    let h : l .k + 1 < s .args .count = omega arith in
-    room-next (s .pre .1 .0 .0) _ (l .inv .4) _ (l .inv .3) (c .before .before .before .tick .ensures .0) h
+    let s = c .before .before .before .before .before .before .before .before .before .before .before in
+    let l = c .before .before .before .before .before .before .loop in
+    let h : l .k + 1 < s .args .count = omega arith in (
+      room-next (s .pre .1 .0 .0) _ (l .inv .4) _ (l .inv .3) (c .before .before .before .before
+          .tick .ensures .0) h,
+      omega (arith, l .inv .5, s .pre .1 .1 .1),
+    )
 
 add-k : tie.Need-add-k Inv-loop μ-loop
 add-k c = search needs
@@ -81,30 +86,57 @@ loop-again : tie.Need-loop-again Inv-loop μ-loop
 unfolding entryAt
 loop-again c =
     let s =
-    c .before .before .before .before .before .before .before .before .before .before .before .before
+    c .before .before .before .before .before .before .before .before .before .before .before .before .before
     .before .before .before in
-    let l = c .before .before .before .before .before .before .before .before .before .before .loop in
-    let e = c .before .before .before .before .extend .ensures in
+    let l = c .before .before .before .before .before .before .before .before .before .before .before .loop in
+    let t = c .before .before .before .before .extend .ensures in
+    let e = t .0 in
     let h : l .k + 1 < s .args .count = omega arith in (
       search needs,
       e .long-s ∙ l .inv .1,
       e .long-v ∙ l .inv .2,
       space-on (l .inv .3) e,
       filling-next (s .pre .1 .0 .0) _ (l .inv .4) e
-          (c .before .before .before .before .before .before .before .before .tick .ensures .0)
-          (c .before .before .before .before .before .before .before .travel2 .ensures) h,
+          (c .before .before .before .before .before .before .before .before .before .tick .ensures .0)
+          (c .before .before .before .before .before .before .before .before .travel2 .ensures) h,
+      omega (arith, l .inv .5, t .1),
     )
 
 extend-requires-2 : tie.Need-extend-requires-2 Inv-loop μ-loop
-extend-requires-2 c κs = let s = c .before .before .before .before .before .before .before .before in
-    let l = c .before .before .before .loop in
-    room-last (s .pre .1 .0 .0) _ (l .inv .4) (l .inv .3) (omega (arith, s .pre .1 .0 .0 .some, l .inv .0))
+extend-requires-2 c κs = let s = c .before .before .before .before .before .before .before .before .before in
+    let l = c .before .before .before .before .loop in (
+      room-last (s .pre .1 .0 .0) _ (l .inv .4) (l .inv .3) (omega (arith, s .pre .1 .0 .0 .some, l .inv .0)),
+      omega (arith, l .inv .5, s .pre .1 .1 .1, l .inv .0, s .pre .1 .0 .0 .some),
+    )
+
+close-requires : tie.Need-close-requires Inv-loop μ-loop
+close-requires c κs =
+    let s = c .before .before .before .before .before .before .before .before .before .before
+    .before .before .before .before .before .before in
+    let l = c .before .before .before .before .before .before .before .before .before .before
+    .before .loop in
+    let e = c .before .before .before .before .before .before .extend2 .ensures .0 in
+    let p =
+    filling-last (s .pre .1 .0 .0) _ (l .inv .4) (c .before .before .before .before .before
+    .before .extend2 .ensures .0) refl
+    (entry-start _ (s .args .from) _ (c .before .before .before .before .before .before .before
+    .before .before .before .before .before .travel .ensures))
+    (omega (arith, s .pre .1 .0 .0 .some, l .inv .0))
+    (omega (
+      arith,
+      c .before .before .before .before .before .before .before .before .before
+          .before .loop-test .left,
+    )) in
+    pending-ends (space-on (l .inv .3) e) p
 
 same-length : tie.Need-same-length Inv-loop μ-loop
 same-length c =
-    c .before .before .before .before .extend2 .ensures .long-s ∙ c .before .before .before .before .before
-    .before .before .before .loop .inv .1 ∙ length-set
-    (c .before .before .before .before .before .before .before .before .before .before .before .before
+    c .before .before .before .before .close .ensures .long-s ∙ c .before .before .before .before
+    .before .before .before .before .before .before .before .extend2 .ensures .0 .long-s
+    ∙ c .before .before .before .before .before .before .before .before .before .before .before
+    .before .before .before .before .before .loop .inv .1
+    ∙ length-set (c .before .before .before .before .before .before .before .before .before .before
+    .before .before .before .before .before .before .before .before .before .before
     .before .args .starts .now) 0 0
 
 same-length-2 : tie.Need-same-length-2 Inv-loop μ-loop
@@ -112,15 +144,34 @@ same-length-2 c = search needs
 
 returns : tie.Need-returns Inv-loop μ-loop
 returns c =
-    let s =
-    c .before .before .before .before .before .before .before .before .before .before .before .before
-    .before in
-    let l = c .before .before .before .before .before .before .before .before .loop in
-    filling-last (s .pre .1 .0 .0) _ (l .inv .4) (c .before .before .before .before .extend2 .ensures) refl
-    (entry-start _ (s .args .from) _
-    (c .before .before .before .before .before .before .before .before .before .travel .ensures))
+    let s = c .before .before .before .before .before .before .before .before .before .before
+    .before .before .before .before .before .before .before .before .before .before .before in
+    let l = c .before .before .before .before .before .before .before .before .before .before
+    .before .before .before .before .before .before .loop in
+    let t = c .before .before .before .before .before .before .before .before .before .before
+    .before .before .before .before .before .loop-test .left in
+    let p =
+    filling-last (s .pre .1 .0 .0) _ (l .inv .4) (c .before .before .before .before .before .before
+    .before .before .before .before .before .extend2 .ensures .0) refl
+    (entry-start _ (s .args .from) _ (c .before .before .before .before .before .before .before
+    .before .before .before .before .before .before .before .before .before .before .travel .ensures))
     (omega (arith, s .pre .1 .0 .0 .some, l .inv .0))
-    (omega (arith, c .before .before .before .before .before .before .before .loop-test .left))
+    (omega (
+      arith,
+      c .before .before .before .before .before .before .before .before .before .before
+          .before .before .before .before .before .loop-test .left,
+    )) in (
+      c .before .before .before .before .close .ensures .runs _ p,
+      omega (
+        arith,
+        l .inv .5,
+        c .before .before .before .before .before .before .before .before
+            .before .before .before .extend2 .ensures .1,
+        s .pre .1 .0 .0 .some,
+        l .inv .0,
+        t,
+      ),
+    )
 
 pub fill-points-spec : {M : Type 1} → statement M
 fill-points-spec =
@@ -143,6 +194,7 @@ fill-points-spec =
     loop-less
     loop-again
     extend-requires-2
+    close-requires
     same-length
     same-length-2
     returns)

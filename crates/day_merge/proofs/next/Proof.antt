@@ -30,9 +30,11 @@ add-result c = let s = c .before .before .before in
 
 returns : tie.Need-returns
 returns c = let s = c .before .before .before in
-    let p = s .pre .1 in
-    step-next (s .pre .0 .grid) _ _ _ _ _ (p .0) (p .1 .0) (p .1 .1) (c .before .start .ensures)
-    (c .reached .ensures)
+    let p = s .pre .1 in (
+      omega (arith, p .0 .below, reached-most (c .reached .ensures)),
+      step-next (s .pre .0 .grid) _ _ _ _ _ (p .0) (p .1 .0) (p .1 .1) (c .before .start .ensures)
+          (c .reached .ensures),
+    )
 
 pub next-spec : {M : Type 1} → statement M
 next-spec = tie.close (tie.spec add-start start-requires reached-requires add-result returns)

@@ -15,9 +15,9 @@ sub-left : tie.Need-sub-left
 sub-left c = search needs
 
 add-left : tie.Need-add-left
-add-left c = let s = c .before .before .before .before in
+add-left c = let s = c .before .before .before in
     let m = at-end (s .pre .0 .0 .grid) _ _ (s .pre .1 .0) in
-    let n = at-end (s .pre .0 .2 .grid) _ _ (s .pre .1 .2) in
+    let n = at-end (s .pre .0 .1 .grid) _ _ (s .pre .1 .1) in
     omega (arith, m, n, c .start .ensures, s .pre .1 .0 .to, s .pre .1 .3)
 
 add-start-2 : tie.Need-add-start-2
@@ -26,12 +26,6 @@ add-start-2 c = search needs
 start-requires-2 : tie.Need-start-requires-2
 start-requires-2 c κs = search needs
 
-add-start-3 : tie.Need-add-start-3
-add-start-3 c = search needs
-
-start-requires-3 : tie.Need-start-requires-3
-start-requires-3 c κs = search needs
-
 lesser-requires : tie.Need-lesser-requires
 lesser-requires c κs = search needs
 
@@ -39,17 +33,16 @@ lesser-requires-2 : tie.Need-lesser-requires-2
 lesser-requires-2 c κs = search needs
 
 returns : tie.Need-returns
-returns c = let s = c .before .before .before .before .before .before .before .before in
+returns c = let s = c .before .before .before .before .before .before in
     let m = at-end (s .pre .0 .0 .grid) _ _ (s .pre .1 .0) in
-    let sh = c .before .before .before .before .start .ensures in
-    let so = c .before .before .before .start2 .ensures in
-    let sa = c .before .before .start3 .ensures in
+    let sh = c .before .before .before .start .ensures in
+    let so = c .before .before .start2 .ensures in
     let a = c .before .lesser .ensures in
     let b = c .lesser2 .ensures in
     record {
-      some = omega (arith, a, b, sh, so, sa, s .pre .1 .0 .to, s .pre .1 .1 .to, s .pre .1 .2 .to);
+      some = omega (arith, a, b, sh, so, s .pre .1 .0 .to, s .pre .1 .1 .to, s .pre .1 .2);
       own = omega (arith, a, b, so);
-      arc = omega (arith, a, b, sa);
+      arc = omega (arith, a, b);
       head = omega (arith, b, sh);
       within = omega (arith, a, b, so, m);
     }
@@ -64,8 +57,6 @@ until-spec =
     add-left
     add-start-2
     start-requires-2
-    add-start-3
-    start-requires-3
     lesser-requires
     lesser-requires-2
     returns)

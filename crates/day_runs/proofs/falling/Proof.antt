@@ -115,33 +115,15 @@ loop-again c =
       search needs,
       fall-more (s .pre .0) _ _ _ (s .pre .1 .0) (s .pre .1 .1)
           (c .before .before .before .before .before .before .before .before .before .before .step-up
-          .ensures) _ _ _
-          _ (l .j) (l .inv .2) _ _ (l .inv .1)
+          .ensures) _ _ (l .j) (l .inv .2) _ _ _ _ (l .inv .1)
           (c .before .before .before .before .before .before .before .before .loop-test .taken)
           (c .before .before .before .before .before .before .before .wholes .ensures)
           (c .before .before .before .before .put .ensures .0)
           (c .before .before .before .before .put .ensures .1),
     )
 
-add-put-2 : tie.Need-add-put-2 Inv-loop μ-loop
-add-put-2 c = search needs
-
-put-requires-2 : tie.Need-put-requires-2 Inv-loop μ-loop
-put-requires-2 c κs =
-    let s = c .before .before .before .before .before .before .before in
-    let l = c .before .before .before .loop in
-    let t = c .before .before .loop-test .left in
-    let r =
-    held-room (s .pre .0) (l .inv .2)
-    (fall-below (s .pre .0) _ _ _ (s .pre .1 .0) (s .pre .1 .1)
-    (c .before .before .before .before .step-up .ensures) (l .j) (l .inv .0)) in
-    (omega (arith, r .0, t, l .inv .0), omega (arith, r .1, t, l .inv .0), s .pre .0 .last)
-
 add-result : tie.Need-add-result Inv-loop μ-loop
 add-result c = search needs
-
-add-result-2 : tie.Need-add-result-2 Inv-loop μ-loop
-add-result-2 c = search needs
 
 same-length : tie.Need-same-length Inv-loop μ-loop
 same-length c = search needs
@@ -151,15 +133,10 @@ same-length-2 c = search needs
 
 returns : tie.Need-returns Inv-loop μ-loop
 returns c =
-    let s =
-    c .before .before .before .before .before .before .before .before .before .before .before .before in
-    let l = c .before .before .before .before .before .before .before .before .loop in
-    fall-end (s .pre .0) _ _ _ (s .pre .1 .0) (s .pre .1 .1)
-    (c .before .before .before .before .before .before .before .before .before .step-up .ensures) _ _ _ _
-    (l .j) (l .inv .2) (l .inv .0)
-    (c .before .before .before .before .before .before .before .loop-test .left)
-    (c .before .before .before .before .put2 .ensures .0)
-    (c .before .before .before .before .put2 .ensures .1)
+    let s = c .before .before .before .before .before in
+    let l = c .before .loop in
+    fall-end (s .pre .0) _ _ _ (s .pre .1 .0) (s .pre .1 .1) (c .before .before .step-up .ensures) _ _ (l .j)
+    (l .inv .2) (l .inv .0) (c .loop-test .left)
 
 pub falling-spec : {M : Type 1} → statement M
 falling-spec =
@@ -184,10 +161,7 @@ falling-spec =
     add-j
     loop-less
     loop-again
-    add-put-2
-    put-requires-2
     add-result
-    add-result-2
     same-length
     same-length-2
     returns)

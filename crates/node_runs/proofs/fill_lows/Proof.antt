@@ -23,9 +23,6 @@ loop-holds c = (search needs, refl, lows-none _ _)
 low-value-requires : tie.Need-low-value-requires Inv-loop μ-loop
 low-value-requires c κs = search needs
 
-mul-lows : tie.Need-mul-lows Inv-loop μ-loop
-mul-lows c = search needs
-
 element-write-lows : tie.Need-element-write-lows Inv-loop μ-loop
 element-write-lows c = search needs
 
@@ -46,7 +43,7 @@ loop-again c = let s = c .before .before .before .before in
 returns : tie.Need-returns Inv-loop μ-loop
 returns c = let l = c .before .loop in
     let e : l .u ≡ c .before .before .before .args .l .nodes = omega arith in
-    rw e at (l .inv .2)
+    (rw e at (l .inv .2), l .inv .1)
 
 pub fill-lows-spec : {M : Type 1} → statement M
 fill-lows-spec =
@@ -56,7 +53,6 @@ fill-lows-spec =
     μ-loop
     loop-holds
     low-value-requires
-    mul-lows
     element-write-lows
     add-u
     loop-less

@@ -6,7 +6,9 @@ use Rattle.plan_values.specs.Formed.{profile-in}
 use Rattle.plan_values.specs.Starts.{product-fits, number-fits}
 use Rattle.plan_tests.specs.Giving.{head-in}
 use Rattle.node_runs.specs.Adds.{met-never, met-far}
+use Rattle.node_runs.specs.Finding.{counted-none}
 use Rattle.node_runs.specs.Ready.{floor-here}
+use Rattle.arc_runs.specs.Brief.{brief-floor}
 use borrow.Author.Needs.{needs}
 use Rattle.node_runs.proofs.judge_arc.Statement.{statement}
 use Rattle.node_runs.proofs.judge_arc.Tie as tie
@@ -42,87 +44,83 @@ returns : tie.Need-returns
 returns c =
     let s =
     c .before .before .before .before .before .before .before .before .before .before .before .before .before
-    .before in
-    met-never (s .pre .0) _ _ _ (s .pre .1 .1 .0 .1) (c .before .before .before .before .head .ensures .0)
-    (s .pre .1 .1 .1 .0 .0 .some) _
-    (sym (c .before .point-count .ensures .0) ∙ c .if1 .taken)
+    .before in (
+      met-never (s .pre .0) _ _ _ (s .pre .1 .1 .0 .1) (c .before .before .before .before .head .ensures .0)
+          (s .pre .1 .1 .1 .0 .0 .some) _
+          (sym (c .before .point-count .ensures .0) ∙ c .if1 .taken),
+      counted-none _ _,
+    )
 
-least-travel-requires : tie.Need-least-travel-requires
-least-travel-requires c κs =
-    let s =
-    c .before .before .before .before .before .before .before .before .before .before .before .before .before
-    .before in
-    (s .pre .0 .check .town, (s .pre .1 .1 .0 .0, s .pre .0 .first _ (s .pre .1 .1 .0 .0)))
-
-mul-is-far : tie.Need-mul-is-far
-mul-is-far c = search needs
+element-copy-out-brief : tie.Need-element-copy-out-brief
+element-copy-out-brief c = let s = c .before .before .before .before .before .before .before .before .before
+    .before .before .before .before .before in
+    omega (arith, s .pre .1 .1 .0 .0, s .pre .0 .check .town .small .arcs-most)
 
 element-copy-out-is-far : tie.Need-element-copy-out-is-far
-element-copy-out-is-far c =
-    let s =
-    c .before .before .before .before .before .before .before .before .before .before .before .before .before
-    .before .before in
+element-copy-out-is-far c = let s = c .before .before .before .before .before .before .before .before .before
+    .before .before .before .before .before .before in
     let w = s .pre .0 in
     omega (
       arith,
-      head-in w (s .pre .1 .1 .0 .0)
-          (c .before .before .before .before .before .head .ensures .0),
+      head-in w (s .pre .1 .1 .0 .0) (c .before .before .before .before .before .head .ensures .0),
       w .check .formed .small .nodes-most,
     )
+
+least-requires : tie.Need-least-requires
+least-requires c κs = search needs
 
 is-far-requires : tie.Need-is-far-requires
 is-far-requires c κs = search needs
 
 returns-2 : tie.Need-returns-2
-returns-2 c =
-    let s =
-    c .before .before .before .before .before .before .before .before .before .before .before .before .before
-    .before .before .before .before .before in
+returns-2 c = let s = c .before .before .before .before .before .before .before .before .before .before
+    .before .before .before .before .before .before .before .before .before in
     let w = s .pre .0 in
+    let a = s .pre .1 .1 .0 .0 in
     let o = s .pre .1 .1 .1 .0 in
-    let h = c .before .before .before .before .before .before .before .before .head .ensures .0 in
-    let k = c .before .before .before .before .before .point-count .ensures .0 in
+    let h = c .before .before .before .before .before .before .before .before .before .head .ensures .0 in
+    let k = c .before .before .before .before .before .before .point-count .ensures .0 in
     let f =
-    s .pre .1 .0 .at _ (head-in w (s .pre .1 .1 .0 .0) h) .floor
-    (omega (arith, k, c .before .before .before .before .if1 .left)) in
-    met-far w _ _ _ (s .pre .1 .1 .0 .1) h (o .0 .some)
-    (omega (arith, k, c .before .before .before .before .if1 .left)) _ _ _ _
-    (ltb-true _ _ (sym (c .before .is-far .ensures) ∙ c .if2 .taken)) (o .1)
-    (c .before .before .before .least-travel .ensures)
-    (floor-here w f)
+    s .pre .1 .0 .1 .at _ (head-in w a h) .floor
+    (omega (arith, k, c .before .before .before .before .before .if1 .left)) in (
+      met-far w _ _ _ (s .pre .1 .1 .0 .1) h (o .0 .some)
+          (omega (arith, k, c .before .before .before .before .before .if1 .left)) _ _ _ _
+          (ltb-true _ _ (sym (c .before .is-far .ensures) ∙ c .if2 .taken)) (o .1)
+          (brief-floor (s .pre .1 .0 .0 .at _ a) (c .before .before .least .ensures))
+          (floor-here w f),
+      counted-none _ _,
+    )
 
 same-bits-requires : tie.Need-same-bits-requires
-same-bits-requires c κs =
-    let s =
-    c .before .before .before .before .before .before .before .before .before .before .before .before .before
-    .before .before .before .before .before in
+same-bits-requires c κs = let s = c .before .before .before .before .before .before .before .before .before
+    .before .before .before .before .before .before .before .before .before .before in
     let w = s .pre .0 in
     (w .check .formed .laid, (omega (arith, s .pre .1 .1 .0 .0, w .check .arcs), w .aimed .flag))
 
 meet-requires : tie.Need-meet-requires
-meet-requires c κs =
-    let s =
-    c .before .before .before .before .before .before .before .before .before .before .before .before .before
-    .before .before .before .before .before .before .before .before .before .before .before in
+meet-requires c κs = let s = c .before .before .before .before .before .before .before .before .before .before
+    .before .before .before .before .before .before .before .before .before .before .before .before .before
+    .before .before .before in
     let o = s .pre .1 .1 .1 in
-    let k =
-    c .before .before .before .before .before .before .before .before .before .before .before .point-count
-    .ensures .0 in (
+    let a = s .pre .1 .1 .0 .0 in
+    let k = c .before .before .before .before .before .before .before .before .before .before .before .before
+    .before .point-count .ensures .0 in (
       s .pre .0,
       (
         (
-          s .pre .1 .1 .0 .0,
+          a,
           s .pre .1 .1 .0 .1,
-          c .before .before .before .before .before .before .before
-              .before .before .before .before .before .before .before .head .ensures .0,
+          c .before .before .before .before .before .before .before .before .before .before .before .before
+              .before .before .before .before .head .ensures .0,
           omega (
             arith,
             k,
-            c .before .before .before .before .before .before .before .before .before .before .if1
-                .left,
+            c .before .before .before .before .before .before .before .before .before .before
+                .before .before .if1 .left,
           ),
+          s .pre .1 .0 .0 .at _ a,
         ),
-        ((o .0 .0, c .before .before .before .before .before .same-bits .ensures), o .1),
+        ((o .0 .0, c .before .before .before .before .before .before .same-bits .ensures), o .1),
       ),
     )
 
@@ -153,9 +151,9 @@ judge-arc-spec =
     add-point-count
     point-count-requires
     returns
-    least-travel-requires
-    mul-is-far
+    element-copy-out-brief
     element-copy-out-is-far
+    least-requires
     is-far-requires
     returns-2
     same-bits-requires

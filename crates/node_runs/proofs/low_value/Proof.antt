@@ -1,6 +1,7 @@
 -- `node_runs::low_value` meets its contract.
 use Rattle.plan_values.specs.Starts.{starting}
 use native.Mathlib.Omega.{arith}
+use Rattle.node_runs.specs.Ready.{low-less}
 use borrow.Author.Needs.{needs}
 use Rattle.node_runs.proofs.low_value.Statement.{statement}
 use Rattle.node_runs.proofs.low_value.Tie as tie
@@ -26,8 +27,11 @@ least-value-requires c κs = let s = c .before .before .before .before in (
   ),
 )
 
+sixteenth-requires : tie.Need-sixteenth-requires
+sixteenth-requires c κs = search needs
+
 returns-2 : tie.Need-returns-2
-returns-2 c = search needs
+returns-2 c = low-less (c .before .least-value .ensures) (c .sixteenth .ensures)
 
 pub low-value-spec : {M : Type 1} → statement M
 low-value-spec =
@@ -38,4 +42,5 @@ low-value-spec =
     point-count-requires
     returns
     least-value-requires
+    sixteenth-requires
     returns-2)

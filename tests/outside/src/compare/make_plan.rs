@@ -1,9 +1,11 @@
 //! The planner's call: its answer, its work list and the bytes it writes, and what the library's own check
 //! says of them.
 
+use super::check_plan::Call;
 use super::{answer_words, judge_answer, Predicted, Run};
 use crate::library::*;
 use crate::marked::Lent;
+use crate::reference::finds::find_bounds;
 use crate::reference::make_plan::{make_plan, MadeCall, MakeLengths};
 
 /// How long the planner's lists and its answer are.
@@ -65,21 +67,12 @@ impl Run<'_> {
         if wanted.is_some_and(|wanted| wanted.accepted.get()) {
             return;
         }
-        let plan = Lent::holding(file, 0);
-        let mut answer = Lent::<u32>::blank(CHECK_ANSWER);
-        // SAFETY: each pointer leads to as many entries as its count says, and no two lists overlap.
-        #[rustfmt::skip]
-        let returned = unsafe {
-            varnwalnut_check_plan(
-                self.network.pointer(), self.network.length(),
-                plan.pointer(), plan.length(),
-                answer.pointer_mut(), answer.length(),
-            )
-        };
-        if returned != 0 {
-            let places = answer.first(CHECK_ANSWER);
+        let call = Call::check(self.check, &self.network, &Lent::holding(file, 0), CHECK_ANSWER);
+        if call.returned != 0 {
+            let (returned, places) = (call.returned, call.answer.first(3));
             self.differ(MAKE, format!("the check refuses the plan made: {returned} at {places:?}"));
-        } else if let Some(wanted) = wanted {
+        } else if let (Some(wanted), Ok(network)) = (wanted, self.opened) {
+            self.expect_check_answer(&call, None, Some(find_bounds(network, &wanted.plan)));
             wanted.accepted.set(true);
         }
     }

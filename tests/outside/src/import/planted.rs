@@ -2,9 +2,9 @@
 //! that can be planted in it.
 
 use super::standin::{import_dimacs, plant, Error, ERRORS};
+use crate::planted::dealt_out;
 use crate::runner::{CaseName, Runner, Series};
 use crate::watch;
-use std::sync::atomic::{AtomicUsize, Ordering};
 
 /// The first case that finds an error: of the texts made on purpose, and of so many generated ones.
 struct Found {
@@ -40,25 +40,10 @@ pub fn run(seed: u64, cases: u64) -> u64 {
     failures
 }
 
-/// No error and then each, dealt out one by one to as many threads as there are cores.
+/// No error and then each.
 fn find_all(seed: u64, cases: u64) -> Vec<Found> {
     let errors: Vec<Option<Error>> = std::iter::once(None).chain(ERRORS.iter().copied().map(Some)).collect();
-    let next = AtomicUsize::new(0);
-    let dealt = |thread| {
-        let mut found = Vec::new();
-        while let Some(&error) = errors.get(next.fetch_add(1, Ordering::Relaxed)) {
-            found.push(find(seed, cases, error, thread));
-        }
-        watch::rest(thread);
-        found
-    };
-    let mut found: Vec<Found> = std::thread::scope(|scope| {
-        let start = |thread| scope.spawn(move || dealt(thread));
-        let parts: Vec<_> = (0..watch::threads()).map(start).collect();
-        parts.into_iter().flat_map(|part| part.join().expect("a case that panicked has said so")).collect()
-    });
-    found.sort_by_key(|found| found.error.map(|error| error as usize));
-    found
+    dealt_out(&errors, |&error, thread| find(seed, cases, error, thread))
 }
 
 fn shown(name: Option<CaseName>) -> String {

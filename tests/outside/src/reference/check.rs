@@ -17,7 +17,7 @@ pub fn check(network: &Network, plan: &Plan) -> Result<(), Refusal> {
 }
 
 /// "a road with both ends in cell c has bit c".
-fn judge_rule_a(network: &Network, plan: &Plan) -> Result<(), Refusal> {
+pub fn judge_rule_a(network: &Network, plan: &Plan) -> Result<(), Refusal> {
     for (number, arc) in network.arcs.iter().enumerate() {
         let cell = network.cell_of[arc.from];
         if cell == network.cell_of[arc.to] && !plan.has_flag(number, cell) {

@@ -1,5 +1,7 @@
 -- `plan_check::check::check_opened` meets its contract.
 use Rattle.plan_check.specs.Checking.{checks}
+use mathlib.Core.Path.{_∙_}
+use Rattle.plan_check.specs.Finds.{finds-none}
 use borrow.Author.Needs.{needs}
 use Rattle.plan_check.proofs.check.check_opened.Statement.{statement}
 use Rattle.plan_check.proofs.check.check_opened.Tie as tie
@@ -13,6 +15,9 @@ validate-plan-requires c κs = search needs
 enum-known-r : tie.Need-enum-known-r
 enum-known-r c = search needs
 
+refused-requires : tie.Need-refused-requires
+refused-requires c κs = search needs
+
 enum-known-k : tie.Need-enum-known-k
 enum-known-k c = search needs
 
@@ -20,7 +25,9 @@ check-formed-requires : tie.Need-check-formed-requires
 check-formed-requires c κs = (search needs, search checks)
 
 returns : tie.Need-returns
-returns c = search checks
+returns c =
+    let r = c .refused .ensures in
+    (r .0 ∙ search checks, finds-none _ _ _ (r .0) (r .1))
 
 returns-2 : tie.Need-returns-2
 returns-2 c = search checks
@@ -32,6 +39,7 @@ check-opened-spec =
     layout-requires
     validate-plan-requires
     enum-known-r
+    refused-requires
     enum-known-k
     check-formed-requires
     returns

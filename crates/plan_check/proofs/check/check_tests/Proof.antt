@@ -2,6 +2,8 @@
 -- are those that the other tests ask for.
 use Rattle.search_arcs.specs.Town.{fresh-tables}
 use Rattle.plan_check.specs.Finding.{checks, equipped-of}
+use mathlib.Core.Path.{_∙_}
+use Rattle.plan_check.specs.Finds.{finds-none}
 use borrow.Author.Needs.{needs}
 use Rattle.plan_check.proofs.check.check_tests.Statement.{statement}
 use Rattle.plan_check.proofs.check.check_tests.Tie as tie
@@ -15,8 +17,13 @@ cast-refuse c = search needs
 refuse-requires : tie.Need-refuse-requires
 refuse-requires c κs = search needs
 
+refused-requires : tie.Need-refused-requires
+refused-requires c κs = search needs
+
 returns : tie.Need-returns
-returns c = search checks
+returns c =
+    let r = c .refused .ensures in
+    (r .0 ∙ search checks, finds-none _ _ _ (r .0) (r .1))
 
 first-points-requires : tie.Need-first-points-requires
 first-points-requires c κs = search needs
@@ -41,6 +48,7 @@ check-tests-spec =
     first-unflagged-requires
     cast-refuse
     refuse-requires
+    refused-requires
     returns
     first-points-requires
     chain-requires

@@ -1,71 +1,33 @@
--- `plan_check::check::check_triples` meets its contract: where nothing fails the ladder from 21 on accepts;
--- else it is what is left of it from this number on.
-use Rattle.plan_check.specs.Finding.{Passed, passing, passed-none, passed-more, clean-accepted}
-use Rattle.plan.specs.PlanDecode.{decodePlan}
-use Rattle.network.specs.Decode.{decode}
-use Rattle.network.specs.Town.{partitionOf}
-use Prim.Native.Nat.{_-_}
+-- `plan_check::check::check_triples` meets its contract.
+use mathlib.Core.Path.{sym}
+use native.Mathlib.Omega.{arith}
+use Rattle.plan_check.specs.Standing.{stands-verdict}
+use Rattle.plan_check.specs.Tally.{finds-told}
 use borrow.Author.Needs.{needs}
 use Rattle.plan_check.proofs.check.check_triples.Statement.{statement}
 use Rattle.plan_check.proofs.check.check_triples.Tie as tie
 
-abbrev Inv-loop : tie.InvT-loop
-Inv-loop network plan l points first next borders number₀ number =
-    Passed (partitionOf (decode network)) (decodePlan plan) number
+judge-borders-requires : tie.Need-judge-borders-requires
+judge-borders-requires c κs = search needs
 
-abbrev μ-loop : tie.MeasureT-loop
-μ-loop network plan l points first next borders number₀ number = 25 - number
+verdict-of-requires : tie.Need-verdict-of-requires
+verdict-of-requires c κs =
+    let w = c .before .before .before .before .pre .check in
+    let t = w .town in
+    λ h.
+    let f = c .judge-borders .ensures .0 .found h in (
+      omega (arith, f .border, w .borders, w .formed .small .borders-most),
+      omega (arith, f .node, t .sizes .nodes, t .small .nodes-most),
+      omega (arith, f .tick .within, t .sizes .period, t .small .period-most),
+    )
 
-is-clean-requires : tie.Need-is-clean-requires Inv-loop μ-loop
-is-clean-requires c κs = c .before .before .pre
-
-returns : tie.Need-returns Inv-loop μ-loop
-returns c = clean-accepted _ _ (c .before .is-clean .ensures (c .if1 .taken))
-
-loop-holds : tie.Need-loop-holds Inv-loop μ-loop
-loop-holds c = passed-none
-
-first-failing-requires : tie.Need-first-failing-requires Inv-loop μ-loop
-first-failing-requires c κs = c .before .before .before .before .before .before .pre
-
-enum-known-found : tie.Need-enum-known-found Inv-loop μ-loop
-enum-known-found c = search needs
-
-returns-2 : tie.Need-returns-2 Inv-loop μ-loop
-returns-2 c = search passing
-
-enum-told : tie.Need-enum-told Inv-loop μ-loop
-enum-told c = search needs
-
-add-number : tie.Need-add-number Inv-loop μ-loop
-add-number c = search needs
-
-loop-less : tie.Need-loop-less Inv-loop μ-loop
-loop-less c = search needs
-
-loop-again : tie.Need-loop-again Inv-loop μ-loop
-loop-again c =
-    let i = c .before .before .before in
-    passed-more (i .before .loop .inv) (i .loop-test .taken) (c .before .before .first-failing .ensures)
-    (c .enum-told .given .1)
-
-returns-3 : tie.Need-returns-3 Inv-loop μ-loop
-returns-3 c = search passing
+returns : tie.Need-returns
+returns c =
+    let w = c .before .before .before .before .before .pre .check in
+    let r = c .before .judge-borders .ensures in (
+      stands-verdict (r .0) (omega (arith, w .borders)) (c .verdict-of .ensures),
+      finds-told w _ (r .1) (r .0 .low) (r .0 .high) (c .verdict-of .ensures),
+    )
 
 pub check-triples-spec : {M : Type 1} → statement M
-check-triples-spec =
-    tie.close
-    (tie.spec
-    Inv-loop
-    μ-loop
-    is-clean-requires
-    returns
-    loop-holds
-    first-failing-requires
-    enum-known-found
-    returns-2
-    enum-told
-    add-number
-    loop-less
-    loop-again
-    returns-3)
+check-triples-spec = tie.close (tie.spec judge-borders-requires verdict-of-requires returns)

@@ -1,12 +1,12 @@
 -- `varnwalnut::desk::varnwalnut_check_plan` meets its contract.
 use mathlib.Core.Path.{refl}
-use Rattle.varnwalnut.specs.Calling.{desk-short, desk-written}
+use Rattle.varnwalnut.specs.Calling.{check-short, check-written}
 use borrow.Author.Needs.{needs}
 use Rattle.varnwalnut.proofs.desk.varnwalnut_check_plan.Statement.{statement}
 use Rattle.varnwalnut.proofs.desk.varnwalnut_check_plan.Tie as tie
 
 returns : tie.Need-returns
-returns c = desk-short 3 _ _ _ (c .if1 .taken) refl
+returns c = check-short _ _ _ _ (c .if1 .taken) refl
 
 check-plan-requires : tie.Need-check-plan-requires
 check-plan-requires c κs = search needs
@@ -18,7 +18,7 @@ same-length : tie.Need-same-length
 same-length c = search needs
 
 returns-2 : tie.Need-returns-2
-returns-2 c = rw (← (c .before .before .before .before .check-plan .ensures)) (search desk-written)
+returns-2 c = search check-written
 
 pub varnwalnut-check-plan-spec : {M : Type 1} → statement M
 varnwalnut-check-plan-spec =

@@ -1,0 +1,135 @@
+-- `node_verdict::is_ahead` meets its contract.
+use Prim.Native.Nat.{_-_}
+use native.Mathlib.Omega.{arith}
+use Rattle.network.specs.Network.{tail}
+use Rattle.network.specs.Decode.{decode}
+use Rattle.network.specs.Town.{partitionOf}
+use Rattle.search_arcs.specs.Chain.{Walking, walk-first, walk-less, walk-next}
+use Rattle.plan_values.specs.Formed.{profile-in}
+use Rattle.plan_values.specs.Starts.{product-fits, number-fits}
+use Rattle.search_arcs.specs.Town.{head-node}
+use Rattle.plan.specs.PlanDecode.{decodePlan}
+use Rattle.node_verdict.specs.Blank.{ahead, ahead-elsewhere, ahead-not, ahead-found, ahead-none}
+use borrow.Author.Needs.{needs}
+use Rattle.node_verdict.proofs.is_ahead.Statement.{statement}
+use Rattle.node_verdict.proofs.is_ahead.Tie as tie
+
+abbrev Inv-loop : tie.InvT-loop
+Inv-loop network plan l first next i node arcs a₀ a =
+    Walking (tail (decode network)) (l .network .nodes) (l .network .arcs) first next
+    (ahead (partitionOf (decode network)) (decodePlan plan) i node) node a
+
+abbrev μ-loop : tie.MeasureT-loop
+μ-loop network plan l first next i node arcs a₀ a = arcs - a
+
+mul-wide : tie.Need-mul-wide Inv-loop μ-loop
+mul-wide c = search needs
+
+element-copy-out-wide : tie.Need-element-copy-out-wide Inv-loop μ-loop
+element-copy-out-wide c = search needs
+
+wide-requires : tie.Need-wide-requires Inv-loop μ-loop
+wide-requires c κs = search needs
+
+loop-holds : tie.Need-loop-holds Inv-loop μ-loop
+loop-holds c = let s = c .before .before .before .before in
+    walk-first _ (s .pre .1 .0) (ahead-elsewhere _ _ _ _) (s .pre .1 .1 .1) (c .wide .ensures .0)
+
+head-requires : tie.Need-head-requires Inv-loop μ-loop
+head-requires c κs = search needs
+
+mul-point-count : tie.Need-mul-point-count Inv-loop μ-loop
+mul-point-count c = let s = c .before .before .before .before .before .before .before .before in
+    let w = s .pre .0 in
+    product-fits (w .formed) {u = c .before .head .result} (s .pre .1 .1 .0) (omega (
+      arith,
+      head-node (w
+          .town) _ _ (c .before .before .loop-test .taken) (c .before .head .ensures .0),
+      w .nodes,
+    ))
+
+add-point-count : tie.Need-add-point-count Inv-loop μ-loop
+add-point-count c = let s = c .before .before .before .before .before .before .before .before in
+    let w = s .pre .0 in
+    number-fits (w .formed) (s .pre .1 .1 .0) (omega (
+      arith,
+      head-node (w .town) _ _ (c .before .before
+          .loop-test .taken) (c .before .head .ensures .0),
+      w .nodes,
+    ))
+
+point-count-requires : tie.Need-point-count-requires Inv-loop μ-loop
+point-count-requires c κs = let s = c .before .before .before .before .before .before .before .before in
+    let w = s .pre .0 in (
+      w .formed .laid,
+      profile-in (w .formed) _ _ (s .pre .1 .1 .0) (omega (
+        arith,
+        head-node (w .town) _ _ (c
+            .before .before .loop-test .taken) (c .before .head .ensures .0),
+        w .nodes,
+      )),
+    )
+
+returns : tie.Need-returns Inv-loop μ-loop
+returns c = let h = c .before .before .before .before .loop-test .taken in
+    ahead-found (c .before .before .before .before .before .before .before .before .before .before .pre .0) _
+    _ _ _ _ (c .before .before .before .before .before .loop .inv .here h) (c .before .before .before
+    .head .ensures .0)
+    (c .before .point-count .ensures .0) h (c .if1 .taken)
+
+mul-wide-2 : tie.Need-mul-wide-2 Inv-loop μ-loop
+mul-wide-2 c = omega (
+  arith,
+  c .before .before .before .before .loop-test .taken,
+  c .before .before .before
+      .before .before .before .before .before .before .before .pre .0 .town .small .arcs-most,
+)
+
+element-copy-out-wide-2 : tie.Need-element-copy-out-wide-2 Inv-loop μ-loop
+element-copy-out-wide-2 c = omega (
+  arith,
+  c .before .before .before .before .loop-test .taken,
+  c .before
+      .before .before .before .before .before .before .before .before .before .pre .0 .town .small .arcs-most,
+)
+
+wide-requires-2 : tie.Need-wide-requires-2 Inv-loop μ-loop
+wide-requires-2 c κs = search needs
+
+loop-less : tie.Need-loop-less Inv-loop μ-loop
+loop-less c = walk-less (c .before .before .before .before .before .before .before .loop .inv) (c .before
+    .before .before .before .before .before .loop-test .taken) _ (c .wide2 .ensures .0)
+
+loop-again : tie.Need-loop-again Inv-loop μ-loop
+loop-again c = let h = c .before .before .before .before .before .before .loop-test .taken in
+    let v = c .before .before .before .before .before .before .before .loop .inv in
+    walk-next v h _ (c .wide2 .ensures .0)
+    (ahead-not (c .before .before .before .before .before .before .before .before .before .before .before
+    .before .pre .0) _ _ _ _ _ (v .here h) (c .before .before .before .before .before .head .ensures .0)
+    (c .before .before .before .point-count .ensures .0) (c .before .before .if1 .left))
+
+returns-2 : tie.Need-returns-2 Inv-loop μ-loop
+returns-2 c = ahead-none _ _ _ _ (c .before .before .before .before .before .before .pre .0 .town) (c .before
+    .loop .inv) (c .loop-test .left)
+
+pub is-ahead-spec : {M : Type 1} → statement M
+is-ahead-spec =
+    tie.close
+    (tie.spec
+    Inv-loop
+    μ-loop
+    mul-wide
+    element-copy-out-wide
+    wide-requires
+    loop-holds
+    head-requires
+    mul-point-count
+    add-point-count
+    point-count-requires
+    returns
+    mul-wide-2
+    element-copy-out-wide-2
+    wide-requires-2
+    loop-less
+    loop-again
+    returns-2)

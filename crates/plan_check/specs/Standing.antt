@@ -1,0 +1,205 @@
+-- How the check stands: which of the tests 21 to 24 is the lowest that fails at the borders and nodes judged
+-- so far, and the first place at which it does. Borders are judged in the order of their numbers, and nodes
+-- at each, so that a lower number takes the place of the one found before, and the same number does not.
+use mathlib.Core.Path.{_≡_, refl, sym, _∙_, ap}
+use mathlib.Core.Logic.{_⊎_, inl, inr}
+use mathlib.Core.Bool.{false, cond}
+use Prim.Native.Nat.{ℕ, zero, suc, _+_, _-_, _≤_, _<_}
+use native.Mathlib.Decide.{ℕ-discrete, decLt}
+use native.Mathlib.Omega.{arith}
+use lib.Dec.{ltb}
+use borrow.Author.Tests.{lt-ltb, le-ltb}
+use Rattle.theory_loops.specs.Triple.{triple-found}
+use Rattle.theory_paths.specs.Partition.{Partition}
+use Rattle.plan.specs.Border.{borderCount}
+use Rattle.plan.specs.Plan.{Plan}
+use Rattle.plan_tests.specs.Tests.{fails}
+use Rattle.plan_tests.specs.Meaning.{Nowhere}
+use Rattle.node_verdict.specs.declared.Verdict.{Verdict}
+use Rattle.node_verdict.specs.Lowest.{FirstTick, Lowest}
+use Rattle.plan_check.specs.declared.answer.Checking.{Checking}
+use Rattle.plan_check.specs.declared.answer.Checking.the-variants.{Accepted}
+use Rattle.plan_check.specs.declared.judge.Found.{Found}
+use Rattle.plan_check.specs.Check.{refusedAt, tripleRung}
+use Rattle.plan_check.specs.Exact.{nowhere-rung}
+
+-- border number j and node v come before border number i and node u
+abbrev pub Before : ℕ → ℕ → ℕ → ℕ → Type 0
+Before i u j v = (j < i) ⊎ ((j ≡ i) × (v < u))
+
+-- the first place at which the test that was found fails
+pub record FirstPlace (G : Partition) (p : Plan) (f : Found) : Type 0 where
+  pub border : f .border < borderCount G
+  pub node : f .node < G .graph .nodes
+  pub tick : FirstTick G p (f .border) (f .node) (G .graph .period) (f .number) (f .tick)
+  pub before : (j v x : ℕ) → Before (f .border) (f .node) j v → v < G .graph .nodes → x < G .graph .period
+      → fails (f .number) G p j v x ≡ false
+
+-- what was found before, or what is told of a node, where its number is lower
+unfoldable pub lowerOf : Found → Verdict → ℕ → ℕ → Found
+lowerOf f v i u =
+    cond (ltb (v .number) (f .number))
+    (record { number = v .number; border = i; node = u; tick = v .tick }) f
+
+pub lower-told : (f : Found) (v : Verdict) (i u : ℕ) → v .number < f .number
+    → record { number = v .number; border = i; node = u; tick = v .tick } ≡ lowerOf f v i u
+unfolding lowerOf
+lower-told f v i u h = rw (lt-ltb (v .number) (f .number) h)
+
+pub lower-found : (f : Found) (v : Verdict) (i u : ℕ) → f .number ≤ v .number → f ≡ lowerOf f v i u
+unfolding lowerOf
+lower-found f v i u h = rw (le-ltb (v .number) (f .number) h)
+
+-- all that comes before border number i and node u is judged
+pub record Stands (G : Partition) (p : Plan) (i u : ℕ) (f : Found) : Type 0 where
+  pub low : 21 ≤ f .number
+  pub high : f .number ≤ 25
+  pub passed : (number j v x : ℕ) → 21 ≤ number → number < f .number → Before i u j v → v < G .graph .nodes
+      → x < G .graph .period → fails number G p j v x ≡ false
+  pub found : f .number < 25 → FirstPlace G p f
+
+module _ {G : Partition} {p : Plan} where
+  pub stands-first : {b u x : ℕ} → Stands G p 0 0 (record { number = 25; border = b; node = u; tick = x })
+  stands-first = record {
+    low = omega arith;
+    high = omega arith;
+    passed = λ n j v x lo hi q l m. none q;
+    found = λ l. absurd (omega arith);
+  }
+    where
+      none : {A : Type 0} {j v : ℕ} → Before 0 0 j v → A
+      none (inl l) = absurd (omega arith)
+      none (inr (e, l)) = absurd (omega arith)
+
+  module _ {i u : ℕ} {f : Found} (s : Stands G p i u f) where
+    -- one node more
+    module _ {v : Verdict} (w : Lowest G p i u (G .graph .period) (f .number) v) where
+      more : (number j y x : ℕ) → 21 ≤ number → number < f .number → number < v .number → Before i (u + 1) j y
+          → y < G .graph .nodes → x < G .graph .period → fails number G p j y x ≡ false
+      more n j y x lo hi o (inl l) m k = s .passed n j y x lo hi (inl l) m k
+      more n j y x lo hi o (inr (e, l)) m k = elim (decLt y u) [
+        | yes q ↦ s .passed n j y x lo hi (inr (e, q)) m k
+        | no q ↦
+            let z : y ≡ u = omega arith in
+            rw (e, z) (w .passed n x lo hi o k)
+      ]
+
+      kept : f .number ≤ v .number → Stands G p i (u + 1) f
+      kept h = record {
+        low = s .low;
+        high = s .high;
+        passed = λ n j y x lo hi q m k. more n j y x lo hi (omega arith) q m k;
+        found = s .found;
+      }
+
+      lower : v .number < f .number → i < borderCount G → u < G .graph .nodes
+          → Stands G p i (u + 1)
+          (record { number = v .number; border = i; node = u; tick = v .tick })
+      lower h b l = record {
+        low = w .low;
+        high = omega (arith, s .high);
+        passed = λ n j y x lo hi q m k. more n j y x lo (omega arith) hi q m k;
+        found = λ o. record {
+          border = b;
+          node = l;
+          tick = w .found h;
+          before = λ j y x q m k. s .passed (v .number) j y x (w .low) h q m k;
+        };
+      }
+
+      pub stands-more : {r : Found} → r ≡ lowerOf f v i u → i < borderCount G → u < G .graph .nodes
+          → Stands G p i (u + 1) r × (r .number ≤ f .number)
+      unfolding lowerOf
+      stands-more {r} e b l = elim (decLt (v .number) (f .number)) [
+        | yes h ↦
+            rw (e, lt-ltb (v .number) (f .number) h) (lower h b l, omega arith)
+        | no h ↦
+            rw (e, le-ltb (v .number) (f .number) (omega arith)) (kept (omega arith), omega arith)
+      ]
+
+    -- all nodes of a border
+    pub stands-row : G .graph .nodes ≤ u → Stands G p (i + 1) 0 f
+    stands-row h = record {
+      low = s .low;
+      high = s .high;
+      passed = λ n j y x lo hi q m k. s .passed n j y x lo hi (row q m) m k;
+      found = s .found;
+    }
+      where
+        row : {j y : ℕ} → Before (i + 1) 0 j y → y < G .graph .nodes → Before i u j y
+        row {j} {y} (inl l) m = elim (ℕ-discrete j i) [
+          | yes e ↦ inr (e, omega arith)
+          | no e ↦ inl (omega
+              (arith, e))
+        ]
+        row (inr (e, l)) m = absurd (omega arith)
+
+-- THE LADDER of the tests from one number on, k of them
+unfoldable pub triplesFrom : ℕ → ℕ → Partition → Plan → Checking
+triplesFrom zero number G p = Accepted
+triplesFrom (suc k) number G p = tripleRung number G p (triplesFrom k (number + 1) G p)
+
+-- tests that fail nowhere are passed
+passed-tests : (G : Partition) (p : Plan) (d k number : ℕ)
+    → ((m : ℕ) → number ≤ m → m < number + d → Nowhere G p m)
+    → triplesFrom (d + k) number G p ≡ triplesFrom k (number + d) G p
+unfolding triplesFrom
+passed-tests G p zero k number h =
+    let y : 0 + k ≡ k = omega arith in
+    let z : number + 0 ≡ number = omega arith in
+    ap (λ (m : ℕ). triplesFrom m number G p) y ∙ ap (λ (m : ℕ). triplesFrom k m G p) (sym z)
+passed-tests G p (suc d) k number h =
+    let y : suc d + k ≡ suc (d + k) = omega arith in
+    let z : number + suc d ≡ number + 1 + d = omega arith in
+    ap (λ (m : ℕ). triplesFrom m number G p) y
+    ∙ nowhere-rung G p number _ (h number (omega arith) (omega arith))
+    ∙ passed-tests G p d k (number + 1) (λ m lo hi. h m (omega arith) (omega arith))
+    ∙ ap (λ (m : ℕ). triplesFrom k m G p) (sym z)
+
+-- the verdict by what was found
+unfoldable pub verdictOf : Found → Checking
+verdictOf f =
+    cond (ltb (f .number) 25) (refusedAt (f .number) (f .border) (f .node) (f .tick)) Accepted
+
+pub verdict-refused : (f : Found) → f .number < 25
+    → refusedAt (f .number) (f .border) (f .node) (f .tick) ≡ verdictOf f
+unfolding verdictOf
+verdict-refused f h = rw (lt-ltb (f .number) 25 h)
+
+pub verdict-accepted : (f : Found) → 25 ≤ f .number → Accepted ≡ verdictOf f
+unfolding verdictOf
+verdict-accepted f h = rw (le-ltb (f .number) 25 h)
+
+-- ALL BORDERS are judged
+module _ {G : Partition} {p : Plan} {i : ℕ} {f : Found} (s : Stands G p i 0 f) (e : borderCount G ≤ i) where
+  nowhere : (number : ℕ) → 21 ≤ number → number < f .number → Nowhere G p number
+  nowhere number lo hi j v x b l m = s .passed number j v x lo hi (inl (omega arith)) l m
+
+  rest : (k : ℕ) → f .number + k ≡ 25 → triplesFrom 4 21 G p ≡ triplesFrom k (f .number) G p
+  rest k h =
+      let a : f .number - 21 + k ≡ 4 = omega (arith, s .low) in
+      let b : 21 + (f .number - 21) ≡ f .number = omega (arith, s .low) in
+      ap (λ (m : ℕ). triplesFrom m 21 G p) (sym a)
+      ∙ passed-tests G p (f .number - 21) k 21 (λ m lo hi. nowhere m lo (omega (arith, s .low)))
+      ∙ ap (λ (m : ℕ). triplesFrom k m G p) b
+
+  accepted : 25 ≤ f .number → Accepted ≡ triplesFrom 4 21 G p
+  unfolding triplesFrom
+  accepted h = sym (rest 0 (omega (arith, s .high)))
+
+  refused : f .number < 25 → refusedAt (f .number) (f .border) (f .node) (f .tick) ≡ triplesFrom 4 21 G p
+  unfolding triplesFrom tripleRung
+  refused h =
+      let w = s .found h in
+      triple-found (fails (f .number) G p) (borderCount G) (G .graph .nodes) (G .graph .period) (f .border)
+      (f .node) (f .tick) (w .border) (w .node) (w .tick .within) (w .tick .at)
+      (λ j v x a l m. w .before j v x (inl a) l m)
+      (λ v x a m. w .before (f .border) v x (inr (refl, a)) (omega (arith, w .node)) m) (w .tick .before)
+      (refusedAt (f .number)) (triplesFrom (24 - f .number) (f .number + 1) G p)
+      ∙ sym (rest (suc (24 - f .number)) (omega arith))
+
+  pub stands-verdict : {r : Checking} → r ≡ verdictOf f → r ≡ triplesFrom 4 21 G p
+  stands-verdict q = q ∙ elim (decLt (f .number) 25) [
+    | yes h ↦ sym (verdict-refused f h) ∙ refused h
+    | no h ↦ sym (verdict-accepted f (omega arith)) ∙ accepted (omega arith)
+  ]

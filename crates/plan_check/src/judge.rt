@@ -1,0 +1,206 @@
+// The tests 21 to 24 at all borders, nodes and ticks, in one pass: the lowest that fails anywhere, and the
+// first place at which it does. Once a test fails, only those with lower numbers are looked for.
+use arc_runs::brief;
+use network::header::Layout;
+use network::limits::MOST_ARCS;
+use network::limits::MOST_NODES;
+use network::limits::MOST_PERIOD;
+use node_verdict::NONE;
+use node_verdict::Verdict;
+use plan_tests::tests::Layouts;
+use plan_tests::tests::Target;
+use plan_values::starts;
+use search_arcs::wide;
+ghost use mathlib.Core.Path.{_≡_};
+ghost use Prim.Native.Nat.{_+_, _*_, _^_, _≤_, _<_};
+ghost use lib.ListN.{length};
+ghost use Rattle.theory_loops.specs.Total.{total};
+ghost use Rattle.network.specs.Decode.{decode};
+ghost use Rattle.network.specs.Limits.{mostNodes};
+ghost use Rattle.network.specs.Network.{nodes};
+ghost use Rattle.network.specs.Town.{partitionOf};
+ghost use Rattle.search_arcs.specs.Town.{Town};
+ghost use Rattle.plan.specs.Border.{borderCount, Listed};
+ghost use Rattle.plan.specs.PlanDecode.{decodePlan};
+ghost use Rattle.arc_runs.specs.Brief.{Briefs};
+ghost use Rattle.plan_tests.specs.Failing.{AtBorder};
+ghost use Rattle.plan_tests.specs.Finds.{nodeFinds};
+ghost use Rattle.plan_tests.specs.Giving.{Aimed};
+ghost use Rattle.node_runs.specs.Ready.{Rooms, Lows};
+ghost use Rattle.plan_check.specs.Finding.{Equipped};
+ghost use Rattle.plan_check.specs.Standing.{Stands, lowerOf};
+ghost use Rattle.plan_check.specs.Tally.{Row, Tally};
+
+// The runs of a day, and the tick after the last of them.
+const RUN_ENDS: usize = MOST_PERIOD + 1;
+
+// The lowest test that fails so far, and the first place at which it does; 25 while none fails.
+pub struct Found {
+    pub number: u32,
+    pub border: usize,
+    pub node: usize,
+    pub tick: usize,
+}
+
+// Border number i, by the list of borders.
+fn target_at(network: &[u8], l: Layout, borders: &[u16; MOST_NODES], i: usize) -> Target
+    requires { ⌜ Town (now network) l ⌝ }
+    requires { ⌜ Listed (partitionOf (decode (now network))) (now borders) ⌝ }
+    requires { ⌜ (i < borderCount (partitionOf (decode (now network)))) × (i < mostNodes) ⌝ }
+    ensures { λ r. ⌜ (r .number ≡ i) × Aimed (now (network .entry)) r ⌝ }
+{
+    let node = wide(borders[i]);
+    Target {
+        number: i,
+        node,
+        cell: network::read::cell(network, l, node),
+    }
+}
+
+// What was found before, or what is told of a node, where its number is lower.
+fn lower_of(found: Found, told: Verdict, border: usize, node: usize) -> Found
+    ensures { λ r. ⌜ r ≡ lowerOf found told border node ⌝ }
+{
+    if told.number < found.number {
+        return Found {
+            number: told.number,
+            border,
+            node,
+            tick: told.tick,
+        };
+    }
+    found
+}
+
+// Judges all nodes towards a border, where those before it are judged.
+fn judge_border(
+    found: Found,
+    network: &[u8],
+    plan: &[u8],
+    l: Layouts,
+    points: &[u16; MOST_ARCS],
+    briefs: &[u8; MOST_ARCS],
+    first: &[u16; MOST_NODES],
+    next: &[u16; MOST_ARCS],
+    firsts: &[u32; MOST_NODES],
+    lows: &[u8; MOST_NODES],
+    target: Target,
+    so: &mut [u16],
+    vo: &mut [u32],
+    sa: &mut [u16],
+    va: &mut [u16],
+    sh: &mut [u16],
+    vh: &mut [u32],
+    marks: &mut [u8],
+    finds: &mut u64,
+) -> Found
+    requires { ⌜ AtBorder (now network) (now plan) l (now points) (now first) (now next) (now firsts)
+        target ⌝ }
+    requires { ⌜ Briefs (decode (now network)) (l .network .period) (l .network .arcs) (now briefs)
+        × Lows (now plan) (l .plan) (target .number) (l .plan .nodes) (now lows) ⌝ }
+    requires { ⌜ (l .network .period < length (now so)) × (l .network .period ≤ length (now vo)) ⌝ }
+    requires { ⌜ Rooms (l .network .period) (now sa) (now va) (now sh) (now vh) (now marks) ⌝ }
+    requires { ⌜ Stands (partitionOf (decode (now network))) (decodePlan (now plan)) (target .number) 0
+        found ⌝ }
+    requires { ⌜ now finds + total (nodes (decode (now network)))
+        (nodeFinds (decode (now network)) (decodePlan (now plan)) (target .number)) < 2 ^ 64 ⌝ }
+    ensures { λ r. ⌜ Stands (partitionOf (decode (now (network .entry)))) (decodePlan (now (plan .entry)))
+        (target .number + 1) 0 r × (r .number ≤ found .number)
+        × Row (decode (now (network .entry))) (decodePlan (now (plan .entry))) (target .number)
+        (nodes (decode (now (network .entry)))) (r .number) (now (finds .entry)) (now (finds .exit)) ⌝ }
+{
+    let count = l.network.nodes;
+    let mut best = found;
+    for node in 0..count {
+        let told = node_verdict::judge(
+            best.number,
+            network,
+            plan,
+            l,
+            points,
+            briefs,
+            first,
+            next,
+            firsts,
+            lows,
+            target,
+            node,
+            so,
+            vo,
+            sa,
+            va,
+            sh,
+            vh,
+            marks,
+            finds,
+        );
+        best = lower_of(best, told, target.number, node);
+    }
+    best
+}
+
+// Judges all borders.
+pub fn judge_borders(
+    network: &[u8],
+    plan: &[u8],
+    l: Layouts,
+    points: &[u16; MOST_ARCS],
+    first: &[u16; MOST_NODES],
+    next: &[u16; MOST_ARCS],
+    borders: &[u16; MOST_NODES],
+    finds: &mut u64,
+) -> Found
+    requires { ⌜ Equipped (now network) (now plan) l (now points) (now first) (now next) (now borders) ⌝ }
+    requires { ⌜ now finds ≡ 0 ⌝ }
+    ensures { λ r. ⌜ Stands (partitionOf (decode (now (network .entry)))) (decodePlan (now (plan .entry)))
+        (l .plan .borders) 0 r
+        × Tally (decode (now (network .entry))) (decodePlan (now (plan .entry))) (l .plan .borders)
+        (r .number) (now (finds .exit)) ⌝ }
+{
+    let count = l.plan.borders;
+    let mut briefs = [0u8; MOST_ARCS];
+    brief::fill_briefs(network, l.network, points, &mut briefs);
+    let mut firsts = [0u32; MOST_NODES];
+    let mut lows = [0u8; MOST_NODES];
+    let mut so = [0u16; RUN_ENDS];
+    let mut vo = [0u32; MOST_PERIOD];
+    let mut sa = [0u16; RUN_ENDS];
+    let mut va = [0u16; MOST_PERIOD];
+    let mut sh = [0u16; RUN_ENDS];
+    let mut vh = [0u32; MOST_PERIOD];
+    let mut marks = [0u8; MOST_PERIOD];
+    let mut from = 0;
+    let mut best = Found {
+        number: NONE,
+        border: 0,
+        node: 0,
+        tick: 0,
+    };
+    for i in 0..count {
+        from = starts::profile_starts(plan, l.plan, i, from, &mut firsts);
+        node_runs::fill_lows(plan, l.plan, &firsts, i, &mut lows);
+        let target = target_at(network, l.network, borders, i);
+        best = judge_border(
+            best,
+            network,
+            plan,
+            l,
+            points,
+            &briefs,
+            first,
+            next,
+            &firsts,
+            &lows,
+            target,
+            &mut so,
+            &mut vo,
+            &mut sa,
+            &mut va,
+            &mut sh,
+            &mut vh,
+            &mut marks,
+            finds,
+        );
+    }
+    best
+}
