@@ -1,6 +1,6 @@
-//! Quay town's plan damaged, and what has to come of it by hand. To border 2 place 0 says 6 but for 5
-//! at tick 8, place 1 what road 1 takes (3 4 5 6 7 7 7 6 5 4), place 2 says 0 and place 3 never. Road 0 takes 2
-//! from place 0 to place 1, road 2 takes 6 from place 0 to the border, and road 3 leads from there to place 3.
+//! Quay town's plan damaged, and what has to come of it by hand. To border 2 place 0 says 6 but for 5 at tick
+//! 8, place 1 what road 1 takes (3 4 5 6 7 7 7 6 5 4), place 2 says 0 and place 3 never. Road 0 takes 2 from
+//! place 0 to place 1, road 2 takes 6 from place 0 to the border, and road 3 leads from there to place 3.
 
 use super::{altered, drafts, expect};
 use crate::library::CHECK;

@@ -168,9 +168,9 @@ pub fn each_rounded_up() -> Town {
     town("each rounded up", draft, &[3, 2], profiles)
 }
 
-/// Wish 5's own words: each road takes a little more than 1, that is 2 at any tick but 0. Over `roads` of them
-/// a way takes a tick less if it leaves a place at tick 0. That is at the start, or after some roads of 2: at
-/// most once a day, for after it all ticks are odd.
+/// Wish 5's own words: each road takes a little more than 1, that is 2 at any tick but 0. A way over some of
+/// them takes a tick less if it leaves a place at tick 0, be it its first or one that it comes to at an even
+/// tick. No way does so twice, for then all ticks are odd and the day is long.
 pub fn forty_short_roads() -> Town {
     let (day, count) = (100, 40);
     let short: Vec<Road> = (0..count).map(|place| road(place, place + 1, &[(0, 1), (99, 2)])).collect();
