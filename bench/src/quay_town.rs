@@ -41,7 +41,7 @@ fn trips_are_those_of_the_document() {
     assert_eq!(files.plan.len(), 2048);
     assert_eq!(trip(&files, &ask(0, 3, 0)), Ok((7, vec![2, 3])));
     assert_eq!(trip(&files, &ask(0, 3, 1)), Ok((8, vec![2, 3])));
-    assert_eq!(trip(&files, &ask(0, 3, 7)), Ok((13, vec![0, 1, 3])));
+    assert_eq!(trip(&files, &ask(0, 3, 7)), Ok((14, vec![2, 3])));
     assert_eq!(trip(&files, &ask(0, 3, 8)), Ok((14, vec![0, 1, 3])));
     assert_eq!(trip(&files, &ask(3, 0, 0)), Err(28));
     assert_eq!(trip(&files, &ask(3, 3, 4)), Ok((4, vec![])));
@@ -74,8 +74,8 @@ fn set_flags(plan: &mut [u8], flags: [u8; 4]) {
 fn verdicts_are_those_of_the_document() {
     assert_eq!(verdict(|_| ()), Ok(()));
     assert_eq!(verdict(|plan| set_flags(plan, [3, 2, 2, 2])), Ok(()));
-    assert_eq!(verdict(|plan| set_flags(plan, [1, 2, 2, 2])), refused(24, [0, 0, 7]));
-    assert_eq!(verdict(|plan| set_flags(plan, [3, 2, 0, 2])), refused(24, [0, 0, 1]));
+    assert_eq!(verdict(|plan| set_flags(plan, [1, 2, 2, 2])), refused(24, [0, 0, 8]));
+    assert_eq!(verdict(|plan| set_flags(plan, [3, 2, 0, 2])), refused(24, [0, 0, 0]));
     assert_eq!(verdict(|plan| plan[3 * 512 + 10] = 5), refused(23, [0, 0, 0]));
     assert_eq!(verdict(|plan| plan[3 * 512 + 10] = 7), refused(22, [0, 0, 0]));
 }

@@ -85,7 +85,7 @@ impl Profiles {
             (period, travel(plan.point(from)))
         };
         let a = tick(point);
-        (travel(point) as u64 * (b - x) as u64 + w as u64 * (x - a) as u64) / (b - a) as u64
+        (travel(point) as u64 * (b - x) as u64 + w as u64 * (x - a) as u64).div_ceil((b - a) as u64)
     }
 }
 
@@ -157,13 +157,13 @@ pub fn check_each_tick(network: &[u8], plan: &[u8]) -> Result<(), Refusal> {
     faults.verdict()
 }
 
-/// The values of a line from (a, v) up to (b, w), b left out: each from the one before, without a division.
+/// The values of a line from (a, v) up to (b, w), b left out, rounded up: each from the one before, without a division.
 #[inline(always)]
 fn unfold_line(out: &mut [u32], v: u32, w: u32) {
     let width = out.len() as i64;
     let rise = w as i64 - v as i64;
     let (whole, part) = (rise.div_euclid(width), rise.rem_euclid(width));
-    let (mut value, mut rest) = (v as i64, 0);
+    let (mut value, mut rest) = (v as i64, width - 1);
     for slot in out {
         *slot = value as u32;
         value += whole;

@@ -142,10 +142,10 @@ fn first_fault(network: &Network) -> Refusal {
     refuse(10, late.expect("some point breaks a rule"))
 }
 
-/// The straight line, rounded down.
+/// The straight line, rounded up.
 #[inline(always)]
 fn line(x: u32, a: u32, v: u32, b: u32, w: u32) -> u32 {
-    (v * (b - x) + w * (x - a)) / (b - a)
+    (v * (b - x) + w * (x - a)).div_ceil(b - a)
 }
 
 /// The last of some points at or before x; the first is.

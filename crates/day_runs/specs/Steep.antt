@@ -11,7 +11,7 @@ use Rattle.day_runs.specs.Held.{Added, Held, Room, held-start, held-put,
 use Rattle.day_runs.specs.Walk.{climbed, sunk, line-climbed, line-sunk}
 
 module _ {s₀ v₀ : List ℕ} {n a b : ℕ} (room : Room s₀ v₀ n a b) where
-  module _ (v w start step : ℕ) (begun : start ≡ v * 4294967296) where
+  module _ (v w start step : ℕ) (begun : start ≡ v * 4294967296 + 4294967295) where
     pub steep-start : Held s₀ v₀ s₀ v₀ n (n + (a - a)) a v a (lineAt a v b w a) (lineAt a v b w)
     steep-start =
         let i : n + (a - a) ≡ n = omega arith in
@@ -37,13 +37,14 @@ module _ {s₀ v₀ : List ℕ} {n a b : ℕ} (room : Room s₀ v₀ n a b) wher
           (held-put room s vs s' v' (n + (x - a)) x v b _ _ p es (ev ∙ rw e) l m (omega arith)
           (λ y lo hi. let q : y ≡ x = omega arith in rw q))
 
-      climb-value : v ≤ w → step ≡ stepUp (w - v) (b - a) → r ≡ climbed start step a x → r ≡ lineAt a v b w x
+      climb-value : v ≤ w → step ≡ stepDown (w - v) (b - a) → r ≡ climbed start step a x
+          → r ≡ lineAt a v b w x
       climb-value h is e = e ∙ rw (begun, is) (line-climbed x a v b w l m (omega (arith, room .last)) h)
 
-      sink-value : w ≤ v → step ≡ stepDown (v - w) (b - a) → r ≡ sunk start step a x → r ≡ lineAt a v b w x
+      sink-value : w ≤ v → step ≡ stepUp (v - w) (b - a) → r ≡ sunk start step a x → r ≡ lineAt a v b w x
       sink-value h is e = e ∙ rw (begun, is) (line-sunk x a v b w l m (omega (arith, room .last)) h)
 
-      module _ (h : v ≤ w) (is : step ≡ stepUp (w - v) (b - a)) (e : r ≡ climbed start step a x) where
+      module _ (h : v ≤ w) (is : step ≡ stepDown (w - v) (b - a)) (e : r ≡ climbed start step a x) where
         pub climb-more : s' ≡ set s (n + (x - a) + 1) (x + 1) → v' ≡ set vs (n + (x - a)) r
             → Held s₀ v₀ s' v' n (n + (x + 1 - a)) a v (x + 1) (lineAt a v b w (x + 1)) (lineAt a v b w)
         climb-more es ev = steep-more (climb-value h is e) es ev
@@ -52,7 +53,7 @@ module _ {s₀ v₀ : List ℕ} {n a b : ℕ} (room : Room s₀ v₀ n a b) wher
             → Added s₀ v₀ s' v' n (n + (b - a)) a v b (lineAt a v b w)
         climb-last z es ev = steep-last (climb-value h is e) z es ev
 
-      module _ (h : w ≤ v) (is : step ≡ stepDown (v - w) (b - a)) (e : r ≡ sunk start step a x) where
+      module _ (h : w ≤ v) (is : step ≡ stepUp (v - w) (b - a)) (e : r ≡ sunk start step a x) where
         pub sink-more : s' ≡ set s (n + (x - a) + 1) (x + 1) → v' ≡ set vs (n + (x - a)) r
             → Held s₀ v₀ s' v' n (n + (x + 1 - a)) a v (x + 1) (lineAt a v b w (x + 1)) (lineAt a v b w)
         sink-more es ev = steep-more (sink-value h is e) es ev

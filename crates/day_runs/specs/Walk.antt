@@ -1,6 +1,6 @@
 -- A line with a new value at each tick, walked by equal steps: on a rising piece they are added, on a falling
--- one taken off, in parts of which 4,294,967,296 make a whole. Rounded down, a rising piece takes `stepUp`
--- from v wholes and a falling one `stepDown`.
+-- one taken off, in parts of which 4,294,967,296 make a whole. Rounded up, it starts one part short of the
+-- next whole, and a rising piece takes `stepDown`, a falling one `stepUp`.
 use mathlib.Core.Path.{_≡_, sym, _∙_}
 use Prim.Native.Nat.{ℕ, _+_, _-_, _*_, _/_, _≤_, _<_}
 use native.Mathlib.Nat.{mul-le-mul-right, div-mul-le-self, le-of-lt, div-eq-of-lt-le, div-lt-iff-lt-mul}
@@ -8,9 +8,9 @@ use native.Mathlib.Omega.{arith}
 use mir.Val.{Fits}
 use mir.Syntax.{w64}
 use Rattle.theory_travel.specs.Pieces.{lineAt}
-use Rattle.travel_runs.specs.Fixed.{stepUp, stepDown, floored, ceiled, climb-floored}
+use Rattle.travel_runs.specs.Fixed.{stepUp, stepDown, floored, ceiled, climb-ceiled}
 use Rattle.theory_travel.specs.Line.{line-rising, line-falling}
-use Rattle.travel_runs.specs.Fixed.{steps-ceiled}
+use Rattle.travel_runs.specs.Fixed.{steps-floored}
 
 -- the parts at tick x, of a walk that starts at tick a
 unfoldable pub climbing : ℕ → ℕ → ℕ → ℕ → ℕ
@@ -31,59 +31,63 @@ wholes : (p m : ℕ) → m * 4294967296 ≤ p → p < m * 4294967296 + 429496729
 wholes p m l h = div-eq-of-lt-le 4294967296 l (omega arith)
 
 module _ (v d n k : ℕ) (some : 0 < n) (most : n ≤ 65536) (among : k ≤ n) where
-  sink-ceiled : ceiled k d n ≤ v → (v * 4294967296 - k * stepDown d n) / 4294967296 ≡ v - ceiled k d n
-  sink-ceiled l =
-      let s = steps-ceiled d n k some most among in
-      let z : v - ceiled k d n + ceiled k d n ≡ v = omega arith in
+  sink-floored : floored k d n ≤ v
+      → (v * 4294967296 + 4294967295 - k * stepUp d n) / 4294967296 ≡ v - floored k d n
+  sink-floored l =
+      let s = steps-floored d n k some most among in
+      let z : v - floored k d n + floored k d n ≡ v = omega arith in
       wholes _ _ (omega (arith, s .0)) (omega (arith, s .1))
 
 module _ (x a v b w : ℕ) (from : a ≤ x) (to : x < b) (most : b ≤ 65536) where
-  pub line-climbed : v ≤ w → climbed (v * 4294967296) (stepUp (w - v) (b - a)) a x ≡ lineAt a v b w x
-  unfolding climbed climbing lineAt floored
+  pub line-climbed : v ≤ w
+      → climbed (v * 4294967296 + 4294967295) (stepDown (w - v) (b - a)) a x ≡ lineAt a v b w x
+  unfolding climbed climbing lineAt ceiled
   line-climbed h =
-      climb-floored v (w - v) (b - a) (x - a) (omega arith) (omega arith) (omega arith) ∙ sym
+      climb-ceiled v (w - v) (b - a) (x - a) (omega arith) (omega arith) (omega arith) ∙ sym
       (line-rising x a v b w from to h)
 
-  drop-most : w ≤ v → ceiled (x - a) (v - w) (b - a) ≤ v
-  unfolding ceiled
+  drop-most : w ≤ v → floored (x - a) (v - w) (b - a) ≤ v
+  unfolding floored
   drop-most h =
       let some : 0 < b - a = omega arith in
       let e : x - a ≤ b - a = omega arith in
       let p : (x - a) * (v - w) ≤ (b - a) * (v - w) = mul-le-mul-right (v - w) e in
-      let q : ((x - a) * (v - w) + (b - a - 1)) / (b - a) < v - w + 1 =
-      div-lt-iff-lt-mul some .1 (omega arith) in
+      let q : (x - a) * (v - w) / (b - a) < v - w + 1 = div-lt-iff-lt-mul some .1 (omega arith) in
       omega arith
 
-  pub line-sunk : w ≤ v → sunk (v * 4294967296) (stepDown (v - w) (b - a)) a x ≡ lineAt a v b w x
-  unfolding sunk sinking lineAt ceiled
+  pub line-sunk : w ≤ v
+      → sunk (v * 4294967296 + 4294967295) (stepUp (v - w) (b - a)) a x ≡ lineAt a v b w x
+  unfolding sunk sinking lineAt floored
   line-sunk h =
-      sink-ceiled v (v - w) (b - a) (x - a) (omega arith) (omega arith) (omega arith) (drop-most h) ∙ sym
+      sink-floored v (v - w) (b - a) (x - a) (omega arith) (omega arith) (omega arith) (drop-most h) ∙ sym
       (line-falling x a v b w from to h)
 
 -- it stays in 64 bits up to its end, and above nothing
 module _ (a v b w : ℕ) (some : a < b) (most : b ≤ 65536) (narrow : v < 4294967296) (narrow' : w < 4294967296)
   where
-    pub climb-room : v ≤ w → climbing (v * 4294967296) (stepUp (w - v) (b - a)) a b < 18446744073709551616
-    unfolding climbing stepUp
+    pub climb-room : v ≤ w
+        → climbing (v * 4294967296 + 4294967295) (stepDown (w - v) (b - a)) a b < 18446744073709551616
+    unfolding climbing stepDown
     climb-room h =
-        let p : ((w - v) * 4294967296 + (b - a - 1)) / (b - a) * (b - a) ≤ (w - v) * 4294967296 + (b - a - 1)
+        let p : (w - v) * 4294967296 / (b - a) * (b - a) ≤ (w - v) * 4294967296 = div-mul-le-self _ (b - a) in
+        omega arith
+
+    pub sink-room : w ≤ v → (b - a) * stepUp (v - w) (b - a) ≤ v * 4294967296 + 4294967295
+    unfolding stepUp
+    sink-room h =
+        let p : ((v - w) * 4294967296 + (b - a - 1)) / (b - a) * (b - a) ≤ (v - w) * 4294967296 + (b - a - 1)
         =
         div-mul-le-self _ (b - a) in
         omega arith
 
-    pub sink-room : w ≤ v → (b - a) * stepDown (v - w) (b - a) ≤ v * 4294967296
-    unfolding stepDown
-    sink-room h =
-        let p : (v - w) * 4294967296 / (b - a) * (b - a) ≤ (v - w) * 4294967296 = div-mul-le-self _ (b - a) in
-        omega arith
-
 -- where the walk of a whole piece starts, and its step, as they were worked out
-module _ (a v b w start step : ℕ) (some : a < b) (most : b ≤ 65536) (begun : start ≡ v * 4294967296) where
-  module _ (h : v ≤ w) (is : step ≡ stepUp (w - v) (b - a)) where
+module _ (a v b w start step : ℕ) (some : a < b) (most : b ≤ 65536)
+    (begun : start ≡ v * 4294967296 + 4294967295) where
+  module _ (h : v ≤ w) (is : step ≡ stepDown (w - v) (b - a)) where
     pub climb-may : v < 4294967296 → w < 4294967296 → climbing start step a b < 18446744073709551616
     climb-may n m = rw (begun, is) (climb-room a v b w some most n m h)
 
-  module _ (h : w < v) (is : step ≡ stepDown (v - w) (b - a)) where
+  module _ (h : w < v) (is : step ≡ stepUp (v - w) (b - a)) where
     pub sink-may : v < 4294967296 → w < 4294967296 → (b - a) * step ≤ start
     sink-may n m = rw (begun, is) (sink-room a v b w some most n m (le-of-lt h))
 

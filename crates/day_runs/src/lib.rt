@@ -34,36 +34,7 @@ fn whole_value(parts: u64) -> u32
     (parts / 4294967296) as u32
 }
 
-// Runs of a line that rises by less than its ticks: value v + j begins at the `ceiled`-th tick of j.
-fn rising(
-    starts: &mut [u16],
-    values: &mut [u32],
-    n: usize,
-    a: usize,
-    v: u32,
-    b: usize,
-    w: u32,
-) -> usize
-    requires { ⌜ Room (now starts) (now values) n a b ⌝ }
-    requires { ⌜ (v < w) × (w - v < b - a) ⌝ }
-    ensures { λ r. ⌜ Added (now (starts .entry)) (now (values .entry)) (now (starts .exit))
-        (now (values .exit)) n r a v b (lineAt a v b w) ⌝ }
-{
-    let rise = (w - v) as usize;
-    let last = rise - 1;
-    let step = travel_runs::step_down((b - a) as u32, rise);
-    let mut parts = 4294967295;
-    for j in 0..last {
-        parts += step;
-        let e = a + wholes(parts);
-        put(starts, values, n + j, e, v + j as u32);
-    }
-    put(starts, values, n + last, b, w - 1);
-    n + rise
-}
-
-// Runs of a line that falls by less than its ticks: value v - (j + 1) begins after the `floored`-th tick of
-// j. The last, of value w, stays open.
+// Runs of a line that falls by less than its ticks: value v - j begins at the `ceiled`-th tick of j.
 fn falling(
     starts: &mut [u16],
     values: &mut [u32],
@@ -75,21 +46,51 @@ fn falling(
 ) -> usize
     requires { ⌜ Room (now starts) (now values) n a b ⌝ }
     requires { ⌜ (w < v) × (v - w < b - a) ⌝ }
-    ensures { λ r. ⌜ Held (now (starts .entry)) (now (values .entry)) (now (starts .exit))
-        (now (values .exit)) n r a v b w (lineAt a v b w) ⌝ }
+    ensures { λ r. ⌜ Added (now (starts .entry)) (now (values .entry)) (now (starts .exit))
+        (now (values .exit)) n r a v b (lineAt a v b w) ⌝ }
 {
     let fall = (v - w) as usize;
-    let step = travel_runs::step_up((b - a) as u32, fall);
-    let mut parts = 0;
-    for j in 0..fall {
-        let e = a + 1 + wholes(parts);
-        put(starts, values, n + j, e, v - j as u32);
+    let last = fall - 1;
+    let step = travel_runs::step_down((b - a) as u32, fall);
+    let mut parts = 4294967295;
+    for j in 0..last {
         parts += step;
+        let e = a + wholes(parts);
+        put(starts, values, n + j, e, v - j as u32);
     }
+    put(starts, values, n + last, b, w + 1);
     n + fall
 }
 
-// Runs of a line that rises by its ticks or more: one for each tick.
+// Runs of a line that rises by less than its ticks: value v + (j + 1) begins after the `floored`-th tick of
+// j. The last, of value w, stays open.
+fn rising(
+    starts: &mut [u16],
+    values: &mut [u32],
+    n: usize,
+    a: usize,
+    v: u32,
+    b: usize,
+    w: u32,
+) -> usize
+    requires { ⌜ Room (now starts) (now values) n a b ⌝ }
+    requires { ⌜ (v < w) × (w - v < b - a) ⌝ }
+    ensures { λ r. ⌜ Held (now (starts .entry)) (now (values .entry)) (now (starts .exit))
+        (now (values .exit)) n r a v b w (lineAt a v b w) ⌝ }
+{
+    let rise = (w - v) as usize;
+    let step = travel_runs::step_up((b - a) as u32, rise);
+    let mut parts = 0;
+    for j in 0..rise {
+        let e = a + 1 + wholes(parts);
+        put(starts, values, n + j, e, v + j as u32);
+        parts += step;
+    }
+    n + rise
+}
+
+// Runs of a line that rises by its ticks or more: one for each tick. The walk starts one part short of the
+// next whole, so its wholes are rounded up.
 fn climb(
     starts: &mut [u16],
     values: &mut [u32],
@@ -104,8 +105,8 @@ fn climb(
     ensures { λ r. ⌜ Added (now (starts .entry)) (now (values .entry)) (now (starts .exit))
         (now (values .exit)) n r a v b (lineAt a v b w) ⌝ }
 {
-    let start = v as u64 * 4294967296;
-    let step = travel_runs::step_up(w - v, b - a);
+    let start = v as u64 * 4294967296 + 4294967295;
+    let step = travel_runs::step_down(w - v, b - a);
     let last = b - 1;
     let mut parts = start;
     for x in a..last {
@@ -131,8 +132,8 @@ fn sink(
     ensures { λ r. ⌜ Added (now (starts .entry)) (now (values .entry)) (now (starts .exit))
         (now (values .exit)) n r a v b (lineAt a v b w) ⌝ }
 {
-    let start = v as u64 * 4294967296;
-    let step = travel_runs::step_down(v - w, b - a);
+    let start = v as u64 * 4294967296 + 4294967295;
+    let step = travel_runs::step_up(v - w, b - a);
     let last = b - 1;
     let mut parts = start;
     for x in a..last {

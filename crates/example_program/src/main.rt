@@ -122,15 +122,18 @@ fn print_check(file: &[u8; 2048], name: &[u8]) {
 fn print_trips(file: &[u8; 2048]) {
     print_plain(file, 0, 2, 0);
     print_plain(file, 0, 2, 6);
+    print_plain(file, 0, 2, 9);
     print_plain(file, 0, 3, 0);
     print_plain(file, 0, 3, 1);
     print_plain(file, 0, 3, 6);
+    print_plain(file, 0, 3, 7);
     print_plain(file, 0, 3, 8);
     print_plain(file, 3, 0, 0);
     print_plain(file, 3, 3, 4);
     let mut plan = [0u8; LONG];
     town::read(b"plan.blk", &mut plan);
     print_flagged(file, &plan, 0, 3, 7);
+    print_flagged(file, &plan, 0, 3, 8);
     print_flagged(file, &plan, 3, 0, 7);
 }
 
@@ -147,6 +150,7 @@ fn main() {
     print_file(b"travel_9.blk");
     print_trips(&file);
     print_check(&file, b"plan.blk");
+    print_check(&file, b"rounded_down.blk");
     print_check(&file, b"flags_1222.blk");
     print_check(&file, b"flags_3202.blk");
     print_check(&file, b"travel_5.blk");

@@ -26,10 +26,14 @@ networkFile travel check =
     ∷ 0 ∷ 0 ∷ 1 ∷ 0 ∷ [])
     check
 
--- the plan, with these flags of road 0 and of road 2, and this travel at the first point of place 0: its
--- numbers, the flag words, the profiles' counts, and their points
-unfoldable pub planFile : ℕ → ℕ → List ℕ → ℕ → List ℕ → List ℕ
-planFile flags₀ flags₂ flagsCheck travel pointsCheck =
+-- a point of a profile
+abbrev pub point : ℕ → ℕ → List ℕ
+point tick travel = tick ∷ 0 ∷ travel ∷ 0 ∷ 0 ∷ 0 ∷ []
+
+-- the plan, with these flags of road 0 and of road 2, and these four points of place 0: its numbers, the flag
+-- words, the profiles' counts, and their points
+unfoldable pub planFile : ℕ → ℕ → List ℕ → List ℕ → List ℕ → List ℕ
+planFile flags₀ flags₂ flagsCheck points pointsCheck =
     block
     (5 ∷ 0 ∷ 1 ∷ 0 ∷ 0 ∷ 0 ∷ 0 ∷ 0 ∷ 9 ∷ 0 ∷ 0 ∷ 0 ∷ 10 ∷ 0 ∷ 4 ∷ 0 ∷ 4 ∷ 0 ∷ 2 ∷ 0 ∷ 1 ∷ 0 ∷ 0 ∷ 0 ∷ 7
     ∷ 0 ∷ 0 ∷ 0 ∷ [])
@@ -40,7 +44,5 @@ planFile flags₀ flags₂ flagsCheck travel pointsCheck =
     flagsCheck
     ++ block (7 ∷ 0 ∷ 4 ∷ 0 ∷ 2 ∷ 0 ∷ 0 ∷ 0 ∷ 4 ∷ 0 ∷ 2 ∷ 0 ∷ 1 ∷ 0 ∷ 0 ∷ 0 ∷ []) (21 ∷ 0 ∷ 174 ∷ 20 ∷ [])
     ++ block
-    (8 ∷ 0 ∷ 7 ∷ 0 ∷ 3 ∷ 0 ∷ 0 ∷ 0 ∷ 0 ∷ 0 ∷ travel ∷ 0 ∷ 0 ∷ 0 ∷ 6 ∷ 0 ∷ 6 ∷ 0 ∷ 0 ∷ 0 ∷ 7 ∷ 0 ∷ 5 ∷ 0
-    ∷ 0 ∷ 0 ∷ 9 ∷ 0 ∷ 5 ∷ 0 ∷ 0 ∷ 0 ∷ 0 ∷ 0 ∷ 3 ∷ 0 ∷ 0 ∷ 0 ∷ 5 ∷ 0 ∷ 7 ∷ 0 ∷ 0 ∷ 0 ∷ 0 ∷ 0 ∷ 0 ∷ 0 ∷ 0
-    ∷ 0 ∷ [])
+    (8 ∷ 0 ∷ 7 ∷ 0 ∷ 3 ∷ 0 ∷ 0 ∷ 0 ∷ points ++ point 0 3 ++ point 5 7 ++ point 0 0)
     pointsCheck

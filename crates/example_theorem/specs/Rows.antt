@@ -20,7 +20,7 @@ use Rattle.search_path.specs.Says.{tripSays, tripCount}
 use Rattle.trip.specs.Calls.{plainCall, plainPath, flaggedCall, flaggedPath}
 use Rattle.text_numbers.specs.Text.{ascii}
 use Rattle.sheet.specs.Sheet.{sheetText}
-use Rattle.example_theorem.specs.Files.{networkFile, planFile}
+use Rattle.example_theorem.specs.Files.{networkFile, planFile, point}
 
 -- how many bytes a file has beyond whole blocks, and how many blocks; the borders of a network; the travel of
 -- a road at a tick below the period; when roads end that are driven from a tick on; how a network opens; a
@@ -85,8 +85,18 @@ q yields a = record { question = q; answer = a }
 abbrev pub network : List ℕ
 network = networkFile 7 (37 ∷ 0 ∷ 214 ∷ 35 ∷ [])
 
+-- place 0's profile, with this first travel
+abbrev pub points : ℕ → List ℕ
+points first = point 0 first ++ point 7 6 ++ point 8 5 ++ point 9 6
+
 abbrev pub plan : List ℕ
-plan = planFile 3 2 (21 ∷ 0 ∷ 124 ∷ 20 ∷ []) 6 (78 ∷ 0 ∷ 137 ∷ 74 ∷ [])
+plan = planFile 3 2 (21 ∷ 0 ∷ 124 ∷ 20 ∷ []) (points 6) (81 ∷ 0 ∷ 100 ∷ 77 ∷ [])
+
+-- a plan that would be true of travels rounded down
+abbrev pub roundedDown : List ℕ
+roundedDown =
+    planFile 3 2 (21 ∷ 0 ∷ 124 ∷ 20 ∷ []) (point 0 6 ++ point 6 6 ++ point 7 5 ++ point 9 5)
+    (78 ∷ 0 ∷ 137 ∷ 74 ∷ [])
 
 unfoldable pub rows : List Row
 rows =
@@ -96,23 +106,25 @@ rows =
     ∷ (bordering network yields 2 ∷ [])
     -- road 1 at ticks 0 to 9
     ∷ (travel network 1 0 yields 3 ∷ [])
-    ∷ (travel network 1 1 yields 3 ∷ [])
-    ∷ (travel network 1 2 yields 4 ∷ [])
-    ∷ (travel network 1 3 yields 5 ∷ [])
-    ∷ (travel network 1 4 yields 6 ∷ [])
+    ∷ (travel network 1 1 yields 4 ∷ [])
+    ∷ (travel network 1 2 yields 5 ∷ [])
+    ∷ (travel network 1 3 yields 6 ∷ [])
+    ∷ (travel network 1 4 yields 7 ∷ [])
     ∷ (travel network 1 5 yields 7 ∷ [])
-    ∷ (travel network 1 6 yields 6 ∷ [])
-    ∷ (travel network 1 7 yields 5 ∷ [])
-    ∷ (travel network 1 8 yields 4 ∷ [])
-    ∷ (travel network 1 9 yields 3 ∷ [])
-    -- plain trips; leaving at 0 and at 6 two ways tie, and the one with fewer roads is taken
-    ∷ (drives network (0 ∷ 1 ∷ 3 ∷ []) 0 yields 7 ∷ [])
-    ∷ (drives network (2 ∷ 3 ∷ []) 0 yields 7 ∷ [])
+    ∷ (travel network 1 6 yields 7 ∷ [])
+    ∷ (travel network 1 7 yields 6 ∷ [])
+    ∷ (travel network 1 8 yields 5 ∷ [])
+    ∷ (travel network 1 9 yields 4 ∷ [])
+    -- plain trips; leaving at 7 and at 9 two ways tie, and the one with fewer roads is taken
+    ∷ (drives network (0 ∷ 1 ∷ 3 ∷ []) 7 yields 14 ∷ [])
+    ∷ (drives network (2 ∷ 3 ∷ []) 7 yields 14 ∷ [])
     ∷ (plain network 0 2 0 yields arrived 6 (2 ∷ []))
     ∷ (plain network 0 2 6 yields arrived 12 (2 ∷ []))
+    ∷ (plain network 0 2 9 yields arrived 15 (2 ∷ []))
     ∷ (plain network 0 3 0 yields arrived 7 (2 ∷ 3 ∷ []))
     ∷ (plain network 0 3 1 yields arrived 8 (2 ∷ 3 ∷ []))
     ∷ (plain network 0 3 6 yields arrived 13 (2 ∷ 3 ∷ []))
+    ∷ (plain network 0 3 7 yields arrived 14 (2 ∷ 3 ∷ []))
     ∷ (plain network 0 3 8 yields arrived 14 (0 ∷ 1 ∷ 3 ∷ []))
     ∷ (plain network 3 3 4 yields arrived 4 [])
     -- there is no way from 3 to 0, whenever one leaves
@@ -130,20 +142,23 @@ rows =
     ∷ (opens network yields granted (9 ∷ 10 ∷ 4 ∷ 4 ∷ 2 ∷ 5 ∷ []))
     ∷ (opens (networkFile 8 (38 ∷ 0 ∷ 203 ∷ 36 ∷ [])) yields granted (9 ∷ 10 ∷ 4 ∷ 4 ∷ 2 ∷ 5 ∷ []))
     ∷ (opens (networkFile 9 (39 ∷ 0 ∷ 192 ∷ 37 ∷ [])) yields refused 6 10 2 0 0)
-    -- the plan; flags 1, 2, 2, 2 and 3, 2, 0, 2; place 0's first travel as 5 and 7
+    -- the plan, and one by travels rounded down; flags 1, 2, 2, 2 and 3, 2, 0, 2; place 0's first travel as
+    -- 5 and 7
     ∷ (checks network plan yields granted [])
-    ∷ (checks network (planFile 1 2 (19 ∷ 0 ∷ 136 ∷ 18 ∷ []) 6 (78 ∷ 0 ∷ 137 ∷ 74 ∷ []))
-    yields refused 0 24 0 0 7)
-    ∷ (checks network (planFile 3 0 (19 ∷ 0 ∷ 152 ∷ 18 ∷ []) 6 (78 ∷ 0 ∷ 137 ∷ 74 ∷ []))
-    yields refused 0 24 0 0 1)
-    ∷ (checks network (planFile 3 2 (21 ∷ 0 ∷ 124 ∷ 20 ∷ []) 5 (77 ∷ 0 ∷ 144 ∷ 73 ∷ []))
+    ∷ (checks network roundedDown yields refused 0 23 0 0 7)
+    ∷ (checks network (planFile 1 2 (19 ∷ 0 ∷ 136 ∷ 18 ∷ []) (points 6) (81 ∷ 0 ∷ 100 ∷ 77 ∷ []))
+    yields refused 0 24 0 0 8)
+    ∷ (checks network (planFile 3 0 (19 ∷ 0 ∷ 152 ∷ 18 ∷ []) (points 6) (81 ∷ 0 ∷ 100 ∷ 77 ∷ []))
+    yields refused 0 24 0 0 0)
+    ∷ (checks network (planFile 3 2 (21 ∷ 0 ∷ 124 ∷ 20 ∷ []) (points 5) (80 ∷ 0 ∷ 107 ∷ 76 ∷ []))
     yields refused 0 23 0 0 0)
-    ∷ (checks network (planFile 3 2 (21 ∷ 0 ∷ 124 ∷ 20 ∷ []) 7 (79 ∷ 0 ∷ 130 ∷ 75 ∷ []))
+    ∷ (checks network (planFile 3 2 (21 ∷ 0 ∷ 124 ∷ 20 ∷ []) (points 7) (82 ∷ 0 ∷ 93 ∷ 78 ∷ []))
     yields refused 0 22 0 0 0)
     -- flagged trips, and the run sheet of two of them
     ∷ (flagged network plan 0 3 6 yields arrived 13 (2 ∷ 3 ∷ []))
-    ∷ (flagged network plan 0 3 7 yields arrived 13 (0 ∷ 1 ∷ 3 ∷ []))
+    ∷ (flagged network plan 0 3 7 yields arrived 14 (2 ∷ 3 ∷ []))
+    ∷ (flagged network plan 0 3 8 yields arrived 14 (0 ∷ 1 ∷ 3 ∷ []))
     ∷ (flagged network plan 3 0 7 yields refused 2 28 0 0 0)
     ∷ (prints network plan (ascii "0 3 7\n3 0 7\n")
-    yields ascii "plan accepted\n0 3 7 13 3 0 1 3\n3 0 7 refused 28\n")
+    yields ascii "plan accepted\n0 3 7 14 2 2 3\n3 0 7 refused 28\n")
     ∷ []

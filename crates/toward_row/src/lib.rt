@@ -130,37 +130,7 @@ fn lower_span(
     today + tomorrow
 }
 
-// The same by an arc whose travel rises on the line from (a, v) to (b, w): one run for each travel.
-fn lower_rising(
-    first: bool,
-    hs: &[u32],
-    period: usize,
-    row: &mut [u32],
-    a: usize,
-    v: usize,
-    b: usize,
-    w: usize,
-) -> u32
-    requires { ⌜ Ready first (now hs) (now row) period a v b w ⌝ }
-    requires { ⌜ v < w ⌝ }
-    ensures { λ r. ⌜ Cut a b (lowered (lineAt a v b w) (entries (now (hs .entry))) period
-        (now (row .entry))) (now (row .entry)) (now (row .exit)) r ⌝ }
-{
-    let rise = w - v;
-    let step = travel_runs::step_down((b - a) as u32, rise);
-    let mut count = 0;
-    let mut parts = 4294967295;
-    let mut x = a;
-    for j in 0..rise {
-        parts += step;
-        let e = a + wholes(parts);
-        count += lower_span(first, hs, period, v + j, row, x, e);
-        x = e;
-    }
-    count
-}
-
-// The same where it falls: the first tick has v, and the last run w.
+// The same by an arc whose travel falls on the line from (a, v) to (b, w): one run for each travel.
 fn lower_falling(
     first: bool,
     hs: &[u32],
@@ -176,8 +146,38 @@ fn lower_falling(
     ensures { λ r. ⌜ Cut a b (lowered (lineAt a v b w) (entries (now (hs .entry))) period
         (now (row .entry))) (now (row .entry)) (now (row .exit)) r ⌝ }
 {
-    let last = v - w - 1;
-    let step = travel_runs::step_up((b - a) as u32, v - w);
+    let fall = v - w;
+    let step = travel_runs::step_down((b - a) as u32, fall);
+    let mut count = 0;
+    let mut parts = 4294967295;
+    let mut x = a;
+    for j in 0..fall {
+        parts += step;
+        let e = a + wholes(parts);
+        count += lower_span(first, hs, period, v - j, row, x, e);
+        x = e;
+    }
+    count
+}
+
+// The same where it rises: the first tick has v, and the last run w.
+fn lower_rising(
+    first: bool,
+    hs: &[u32],
+    period: usize,
+    row: &mut [u32],
+    a: usize,
+    v: usize,
+    b: usize,
+    w: usize,
+) -> u32
+    requires { ⌜ Ready first (now hs) (now row) period a v b w ⌝ }
+    requires { ⌜ v < w ⌝ }
+    ensures { λ r. ⌜ Cut a b (lowered (lineAt a v b w) (entries (now (hs .entry))) period
+        (now (row .entry))) (now (row .entry)) (now (row .exit)) r ⌝ }
+{
+    let last = w - v - 1;
+    let step = travel_runs::step_up((b - a) as u32, w - v);
     let begun = lower_span(first, hs, period, v, row, a, a + 1);
     let mut count = 0;
     let mut parts = 0;
@@ -185,7 +185,7 @@ fn lower_falling(
     for j in 0..last {
         parts += step;
         let e = a + 1 + wholes(parts);
-        count += lower_span(first, hs, period, v - (j + 1), row, x, e);
+        count += lower_span(first, hs, period, v + (j + 1), row, x, e);
         x = e;
     }
     let ended = lower_span(first, hs, period, w, row, x, b);

@@ -1,6 +1,6 @@
--- The runs of ticks at which a line, rounded down, has one value: where each begins is itself a count of
--- steps, those of ticks to one unit of travel, so that one division serves the whole piece. A rising line has
--- v + j from its `ceiled`-th tick on, a falling one v - (j + 1) from after its `floored`-th.
+-- The runs of ticks at which a line, rounded up, has one value: where each begins is itself a count of steps,
+-- those of ticks to one unit of travel, so that one division serves the whole piece. A falling line has v - j
+-- from its `ceiled`-th tick on, a rising one v + (j + 1) from after its `floored`-th.
 use mathlib.Core.Path.{_≡_, _∙_, ap}
 use Prim.Native.Nat.{ℕ, _+_, _-_, _*_, _/_, _≤_, _<_}
 use native.Mathlib.Nat.{div-eq-of-lt-le, mul-le-mul-right, lt-of-mul-lt-mul-right, le-of-lt}
@@ -53,45 +53,45 @@ module _ (n d : ℕ) (some : 0 < d) where
 
 -- THE VALUE OF A RUN
 module _ (x a v b w j : ℕ) (from : a ≤ x) (to : x < b) where
-  pub rising-value : v < w → a + ceiled j (b - a) (w - v) ≤ x → x < a + ceiled (j + 1) (b - a) (w - v)
-      → lineAt a v b w x ≡ v + j
-  unfolding lineAt
-  rising-value h lo hi =
-      let some : 0 < w - v = omega arith in
-      let p : ceiled j (b - a) (w - v) * (w - v) ≤ (x - a) * (w - v) =
-      mul-le-mul-right (w - v) (omega arith) in
-      let q : (x - a + 1) * (w - v) ≤ ceiled (j + 1) (b - a) (w - v) * (w - v) =
-      mul-le-mul-right (w - v) (omega arith) in
-      let e : (x - a) * (w - v) / (b - a) ≡ j =
-      div-eq-of-lt-le (b - a) (omega (arith, ceiled-is (b - a) (w - v) j some .0))
-      (omega (arith, ceiled-is (b - a) (w - v) (j + 1) some .1)) in
-      line-rising x a v b w from to (le-of-lt h) ∙ ap (λ (m : ℕ). v + m) e
-
-  pub falling-value : w < v → a + 1 + floored j (b - a) (v - w) ≤ x → (x - a) * (v - w) ≤ (j + 1) * (b - a)
-      → lineAt a v b w x ≡ v - (j + 1)
+  pub falling-value : w < v → a + ceiled j (b - a) (v - w) ≤ x → x < a + ceiled (j + 1) (b - a) (v - w)
+      → lineAt a v b w x ≡ v - j
   unfolding lineAt
   falling-value h lo hi =
       let some : 0 < v - w = omega arith in
-      let p : (floored j (b - a) (v - w) + 1) * (v - w) ≤ (x - a) * (v - w) =
+      let p : ceiled j (b - a) (v - w) * (v - w) ≤ (x - a) * (v - w) =
       mul-le-mul-right (v - w) (omega arith) in
-      let e : ((x - a) * (v - w) + (b - a - 1)) / (b - a) ≡ j + 1 =
-      div-eq-of-lt-le (b - a) (omega (arith, floored-is (b - a) (v - w) j some .1)) (omega arith) in
+      let q : (x - a + 1) * (v - w) ≤ ceiled (j + 1) (b - a) (v - w) * (v - w) =
+      mul-le-mul-right (v - w) (omega arith) in
+      let e : (x - a) * (v - w) / (b - a) ≡ j =
+      div-eq-of-lt-le (b - a) (omega (arith, ceiled-is (b - a) (v - w) j some .0))
+      (omega (arith, ceiled-is (b - a) (v - w) (j + 1) some .1)) in
       line-falling x a v b w from to (le-of-lt h) ∙ ap (λ (m : ℕ). v - m) e
 
+  pub rising-value : v < w → a + 1 + floored j (b - a) (w - v) ≤ x → (x - a) * (w - v) ≤ (j + 1) * (b - a)
+      → lineAt a v b w x ≡ v + (j + 1)
+  unfolding lineAt
+  rising-value h lo hi =
+      let some : 0 < w - v = omega arith in
+      let p : (floored j (b - a) (w - v) + 1) * (w - v) ≤ (x - a) * (w - v) =
+      mul-le-mul-right (w - v) (omega arith) in
+      let e : ((x - a) * (w - v) + (b - a - 1)) / (b - a) ≡ j + 1 =
+      div-eq-of-lt-le (b - a) (omega (arith, floored-is (b - a) (w - v) j some .1)) (omega arith) in
+      line-rising x a v b w from to (le-of-lt h) ∙ ap (λ (m : ℕ). v + m) e
+
   -- up to where the next run begins
-  pub falling-run : w < v → a + 1 + floored j (b - a) (v - w) ≤ x
-      → x < a + 1 + floored (j + 1) (b - a) (v - w) → lineAt a v b w x ≡ v - (j + 1)
-  falling-run h lo hi =
-      let some : 0 < v - w = omega arith in
-      let p : (x - a) * (v - w) ≤ floored (j + 1) (b - a) (v - w) * (v - w) =
-      mul-le-mul-right (v - w) (omega arith) in
-      falling-value h lo (omega (arith, floored-is (b - a) (v - w) (j + 1) some .0))
+  pub rising-run : v < w → a + 1 + floored j (b - a) (w - v) ≤ x
+      → x < a + 1 + floored (j + 1) (b - a) (w - v) → lineAt a v b w x ≡ v + (j + 1)
+  rising-run h lo hi =
+      let some : 0 < w - v = omega arith in
+      let p : (x - a) * (w - v) ≤ floored (j + 1) (b - a) (w - v) * (w - v) =
+      mul-le-mul-right (w - v) (omega arith) in
+      rising-value h lo (omega (arith, floored-is (b - a) (w - v) (j + 1) some .0))
 
   -- and the last one up to the piece's end
-  pub falling-last : w < v → j + 1 ≡ v - w → a + 1 + floored j (b - a) (v - w) ≤ x → lineAt a v b w x ≡ w
-  falling-last h e lo =
-      let p : (x - a) * (v - w) ≤ (b - a) * (v - w) = mul-le-mul-right (v - w) (omega arith) in
-      falling-value h lo (rw e (omega arith)) ∙ omega arith
+  pub rising-last : v < w → j + 1 ≡ w - v → a + 1 + floored j (b - a) (w - v) ≤ x → lineAt a v b w x ≡ w
+  rising-last h e lo =
+      let p : (x - a) * (w - v) ≤ (b - a) * (w - v) = mul-le-mul-right (w - v) (omega arith) in
+      rising-value h lo (rw e (omega arith)) ∙ omega arith
 
 -- at its first tick, and where it does not change
 pub value-first : (a v b w : ℕ) → a < b → lineAt a v b w a ≡ v
@@ -103,4 +103,4 @@ unfolding lineAt
 value-flat x a v b from to =
     let e : v - v ≡ 0 = omega arith in
     let f : (x - a) * (v - v) / (b - a) ≡ 0 = div-eq-of-lt-le (b - a) (omega arith) (rw e (omega arith)) in
-    line-rising x a v b v from to (omega arith) ∙ omega arith
+    line-falling x a v b v from to (omega arith) ∙ omega arith

@@ -194,7 +194,7 @@ fn profiles(rng: &mut Rng, network: &Network, least: &[LeastTravels]) -> Vec<Poi
         _ if travels[0] == NEVER => Vec::new(),
         0 if every_tick_fits => at_every_tick(travels),
         1 if every_tick_fits && rng.once_in(2) => at_every_tick(travels),
-        2 if period <= 64 => floor_lines(travels),
+        2 if period <= 64 => few_points(travels),
         _ => even_runs(travels),
     };
     all_travels.map(profile).collect()
@@ -214,13 +214,13 @@ pub fn even_runs(travels: &[u32]) -> Points {
         .collect()
 }
 
-/// Few points: lines that, rounded down, are true at every tick they pass.
-pub fn floor_lines(travels: &[u32]) -> Points {
+/// Lines that, rounded up, are true at every tick they pass, each as long as can be.
+pub fn few_points(travels: &[u32]) -> Points {
     lines_through(travels, &[])
 }
 
 /// Points at these ticks, which rise, and at 0. Between two of them each line reaches on as long as, rounded
-/// down, it gives the travel at every tick it passes.
+/// up, it gives the travel at every tick it passes.
 pub fn lines_through(travels: &[u32], ticks: &[usize]) -> Points {
     let period = travels.len();
     let mut points = Vec::new();
@@ -235,8 +235,8 @@ pub fn lines_through(travels: &[u32], ticks: &[usize]) -> Points {
 }
 
 fn line_is_true(travels: &[u32], start: usize, end: usize) -> bool {
-    let first = i64::from(travels[start]);
-    let rise = i64::from(travels[end % travels.len()]) - first;
-    let run = (end - start) as i64;
-    (start..end).all(|tick| i64::from(travels[tick]) == first + (rise * (tick - start) as i64).div_euclid(run))
+    let (first, last) = (u64::from(travels[start]), u64::from(travels[end % travels.len()]));
+    let run = (end - start) as u64;
+    let sum = |tick: usize| first * (end - tick) as u64 + last * (tick - start) as u64;
+    (start..end).all(|tick| u64::from(travels[tick]) == sum(tick).div_ceil(run))
 }

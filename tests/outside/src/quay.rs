@@ -1,5 +1,5 @@
 //! Quay town, document 01's own example: built from its words and held to every row of its table, with the
-//! ways that wish 2 gives it.
+//! ways that wish 2 gives it and the travels and the plan that wish 5 does.
 
 mod damaged;
 
@@ -31,8 +31,8 @@ pub fn drafts() -> Drafts {
         header: PlanHeader { number: 1, period: 10, nodes: 4, arcs: 4, cells: 2, borders: 1, zero: 0, points: 7 },
         flags: vec![3, 2, 2, 2],
         counts: vec![4, 2, 1, 0],
-        ticks: vec![0, 6, 7, 9, 0, 5, 0],
-        travels: vec![6, 6, 5, 5, 3, 7, 0],
+        ticks: vec![0, 7, 8, 9, 0, 5, 0],
+        travels: vec![6, 6, 5, 6, 3, 7, 0],
     };
     Drafts { network, plan }
 }
@@ -65,7 +65,7 @@ fn files_and_travels(failures: &mut Vec<String>) {
     let network = network::open(&drafts.network.file()).expect("Quay town opens");
     expect(failures, "borders", plan::borders(&network), vec![2]);
     let travels: Vec<u64> = (0..10).map(|tick| network.arc_travel(1, tick)).collect();
-    expect(failures, "road 1, ticks 0 to 9", travels, vec![3, 3, 4, 5, 6, 7, 6, 5, 4, 3]);
+    expect(failures, "road 1, ticks 0 to 9", travels, vec![3, 4, 5, 6, 7, 7, 7, 6, 5, 4]);
 }
 
 /// One trip, plain and flagged, by the reference and through the library.
@@ -88,14 +88,14 @@ fn trip(failures: &mut Vec<String>, call: TripCall, wanted: Result<Arrived, Refu
     expect(failures, "flagged refusal", verdict.predicted[FLAGGED_LISTS], refused);
 }
 
-/// Document 01's rows with wish 2's ways, and then all pairs and ticks.
+/// Document 01's rows as wishes 2 and 5 have them, and then all pairs and ticks.
 fn trips(failures: &mut Vec<String>) {
     let arrives = |tick, roads: &[u16]| Ok(Arrived { tick, roads: roads.to_vec() });
     let no_way = Err(Refusal { number: 28, places: [0; 3] });
     trip(failures, TripCall { from: 0, to: 3, departure: 0 }, arrives(7, &[2, 3]));
     trip(failures, TripCall { from: 0, to: 3, departure: 1 }, arrives(8, &[2, 3]));
     trip(failures, TripCall { from: 0, to: 3, departure: 8 }, arrives(14, &[0, 1, 3]));
-    trip(failures, TripCall { from: 0, to: 3, departure: 7 }, arrives(13, &[0, 1, 3]));
+    trip(failures, TripCall { from: 0, to: 3, departure: 7 }, arrives(14, &[2, 3]));
     trip(failures, TripCall { from: 3, to: 3, departure: 4 }, arrives(4, &[]));
     for departure in 0..10 {
         for (from, to) in (0..4).flat_map(|from| (0..4).map(move |to| (from, to))) {
@@ -106,15 +106,15 @@ fn trips(failures: &mut Vec<String>) {
     }
 }
 
-/// Travel and roads by hand: road 1 as document 01 tells it, and from 0 to 2 road 2 takes 6 at any tick,
-/// roads 0 and 1 take 6 7 8 9 8 7 6 5 5 5.
+/// Travel and roads by hand: road 1 as wish 5 tells it, and from 0 to 2 road 2 takes 6 at any tick, roads 0
+/// and 1 take 7 8 9 9 9 8 7 6 5 6.
 fn way_at(from: u32, to: u32, tick: usize) -> Option<(u32, &'static [u16])> {
-    let road_1 = [3, 3, 4, 5, 6, 7, 6, 5, 4, 3][tick];
+    let road_1 = [3, 4, 5, 6, 7, 7, 7, 6, 5, 4][tick];
     match (from, to) {
         (0, 1) => Some((2, &[0])),
-        (0, 2) if tick < 7 => Some((6, &[2])),
+        (0, 2) if tick != 8 => Some((6, &[2])),
         (0, 2) => Some((5, &[0, 1])),
-        (0, 3) if tick < 7 => Some((7, &[2, 3])),
+        (0, 3) if tick != 8 => Some((7, &[2, 3])),
         (0, 3) => Some((6, &[0, 1, 3])),
         (1, 2) => Some((road_1, &[1])),
         (1, 3) => Some((road_1 + 1, &[1, 3])),
@@ -123,8 +123,9 @@ fn way_at(from: u32, to: u32, tick: usize) -> Option<(u32, &'static [u16])> {
     }
 }
 
-/// "In Quay town the ways that change are from 0 to 2 and from 0 to 3, leaving at 0 and at 6: they now take
-/// road 2 in place of roads 0 and 1."
+/// Wish 2: "In Quay town the ways that change are from 0 to 2 and from 0 to 3, leaving at 0 and at 6: they
+/// now take road 2 in place of roads 0 and 1." The ties that it tells of are those of lines rounded down;
+/// rounded up, roads 0 and 1 take as long as road 2 leaving at 7 and at 9.
 fn changed_ways(failures: &mut Vec<String>) {
     let drafts = drafts();
     let network = network::open(&drafts.network.file()).expect("Quay town opens");
@@ -143,10 +144,10 @@ fn changed_ways(failures: &mut Vec<String>) {
         }
         let ways = |before: &[u16], now: &[u16]| (Some(before.to_vec()), Some(now.to_vec()));
         let wanted = vec![
-            (0, 2, 0, ways(&[0, 1], &[2])),
-            (0, 2, 6, ways(&[0, 1], &[2])),
-            (0, 3, 0, ways(&[0, 1, 3], &[2, 3])),
-            (0, 3, 6, ways(&[0, 1, 3], &[2, 3])),
+            (0, 2, 7, ways(&[0, 1], &[2])),
+            (0, 2, 9, ways(&[0, 1], &[2])),
+            (0, 3, 7, ways(&[0, 1, 3], &[2, 3])),
+            (0, 3, 9, ways(&[0, 1, 3], &[2, 3])),
         ];
         expect(failures, "ways that change", changed, wanted);
     }
@@ -171,8 +172,8 @@ fn altered(
 fn altered_towns(failures: &mut Vec<String>) {
     altered(failures, "(5,8)", OPEN, None, |drafts| drafts.network.tables.travels[2] = 8);
     altered(failures, "(5,9)", OPEN, Some((10, [2, 0, 0])), |drafts| drafts.network.tables.travels[2] = 9);
-    altered(failures, "flags 1, 2, 2, 2", CHECK, Some((24, [0, 0, 7])), |drafts| drafts.plan.flags[0] = 1);
-    altered(failures, "flags 3, 2, 0, 2", CHECK, Some((24, [0, 0, 1])), |drafts| drafts.plan.flags[2] = 0);
+    altered(failures, "flags 1, 2, 2, 2", CHECK, Some((24, [0, 0, 8])), |drafts| drafts.plan.flags[0] = 1);
+    altered(failures, "flags 3, 2, 0, 2", CHECK, Some((24, [0, 0, 0])), |drafts| drafts.plan.flags[2] = 0);
     altered(failures, "first travel 5", CHECK, Some((23, [0, 0, 0])), |drafts| drafts.plan.travels[0] = 5);
     altered(failures, "first travel 7", CHECK, Some((22, [0, 0, 0])), |drafts| drafts.plan.travels[0] = 7);
 }

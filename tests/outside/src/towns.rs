@@ -33,7 +33,7 @@ pub enum Gives {
 /// A road as the towns list it: from, to, points of tick and travel.
 pub type Road = (u16, u16, Vec<(u16, u16)>);
 
-const MAKERS: [fn() -> Town; 25] = [
+const MAKERS: [fn() -> Town; 27] = [
     small::quay,
     small::one_place,
     small::no_roads,
@@ -48,6 +48,8 @@ const MAKERS: [fn() -> Town; 25] = [
     small::turn_at_the_days_end,
     small::no_turn_at_the_days_end,
     small::fractions,
+    small::each_rounded_up,
+    small::forty_short_roads,
     small::steeper_and_steeper,
     small::better_at_one_tick,
     small::whole_days,

@@ -22,22 +22,29 @@ abbrev μ-loop : tie.MeasureT-loop
 mul-start : tie.Need-mul-start Inv-loop μ-loop
 mul-start c = search needs
 
-sub-step-up : tie.Need-sub-step-up Inv-loop μ-loop
-sub-step-up c = search needs
+add-start : tie.Need-add-start Inv-loop μ-loop
+add-start c = search needs
 
-sub-step-up-2 : tie.Need-sub-step-up-2 Inv-loop μ-loop
-sub-step-up-2 c = search needs
+sub-step-down : tie.Need-sub-step-down Inv-loop μ-loop
+sub-step-down c = search needs
 
-step-up-requires : tie.Need-step-up-requires Inv-loop μ-loop
-step-up-requires c κs = search needs
+sub-step-down-2 : tie.Need-sub-step-down-2 Inv-loop μ-loop
+sub-step-down-2 c = search needs
+
+step-down-requires : tie.Need-step-down-requires Inv-loop μ-loop
+step-down-requires c κs = search needs
 
 sub-last : tie.Need-sub-last Inv-loop μ-loop
 sub-last c = search needs
 
 loop-holds : tie.Need-loop-holds Inv-loop μ-loop
 loop-holds c =
-    let s = c .before .before .before in
-    (search needs, search needs, search walks, steep-start (s .pre .0) _ _ (s .args .v * 4294967296) 0 refl)
+    let s = c .before .before .before in (
+      search needs,
+      search needs,
+      search walks,
+      steep-start (s .pre .0) _ _ (s .args .v * 4294967296 + 4294967295) 0 refl,
+    )
 
 sub-put : tie.Need-sub-put Inv-loop μ-loop
 sub-put c = search needs
@@ -69,7 +76,7 @@ add-parts c =
     let m =
     climb-may (s .args .a) (s .args .v) (s .args .b) (s .args .w) _ _ (s .pre .0 .apart)
     (omega (arith, s .pre .0 .last)) refl (le-of-lt (s .pre .1))
-    (c .before .before .before .before .before .before .before .before .before .before .step-up .ensures)
+    (c .before .before .before .before .before .before .before .before .before .before .step-down .ensures)
     (omega arith) (omega arith) in
     climb-fits _ _ (s .args .a) _ (l .x) (s .args .b) (l .inv .0) (omega (arith, t)) m (l .inv .2)
 
@@ -91,7 +98,7 @@ loop-again c =
       search needs,
       climb-next _ _ (s .args .a) _ (l .x) (s .args .b) (l .inv .0) h (l .inv .2),
       climb-more (s .pre .0) _ _ _ _ refl _ _ _ _ (l .x) _ (l .inv .3) (l .inv .0) h (le-of-lt (s .pre .1))
-          (c .before .before .before .before .before .before .before .before .before .before .step-up
+          (c .before .before .before .before .before .before .before .before .before .before .step-down
           .ensures)
           (climb-entry _ _ (s .args .a) _ (l .x) (s .args .b) (l .inv .0) h _
           (c .before .before .before .before .before .whole-value .ensures) (l .inv .2))
@@ -141,7 +148,7 @@ returns c =
     let z : s .args .b ≡ l .x + 1 = omega (arith, s .pre .0 .apart) in
     let q : s .args .b - 1 ≡ l .x = omega arith in
     climb-last (s .pre .0) _ _ _ _ refl _ _ _ _ (l .x) _ (l .inv .3) (l .inv .0) h (le-of-lt (s .pre .1))
-    (c .before .before .before .before .before .before .before .before .before .before .step-up .ensures)
+    (c .before .before .before .before .before .before .before .before .before .before .step-down .ensures)
     (climb-entry _ _ (s .args .a) _ (l .x) (s .args .b) (l .inv .0) h _
     (c .before .before .before .before .before .whole-value2 .ensures) (l .inv .2)) z
     (rw q at (c .before .before .before .before .put2 .ensures .0))
@@ -154,9 +161,10 @@ climb-spec =
     Inv-loop
     μ-loop
     mul-start
-    sub-step-up
-    sub-step-up-2
-    step-up-requires
+    add-start
+    sub-step-down
+    sub-step-down-2
+    step-down-requires
     sub-last
     loop-holds
     sub-put

@@ -53,7 +53,7 @@ same-length-4 : tie.Need-same-length-4
 same-length-4 c = search needs
 
 returns-3 : tie.Need-returns-3
-returns-3 c = added-held _ (c .before .before .before .before .rising .ensures)
+returns-3 c = search needs
 
 climb-requires : tie.Need-climb-requires
 climb-requires c κs = search needs
@@ -77,7 +77,7 @@ same-length-8 : tie.Need-same-length-8
 same-length-8 c = search needs
 
 returns-5 : tie.Need-returns-5
-returns-5 c = search needs
+returns-5 c = added-held _ (c .before .before .before .before .falling .ensures)
 
 sink-requires : tie.Need-sink-requires
 sink-requires c κs = search needs

@@ -1,6 +1,6 @@
 -- `theory_travel::line` meets its contract. A product is below 65,536 · 4,294,967,296 = 2^48, since ticks
--- have 16 bits and values 32, so the sum of two fits 64 bits; the quotient lies between the two values, so it
--- fits 32.
+-- have 16 bits and values 32, so the sum of two and a width fits 64 bits; the quotient lies between the two
+-- values, so it fits 32.
 use mathlib.Core.Path.{refl}
 use Prim.Native.Nat.{_-_, _*_, _≤_}
 use native.Mathlib.Nat.{mul-le-mul-left}
@@ -39,15 +39,27 @@ add-result c = omega (arith, products c)
 sub-result-3 : tie.Need-sub-result-3
 sub-result-3 c = search needs
 
+sub-result-4 : tie.Need-sub-result-4
+sub-result-4 c = search needs
+
 cast-result-3 : tie.Need-cast-result-3
 cast-result-3 c = search needs
+
+add-result-2 : tie.Need-add-result-2
+add-result-2 c = omega (arith, products c)
+
+sub-result-5 : tie.Need-sub-result-5
+sub-result-5 c = search needs
+
+cast-result-4 : tie.Need-cast-result-4
+cast-result-4 c = search needs
 
 div-result : tie.Need-div-result
 div-result c = search needs
 
-cast-result-4 : tie.Need-cast-result-4
+cast-result-5 : tie.Need-cast-result-5
 unfolding line
-cast-result-4 c =
+cast-result-5 c =
     let a = c .args in
     omega (
       arith,
@@ -71,7 +83,11 @@ line-spec =
     mul-result-2
     add-result
     sub-result-3
+    sub-result-4
     cast-result-3
-    div-result
+    add-result-2
+    sub-result-5
     cast-result-4
+    div-result
+    cast-result-5
     returns)

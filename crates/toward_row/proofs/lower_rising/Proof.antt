@@ -1,103 +1,220 @@
--- `toward_row::lower_rising` meets its contract: before tick x all is lowered, and run j begins there.
-use Prim.Native.Nat.{_+_, _-_, _≤_}
+-- `toward_row::lower_rising` meets its contract: after the first tick all is lowered before tick x, and the
+-- run after run j begins there.
+use Prim.Native.Nat.{ℕ, _+_, _-_, _≤_, _<_}
 use native.Mathlib.Omega.{arith}
 use Rattle.theory_travel.specs.Pieces.{lineAt}
-use Rattle.toward_row.specs.Cut.{Cut}
-use Rattle.toward_row.specs.Lower.{entries, lowered, fresh-on}
-use Rattle.toward_row.specs.Pieces.{RisingAt, rise-run, rises}
+use Rattle.toward_row.specs.Cut.{Cut, cut-none}
+use Rattle.toward_row.specs.Lower.{entries, lowered, fresh-part, fresh-on}
+use Rattle.toward_row.specs.Pieces.{RisingAt, rise-start, rise-still, rise-fits, rise-within}
+use Rattle.toward_row.specs.Pieces.{rise-rises}
+use Rattle.toward_row.specs.Pieces.{rise-next, rise-run, rise-end}
 use borrow.Author.Needs.{needs}
 use Rattle.toward_row.proofs.lower_rising.Statement.{statement}
 use Rattle.toward_row.proofs.lower_rising.Tie as tie
 
+-- the measure falls
+shrinks : (n j : ℕ) → j < n → n - (j + 1) < n - j
+shrinks n j h = omega arith
+
 abbrev Inv-loop : tie.InvT-loop
-Inv-loop first hs period row₀ a v b w rise step count₀ parts₀ x₀ j₀ row count parts x j =
-    (j ≤ rise) × RisingAt a v b w step parts x j
-    × Cut a x (lowered (lineAt a v b w) (entries hs) period row₀) row₀ row count
+Inv-loop first hs period row₀ a v b w last step begun count₀ parts₀ x₀ j₀ row count parts x j =
+    (j ≤ last) × RisingAt a v b w step parts x j
+    × Cut (a + 1) x (lowered (lineAt a v b w) (entries hs) period row₀) row₀ row count
 
 abbrev μ-loop : tie.MeasureT-loop
-μ-loop first hs period row₀ a v b w rise step count₀ parts₀ x₀ j₀ row count parts x j = rise - j
+μ-loop first hs period row₀ a v b w last step begun count₀ parts₀ x₀ j₀ row count parts x j = last - j
 
-sub-rise : tie.Need-sub-rise Inv-loop μ-loop
-sub-rise c = search needs
+sub-last : tie.Need-sub-last Inv-loop μ-loop
+sub-last c = search needs
 
-sub-step-down : tie.Need-sub-step-down Inv-loop μ-loop
-sub-step-down c = search needs
+sub-last-2 : tie.Need-sub-last-2 Inv-loop μ-loop
+sub-last-2 c = search needs
 
-cast-step-down : tie.Need-cast-step-down Inv-loop μ-loop
-cast-step-down c = search needs
+sub-step-up : tie.Need-sub-step-up Inv-loop μ-loop
+sub-step-up c = search needs
 
-step-down-requires : tie.Need-step-down-requires Inv-loop μ-loop
-step-down-requires c κs = search needs
+cast-step-up : tie.Need-cast-step-up Inv-loop μ-loop
+cast-step-up c = search needs
 
-loop-holds : tie.Need-loop-holds Inv-loop μ-loop
-loop-holds c = (search needs, search rises, search rises)
+sub-step-up-2 : tie.Need-sub-step-up-2 Inv-loop μ-loop
+sub-step-up-2 c = search needs
 
-add-parts : tie.Need-add-parts Inv-loop μ-loop
-add-parts c = search rises
-
-wholes-requires : tie.Need-wholes-requires Inv-loop μ-loop
-wholes-requires c κs = search needs
-
-add-e : tie.Need-add-e Inv-loop μ-loop
-add-e c =
-    let a = c .before .before .before .before .before .before .args in
-    let h : a .a + c .wholes .result ≤ a .b = search rises in
-    omega arith
+step-up-requires : tie.Need-step-up-requires Inv-loop μ-loop
+step-up-requires c κs = search needs
 
 add-lower-span : tie.Need-add-lower-span Inv-loop μ-loop
 add-lower-span c = search needs
 
 lower-span-requires : tie.Need-lower-span-requires Inv-loop μ-loop
 lower-span-requires c κs =
-    let a = c .before .before .before .before .before .before .before .args in
-    let e = a .a + c .before .wholes .result in
-    let h : e ≤ a .b = search rises in
-    let l : c .before .before .before .loop .x ≤ e = search rises in
-    let r = c .before .before .before .before .before .before .before .pre .0 in
-    let w = c .before .before .before .loop .inv in
-    let m : a .a ≤ c .before .before .before .loop .x = omega (arith, w .1 .at) in (
-      (l, omega arith, omega arith, omega arith, omega arith),
-      (r .capped, fresh-on (r .fresh) (w .2 .filled) m h),
+    let r = c .before .before .before .before .pre .0 in (
+      (search needs, omega arith, search needs, search needs, search needs),
+      (r .capped, fresh-part (r .fresh) (omega (arith, r .apart))),
+    )
+
+add-x : tie.Need-add-x Inv-loop μ-loop
+add-x c = search needs
+
+loop-holds : tie.Need-loop-holds Inv-loop μ-loop
+loop-holds c = (
+  search needs,
+  rise-start (c .before .before .before .before .before .before .before .pre .0)
+      (c .before .before .before .before .before .before .before .pre .1),
+  search cut-none,
+)
+
+add-parts : tie.Need-add-parts Inv-loop μ-loop
+add-parts c =
+    let s = c .before .before .before .before .before .before .before .before .before in
+    let l = c .before .loop in
+    rise-fits (s .pre .0) (s .pre .1) (l .inv .1)
+    (c .before .before .before .before .before .before .step-up .ensures) (c .loop-test .taken)
+
+add-e : tie.Need-add-e Inv-loop μ-loop
+add-e c = search needs
+
+wholes-requires : tie.Need-wholes-requires Inv-loop μ-loop
+wholes-requires c κs = search needs
+
+add-e-2 : tie.Need-add-e-2 Inv-loop μ-loop
+add-e-2 c =
+    let s = c .before .before .before .before .before .before .before .before .before .before in
+    let l = c .before .before .loop in
+    omega (
+      arith,
+      rise-within (s .pre .0) (s .pre .1) (l .inv .1)
+          (c .before .before .before .before .before .before .before .step-up .ensures)
+          (c .before .loop-test .taken) (c .wholes .ensures),
+    )
+
+add-lower-span-2 : tie.Need-add-lower-span-2 Inv-loop μ-loop
+add-lower-span-2 c = search needs
+
+add-lower-span-3 : tie.Need-add-lower-span-3 Inv-loop μ-loop
+add-lower-span-3 c = search needs
+
+lower-span-requires-2 : tie.Need-lower-span-requires-2 Inv-loop μ-loop
+lower-span-requires-2 c κs =
+    let s = c .before .before .before .before .before .before .before .before .before .before .before in
+    let l = c .before .before .before .loop in
+    let step = c .before .before .before .before .before .before .before .before .step-up .ensures in
+    let taken = c .before .before .loop-test .taken in
+    let h = rise-within (s .pre .0) (s .pre .1) (l .inv .1) step taken (c .before .wholes .ensures) in
+    let k = rise-rises (s .pre .0) (s .pre .1) (l .inv .1) step taken (c .before .wholes .ensures) in
+    let first = c .before .before .before .before .before .before .lower-span .ensures .filled in
+    let fresh = fresh-on {e = s .args .b} (s .pre .0 .fresh) first (omega arith) (omega arith) in (
+      (k, omega arith, omega arith, omega arith, omega arith),
+      (s .pre .0 .capped, fresh-on fresh (l .inv .2 .filled) (omega (arith, l .inv .1 .at)) h),
     )
 
 add-count : tie.Need-add-count Inv-loop μ-loop
 add-count c =
-    let a = c .before .before .before .before .before .before .before .before .before .before .args in
-    let h : a .a + c .before .before .before .before .wholes .result ≤ a .b = search rises in
-    let l : c .before .before .before .before .before .before .loop .x ≤ a .a + c .before .before .before
-    .before .wholes .result = search rises in
+    let s = c .before .before .before .before .before .before .before .before .before .before .before .before
+    .before .before in
+    let l = c .before .before .before .before .before .before .loop in
+    let h = rise-within (s .pre .0) (s .pre .1) (l .inv .1)
+    (c .before .before .before .before .before .before .before .before .before .before .before .step-up
+    .ensures) (c .before .before .before .before .before .loop-test .taken)
+    (c .before .before .before .before .wholes .ensures) in
+    let k = rise-rises (s .pre .0) (s .pre .1) (l .inv .1)
+    (c .before .before .before .before .before .before .before .before .before .before .before .step-up
+    .ensures) (c .before .before .before .before .before .loop-test .taken)
+    (c .before .before .before .before .wholes .ensures) in
     omega (
       arith,
-      c .before .before .before .before .before .before .loop .inv .2 .few,
-      c .before .before .lower-span .ensures .few,
-      c .before .before .before .before .before .before .before .before .before .before .pre .0 .within,
-      c .before .before .before .before .before .before .before .before .before .before .pre .0 .short,
+      h,
+      k,
+      l .inv .2 .few,
+      c .before .before .lower-span2 .ensures .few,
+      s .pre .0 .within,
+      s .pre .0 .short,
     )
 
 add-j : tie.Need-add-j Inv-loop μ-loop
 add-j c = search needs
 
 loop-less : tie.Need-loop-less Inv-loop μ-loop
-loop-less c = search needs
+loop-less c = shrinks _ _ (c .before .before .before .before .before .loop-test .taken)
 
 loop-again : tie.Need-loop-again Inv-loop μ-loop
 loop-again c =
-    let s = c .before .before .before .before .before .before .before .before .before .before in
+    let s = c .before .before .before .before .before .before .before .before .before .before .before .before
+    .before .before in
     let l = c .before .before .before .before .before .before .loop in (
       search needs,
-      search rises,
-      rise-run (s .pre .0) (s .pre .1)
-          (c .before .before .before .before .before .before .before .step-down .ensures) (l .inv .1)
-          (c .before .before .before .before .before .loop-test .taken)
+      rise-next (s .pre .0) (s .pre .1) (l .inv .1)
+          (c .before .before .before .before .before .before .before .before .before .before .before .step-up
+          .ensures) (c .before .before .before .before .before .loop-test .taken)
+          (c .before .before .before .before .wholes .ensures),
+      rise-run (s .pre .0) (s .pre .1) (l .inv .1)
+          (c .before .before .before .before .before .before .before .before .before .before .before .step-up
+          .ensures) (c .before .before .before .before .before .loop-test .taken)
           (c .before .before .before .before .wholes .ensures) (l .inv .2)
-          (c .before .before .lower-span .ensures),
+          (c .before .before .lower-span2 .ensures),
+    )
+
+lower-span-requires-3 : tie.Need-lower-span-requires-3 Inv-loop μ-loop
+lower-span-requires-3 c κs =
+    let s = c .before .before .before .before .before .before .before .before .before .before in
+    let l = c .before .before .loop in
+    let first = c .before .before .before .before .before .lower-span .ensures .filled in
+    let fresh = fresh-on {e = s .args .b} (s .pre .0 .fresh) first (omega arith) (omega arith) in (
+      (
+        rise-still (s .pre .0) (s .pre .1) (l .inv .1) (l .inv .0),
+        omega arith,
+        omega arith,
+        omega arith,
+        omega arith,
+      ),
+      (s .pre .0 .capped, fresh-on fresh (l .inv .2 .filled) (omega (arith, l .inv .1 .at)) (omega arith)),
+    )
+
+add-result : tie.Need-add-result Inv-loop μ-loop
+add-result c =
+    let s = c .before .before .before .before .before .before .before .before .before .before .before .before
+    .before
+    in
+    let l = c .before .before .before .before .before .loop in
+    let h = rise-still (s .pre .0) (s .pre .1) (l .inv .1) (l .inv .0) in
+    omega (
+      arith,
+      h,
+      l .inv .2 .few,
+      c .before .before .lower-span3 .ensures .few,
+      s .pre .0 .within,
+      s .pre .0 .short,
+    )
+
+add-result-2 : tie.Need-add-result-2 Inv-loop μ-loop
+add-result-2 c =
+    let s = c .before .before .before .before .before .before .before .before .before .before .before .before
+    .before
+    in
+    let l = c .before .before .before .before .before .loop in
+    let h = rise-still (s .pre .0) (s .pre .1) (l .inv .1) (l .inv .0) in
+    omega (
+      arith,
+      h,
+      l .inv .2 .few,
+      c .before .before .before .before .before .before .before .before .lower-span .ensures .few,
+      c .before .before .lower-span3 .ensures .few,
+      s .pre .0 .within,
+      s .pre .0 .short,
     )
 
 same-length : tie.Need-same-length Inv-loop μ-loop
 same-length c = search needs
 
 returns : tie.Need-returns Inv-loop μ-loop
-returns c = search rises
+returns c =
+    let s = c .before .before .before .before .before .before .before .before .before .before .before .before
+    .before
+    in
+    let l = c .before .before .before .before .before .loop in
+    rise-end (s .pre .0) (s .pre .1) (l .inv .1) (l .inv .0)
+    (c .before .before .before .before .loop-test .left)
+    (c .before .before .before .before .before .before .before .before .lower-span .ensures) (l .inv .2)
+    (c .before .before .lower-span3 .ensures)
 
 pub lower-rising-spec : {M : Type 1} → statement M
 lower-rising-spec =
@@ -105,19 +222,29 @@ lower-rising-spec =
     (tie.spec
     Inv-loop
     μ-loop
-    sub-rise
-    sub-step-down
-    cast-step-down
-    step-down-requires
-    loop-holds
-    add-parts
-    wholes-requires
-    add-e
+    sub-last
+    sub-last-2
+    sub-step-up
+    cast-step-up
+    sub-step-up-2
+    step-up-requires
     add-lower-span
     lower-span-requires
+    add-x
+    loop-holds
+    add-parts
+    add-e
+    wholes-requires
+    add-e-2
+    add-lower-span-2
+    add-lower-span-3
+    lower-span-requires-2
     add-count
     add-j
     loop-less
     loop-again
+    lower-span-requires-3
+    add-result
+    add-result-2
     same-length
     returns)

@@ -4,7 +4,7 @@
 use super::ticks::{self, some_number, some_profile, some_spot, When};
 use super::true_town::TrueTown;
 use super::{Damage, Kind, Make};
-use crate::planner::{floor_lines, lines_through, Points};
+use crate::planner::{few_points, lines_through, Points};
 use crate::rng::Rng;
 
 pub fn kinds() -> Vec<Kind> {
@@ -31,7 +31,7 @@ pub fn kinds() -> Vec<Kind> {
         kind("a border's own not 0 at tick 0", &[21], true, Box::new(own_at_first_tick)),
         kind("a border's own not 0 at tick P - 1", &[21], true, Box::new(own_at_last_tick)),
         kind("a border's own not 0 at some tick", &[21], true, Box::new(own_at_some_tick)),
-        kind("a border's own, a line that reaches 1", &[21], true, Box::new(own_reaches_one)),
+        kind("a border's own, a line that reaches 1", &[21], false, Box::new(own_reaches_one)),
         kind("a border's own, a steep line", &[21], false, Box::new(own_steep)),
         kind("a border's own never", &[21], false, Box::new(own_never)),
     ]);
@@ -65,7 +65,7 @@ fn dropped_at(rng: &mut Rng, town: &TrueTown, wanted: impl Fn(usize) -> bool) ->
     let profile = some_number(rng, town)?;
     let travels = town.travels(profile);
     let period = travels.len();
-    let line_errs = |&tick: &usize| (travels[tick - 1] + travels[(tick + 1) % period]) / 2 != travels[tick];
+    let line_errs = |&tick: &usize| (travels[tick - 1] + travels[(tick + 1) % period]).div_ceil(2) != travels[tick];
     let ticks: Vec<usize> = (1..period).filter(line_errs).filter(|&tick| wanted(tick)).collect();
     (!ticks.is_empty()).then_some(())?;
     let tick = rng.pick(&ticks);
@@ -87,7 +87,7 @@ fn last_dropped(rng: &mut Rng, town: &TrueTown) -> Option<Damage> {
 /// A point whose neighbours may be far, and whose loss still shows at one tick alone.
 fn dropped_for_one_tick(rng: &mut Rng, town: &TrueTown) -> Option<Damage> {
     let profile = some_number(rng, town)?;
-    let points = if rng.once_in(2) { town.profiles[profile].clone() } else { floor_lines(town.travels(profile)) };
+    let points = if rng.once_in(2) { town.profiles[profile].clone() } else { few_points(town.travels(profile)) };
     let without = |place: usize| {
         let mut points = points.clone();
         points.remove(place);
@@ -209,11 +209,14 @@ fn own_at_some_tick(rng: &mut Rng, town: &TrueTown) -> Option<Damage> {
     own_at(rng, town, tick)
 }
 
-/// Rounded down, both lines are 0 but for the tick at which they meet.
+/// Rounded up it is 1 as soon as the line leaves 0, long before it gets there, and up to the day's end.
 fn own_reaches_one(rng: &mut Rng, town: &TrueTown) -> Option<Damage> {
     (town.period() > 1).then_some(())?;
     let tick = rng.within(1, town.period() - 1);
-    Some(Damage::of_profile(some_own(rng, town), vec![(0, 0), (tick as u16, 1)]))
+    let before = rng.below(tick);
+    let flat = (before > 0).then_some((before as u16, 0));
+    let points = [(0, 0)].into_iter().chain(flat).chain([(tick as u16, 1)]);
+    Some(Damage::of_profile(some_own(rng, town), points.collect()))
 }
 
 /// It is not 0 before the tick at which the lines meet, and after it.

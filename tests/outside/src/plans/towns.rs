@@ -3,7 +3,7 @@
 //! the longest there is.
 
 use crate::draft::NetworkDraft;
-use crate::planner::{at_every_tick, even_runs, floor_lines};
+use crate::planner::{at_every_tick, even_runs, few_points};
 use crate::reference::network::{MOST_CELLS, MOST_PERIOD};
 use crate::rng::Rng;
 use crate::towns::{draft, Road};
@@ -91,11 +91,11 @@ fn travels(rng: &mut Rng, period: usize) -> Vec<u32> {
     settled(wanted)
 }
 
-/// Up or down from the first tick on and back after some tick, rounded down.
+/// Up or down from the first tick on and back after some tick, rounded up.
 fn one_line(rng: &mut Rng, period: usize, low: usize, high: usize) -> Vec<usize> {
     let turn = rng.within(1, period);
     let (first, other) = if rng.once_in(2) { (low, high) } else { (high, low) };
-    let between = |from: usize, to: usize, gone: usize, run: usize| (from * (run - gone) + to * gone) / run;
+    let between = |from: usize, to: usize, gone: usize, run: usize| (from * (run - gone) + to * gone).div_ceil(run);
     let back = |tick| between(other, first, tick - turn, period - turn);
     (0..period).map(|tick| if tick < turn { between(first, other, tick, turn) } else { back(tick) }).collect()
 }
@@ -155,7 +155,7 @@ fn road(rng: &mut Rng, way: &Way) -> Road {
     let points = match rng.below(3) {
         0 if way.travels.len() <= 60 => at_every_tick(&way.travels),
         1 => even_runs(&way.travels),
-        _ => floor_lines(&way.travels),
+        _ => few_points(&way.travels),
     };
     let points = points.into_iter().map(|(tick, travel)| (tick, travel as u16));
     (way.from as u16, way.to as u16, points.collect())

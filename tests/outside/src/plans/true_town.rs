@@ -1,7 +1,7 @@
 //! A town with an exact plan, and what is true of it: least travels, and which roads give them when.
 
 use super::towns;
-use crate::planner::{all_cells, at_every_tick, even_runs, few_flags, floor_lines, given, lines_through};
+use crate::planner::{all_cells, at_every_tick, even_runs, few_flags, few_points, given, lines_through};
 use crate::planner::{Exact, Points};
 use crate::reference::network::{self, Network};
 use crate::reference::NEVER;
@@ -140,7 +140,7 @@ impl TrueTown {
     }
 }
 
-/// A profile with as few points as lines rounded down need, where the steps change, with some more, or all.
+/// A profile with as few points as lines rounded up need, where the steps change, with some more, or all.
 fn written(rng: &mut Rng, travels: &[u32]) -> Points {
     let period = travels.len();
     match rng.below(5) {
@@ -152,6 +152,6 @@ fn written(rng: &mut Rng, travels: &[u32]) -> Points {
             ticks.sort();
             lines_through(travels, &ticks)
         }
-        _ => floor_lines(travels),
+        _ => few_points(travels),
     }
 }

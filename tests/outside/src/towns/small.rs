@@ -17,14 +17,14 @@ fn road(from: u16, to: u16, points: &[(u16, u16)]) -> Road {
     (from, to, points.to_vec())
 }
 
-/// Document 01's own plan has place 1 in two points, for their line, rounded down, is 3 3 4 .. 4 3 too; the
+/// The documents' own plan has place 1 in two points, for their line, rounded up, is 3 4 5 .. 5 4 too; the
 /// planner puts points where the steps change.
 pub fn quay() -> Town {
     town(
         "Quay town",
         quay::drafts().network,
         &[3, 2, 2, 2],
-        &[&[(0, 6), (6, 6), (7, 5), (9, 5)], &[(0, 3), (1, 3), (5, 7), (9, 3)], &[(0, 0)], &[]],
+        &[&[(0, 6), (7, 6), (8, 5), (9, 6)], &[(0, 3), (4, 7), (6, 7)], &[(0, 0)], &[]],
     )
 }
 
@@ -81,7 +81,7 @@ pub fn cut_off_parts() -> Town {
 }
 
 /// Roads 0 and 1 and the way over place 1 take equally long; road 2 crosses and is never least. Road 5 ties
-/// with road 4 but for tick 3, road 6 at tick 2 alone.
+/// with road 4 at tick 0 alone, for it takes 3 as soon as its line leaves 2, and road 6 at tick 2 alone.
 pub fn ties() -> Town {
     let roads = [
         road(0, 2, &[(0, 3)]),
@@ -152,11 +152,42 @@ pub fn no_turn_at_the_days_end() -> Town {
     )
 }
 
-/// A rise of one in two ticks, rounded down 1 1 2 2 3, and 2: the steps change where the road has no point.
+/// A rise of one in two ticks, rounded up 1 2 2 3 3, and 2: the steps change where the road has no point.
 pub fn fractions() -> Town {
     let roads = [road(0, 1, &[(0, 1), (4, 3)])];
     let draft = draft(6, 2, &[0, 1], &roads);
-    town("fractions", draft, &[2], &[&[(0, 1), (1, 1), (2, 2), (3, 2), (4, 3)], &[(0, 0)]])
+    town("fractions", draft, &[2], &[&[(0, 1), (1, 2), (2, 2), (3, 3), (4, 3)], &[(0, 0)]])
+}
+
+/// Both roads take 1 2 2 2. Leaving place 0 at 1, one and a half and one and a half make 4: road and profile
+/// are each rounded up, and then added.
+pub fn each_rounded_up() -> Town {
+    let halves = [(0, 1), (2, 2)];
+    let draft = draft(4, 2, &[0, 0, 1], &[road(0, 1, &halves), road(1, 2, &halves)]);
+    let profiles: &[&[(u32, u32)]] = &[&[(0, 3), (1, 4), (2, 3), (3, 4)], &[(0, 1), (1, 2), (3, 2)], &[(0, 0)]];
+    town("each rounded up", draft, &[3, 2], profiles)
+}
+
+/// Wish 5's own words: each road takes a little more than 1, that is 2 at any tick but 0. A way over some of
+/// them takes a tick less if it leaves a place at tick 0, be it its first or one that it comes to at an even
+/// tick. No way does so twice, for then all ticks are odd and the day is long.
+pub fn forty_short_roads() -> Town {
+    let (day, count) = (100, 40);
+    let short: Vec<Road> = (0..count).map(|place| road(place, place + 1, &[(0, 1), (99, 2)])).collect();
+    let mut cells = [0; 41];
+    cells[40] = 1;
+    let mut flags = [3; 40];
+    flags[39] = 2;
+    let profile = |roads: u32| -> Vec<Point> {
+        let first_early = day + 2 - 2 * roads;
+        let early = |tick: u32| tick == 0 || tick % 2 == 0 && tick >= first_early;
+        let ticks = [0, 1].into_iter().chain(first_early - 1..day);
+        ticks.map(|tick| Point { tick, travel: 2 * roads - u32::from(early(tick)) }).collect()
+    };
+    let of_border = vec![Point { tick: 0, travel: 0 }];
+    let profiles = (1..=u32::from(count)).rev().map(profile).chain([of_border]).collect();
+    let gives = Gives::Plan(flags.to_vec(), profiles);
+    Town { name: "forty short roads", draft: draft(100, 2, &cells, &short), gives, small: false }
 }
 
 /// Travels 2 3 5 8 and down to 2 again: the steps +1, +2, +3 differ though all of them rise.

@@ -163,7 +163,7 @@ fn late_between_beside_a_tie() -> TieTown {
 
 /// Road 1 takes 3 at tick 5, as road 0 does, and 2 at any other.
 fn parallel_roads() -> TieTown {
-    let changing = (0, 1, vec![(0, 2), (4, 2), (5, 3)]);
+    let changing = (0, 1, vec![(0, 2), (4, 2), (5, 3), (6, 2)]);
     let roads = [road(0, 1, 3), changing, road(1, 2, 1), road(1, 2, 1), road(0, 2, 3)];
     let plain = vec![
         way(0, 1, 5, 8, &[0]),

@@ -27,10 +27,20 @@ macro_rules! errors {
 }
 
 errors! {
+    Rounding {
+        Down
+        DownOnRoads
+        DownInProfiles
+        DownInTheStartsProfile
+        DownInTheEndsProfile
+        TowardsTheEarlierPoint
+        TowardsTheLaterPoint
+        ToTheNearest
+        OneMoreWhereWhole
+        OneMoreWhereWholeBetweenPoints
+        OnceForTheSum
+    }
     Lines {
-        RoundedTowardsZero
-        RoundedUp
-        RoundedToTheNearest
         RestIgnored
         RestKeptAtAPoint
         RestCarriedOnce

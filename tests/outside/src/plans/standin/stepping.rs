@@ -1,19 +1,29 @@
 //! A line walked along: a piece is found and divided by its width once, and then its value and what rounding
 //! left are stepped on. Ticks may run on into the next day and never go back.
 
-use super::errors::Lines;
+use super::errors::{Error, Lines, Rounding};
 use super::Planted;
 use crate::reference::line::Point;
 
+/// Whose line it is: a road's travel, the profile of a place, or that of a road's end.
+#[derive(Clone, Copy, PartialEq, Eq)]
+pub enum Of {
+    Road,
+    Start,
+    End,
+}
+
 pub struct Walked<'a> {
     planted: Planted,
+    of: Of,
     points: &'a [Point],
     period: i64,
     /// Which point the piece begins with, and from what tick to what tick it reaches.
     place: usize,
     start: i64,
     end: i64,
-    /// Where the walk stands.
+    /// Where the walk stands. The value is rounded up: a piece starts with all of the width but one part as
+    /// its rest, so that every part beyond a whole number makes one more.
     tick: i64,
     value: i64,
     rest: i64,
@@ -26,12 +36,13 @@ pub struct Walked<'a> {
 
 impl<'a> Walked<'a> {
     /// From a tick on. There is a point.
-    pub fn from(planted: Planted, points: &'a [Point], period: u32, tick: u64) -> Walked<'a> {
+    pub fn from(planted: Planted, of: Of, points: &'a [Point], period: u32, tick: u64) -> Walked<'a> {
         let (period, tick) = (i64::from(period), tick as i64);
         let today = tick.rem_euclid(period);
         let place = points.partition_point(|point| i64::from(point.tick) <= today) - 1;
         let mut walked = Walked {
             planted,
+            of,
             points,
             period,
             place,
@@ -77,7 +88,7 @@ impl<'a> Walked<'a> {
         self.step = rise.div_euclid(self.width);
         self.part = rise.rem_euclid(self.width);
         if !self.planted.has(Lines::RestKeptAtAPoint) {
-            self.rest = 0;
+            self.rest = self.width - 1;
         }
         self.finds += 1;
     }
@@ -115,15 +126,42 @@ impl<'a> Walked<'a> {
         }
     }
 
-    /// Rounded down it is the value; other roundings go back to the piece's first point.
+    /// Rounded up it is the value; other roundings go back to the piece's first point.
     fn rounded(&self, tick: i64) -> i64 {
         let first = i64::from(self.points[self.place].travel);
         let gone = (self.step * self.width + self.part) * (tick - self.start);
-        match () {
-            _ if self.planted.has(Lines::RoundedTowardsZero) => first + gone / self.width,
-            _ if self.planted.has(Lines::RoundedUp) => first - (-gone).div_euclid(self.width),
-            _ if self.planted.has(Lines::RoundedToTheNearest) => first + (gone + self.width / 2).div_euclid(self.width),
+        let down = first + gone.div_euclid(self.width);
+        match self.planted.0 {
+            Some(Error::Rounding(rounding)) if self.rounds_down(rounding, gone) => down,
+            Some(Error::Rounding(Rounding::ToTheNearest)) => first + (gone + self.width / 2).div_euclid(self.width),
+            Some(Error::Rounding(Rounding::OneMoreWhereWhole)) => down + 1,
+            Some(Error::Rounding(Rounding::OneMoreWhereWholeBetweenPoints)) if tick > self.start => down + 1,
             _ => self.value,
         }
+    }
+
+    /// `gone` is by how many parts the line has risen from the piece's first point.
+    fn rounds_down(&self, rounding: Rounding, gone: i64) -> bool {
+        match rounding {
+            Rounding::Down => true,
+            Rounding::DownOnRoads => self.of == Of::Road,
+            Rounding::DownInProfiles => self.of != Of::Road,
+            Rounding::DownInTheStartsProfile => self.of == Of::Start,
+            Rounding::DownInTheEndsProfile => self.of == Of::End,
+            Rounding::TowardsTheEarlierPoint => gone > 0,
+            Rounding::TowardsTheLaterPoint => gone < 0,
+            _ => false,
+        }
+    }
+
+    /// By how many parts of how many the line lies below its value where the walk stands.
+    fn rounded_by(&self) -> (i64, i64) {
+        (self.width - 1 - self.rest, self.width)
+    }
+
+    /// What rounding added to both lines makes a whole tick.
+    pub fn rounded_by_a_tick(&self, other: &Walked) -> bool {
+        let ((one, of_one), (two, of_two)) = (self.rounded_by(), other.rounded_by());
+        one * of_two + two * of_one >= of_one * of_two
     }
 }

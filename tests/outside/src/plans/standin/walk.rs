@@ -1,8 +1,8 @@
 //! One walk through the day at each border and place: what its profile says, what its roads give, and which
 //! of 21 to 24 fail.
 
-use super::errors::{Error, Flags, Lines, Own, Roads, Sums};
-use super::stepping::Walked;
+use super::errors::{Error, Flags, Lines, Own, Roads, Rounding, Sums};
+use super::stepping::{Of, Walked};
 use super::tried::Around;
 use super::Planted;
 use crate::reference::line::Point;
@@ -68,15 +68,15 @@ impl<'a> Walk<'a> {
     }
 
     /// A walk along a profile, if it has points.
-    fn walked(&self, profile: &'a [Point], tick: u64) -> Option<Walked<'a>> {
+    fn walked(&self, of: Of, profile: &'a [Point], tick: u64) -> Option<Walked<'a>> {
         let period = self.network.header.period;
-        (!profile.is_empty()).then(|| Walked::from(self.planted, profile, period, tick))
+        (!profile.is_empty()).then(|| Walked::from(self.planted, of, profile, period, tick))
     }
 
     fn day(&mut self, index: usize, place: usize) {
         let profile = self.profile(index, place);
         let border = self.plan.borders[index];
-        let says = self.walked(profile, 0);
+        let says = self.walked(Of::Start, profile, 0);
         let mut here = Here { index, border, place, profile, says, roads: self.roads(index, place) };
         for tick in 0..u64::from(self.network.header.period) {
             let says = self.value(here.says.as_mut().map(|line| line.at(tick)));
@@ -107,9 +107,9 @@ impl<'a> Walk<'a> {
             if self.planted.has(Roads::LastAlone) {
                 roads.clear();
             }
-            let travels = Walked::from(self.planted, points, network.header.period, 0);
+            let travels = Walked::from(self.planted, Of::Road, points, network.header.period, 0);
             let end_profile = self.profile(index, to);
-            let end = self.walked(end_profile, u64::from(points[0].travel));
+            let end = self.walked(Of::End, end_profile, u64::from(points[0].travel));
             roads.push(Road { arc, to, points, end_profile, travels, end, ends: 0, gives: None });
         }
         roads
@@ -139,7 +139,9 @@ impl<'a> Walk<'a> {
         let whole_day = travel == u64::from(self.network.header.period);
         let driven = if whole_day && self.planted.has(Lines::WholeDayTakesNothing) { 0 } else { travel };
         road.ends = ends;
-        road.gives = end.map(|end| self.sum(driven, end));
+        let over = |line: &Walked| self.planted.has(Rounding::OnceForTheSum) && road.travels.rounded_by_a_tick(line);
+        let one_less = u64::from(road.end.as_ref().is_some_and(over));
+        road.gives = end.map(|end| self.sum(driven, end) - one_less);
     }
 
     fn sum(&self, travel: u64, end: u64) -> u64 {
