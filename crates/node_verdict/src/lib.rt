@@ -1,5 +1,9 @@
 // node_verdict: the lowest of the tests 21 to 24 that fails at a node towards one border, and the first tick
-// at which it does.
+// at which it does: of the border itself by the runs of its own profile, of a node without points by its
+// arcs' heads, and of any other by the bytes that `node_runs` leaves for its ticks.
+// It may call `node_runs` to judge a node, `profile_runs` for runs, `network`, `plan` and `search_arcs` to
+// read files and tables; it cites `plan_tests` for the tests, `plan_values`, `arc_runs`, `day_runs`,
+// `theory_loops` and `theory_paths`.
 use file_refusals::number;
 use network::limits::MOST_ARCS;
 use network::limits::MOST_NODES;
@@ -10,7 +14,7 @@ use search_arcs::wide;
 ghost use mathlib.Core.Path.{_≡_};
 ghost use mathlib.Core.Logic.{_≢_};
 ghost use Prim.Native.Nat.{_+_, _*_, _^_, _≤_, _<_};
-ghost use lib.ListN.{length, getD};
+ghost use lib.ListN.{length};
 ghost use Rattle.theory_loops.specs.First;
 ghost use Rattle.network.specs.Decode.{decode};
 ghost use Rattle.network.specs.Network.{arcs, tail};
