@@ -46,14 +46,14 @@ pub record Stays (sa va sh vh marks sa' va' sh' vh' marks' : List ℕ) : Type 0 
   pub head-v : length vh' ≡ length vh
   pub bytes : length marks' ≡ length marks
 
--- profile k is never below sixteen times the number, where it has points
+-- profile k is never below twice the number, where it has points
 pub record Low (plan : List ℕ) (l : PlanLayout) (k m : ℕ) : Type 0 where
   pub floor : 0 < pointCount (decodePlan plan) k
-      → Floor (numberAt (l .period) (decodePlan plan) k) (l .period) (16 * m)
+      → Floor (numberAt (l .period) (decodePlan plan) k) (l .period) (2 * m)
 
--- a sixteenth, rounded down, of a number that it is never below
+-- half, rounded down, of a number that it is never below
 pub low-less : {plan : List ℕ} {l : PlanLayout} {k m r : ℕ}
-    → Floor (numberAt (l .period) (decodePlan plan) k) (l .period) m → 16 * r ≤ m → Low plan l k r
+    → Floor (numberAt (l .period) (decodePlan plan) k) (l .period) m → 2 * r ≤ m → Low plan l k r
 low-less h o = record { floor = λ _. record { least = λ x i. omega (arith, h .least x i) } }
 
 -- such numbers for the first n nodes, towards border number i

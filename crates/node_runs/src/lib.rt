@@ -37,15 +37,15 @@ ghost use Rattle.node_runs.specs.Judged.{Judged};
 ghost use Rattle.node_runs.specs.Finding.{arcFinds};
 ghost use Rattle.node_runs.specs.Ready.{Own, Rooms, Low, Lows, Blank};
 
-// A sixteenth of a number where a byte holds it, and else the greatest that it holds.
-fn sixteenth(x: u32) -> u8
-    ensures { λ r. ⌜ 16 * r ≤ x ⌝ }
+// Half of a number where a byte holds it, and else the greatest that it holds.
+fn half(x: u32) -> u8
+    ensures { λ r. ⌜ 2 * r ≤ x ⌝ }
 {
-    let part = x / 16;
+    let part = x / 2;
     if part < 256 { part as u8 } else { 255 }
 }
 
-// A byte of which a profile is never below sixteen: by the least of its points, and 0 where it has none.
+// A byte that a profile is never below twice: by the least of its points, and 0 where it has none.
 fn low_value(plan: &[u8], l: PlanLayout, firsts: &[u32; MOST_NODES], i: usize, u: usize) -> u8
     requires { ⌜ Formed (now plan) l ⌝ }
     requires { ⌜ Started (now plan) l i (now firsts) ⌝ }
@@ -55,7 +55,7 @@ fn low_value(plan: &[u8], l: PlanLayout, firsts: &[u32; MOST_NODES], i: usize, u
     if plan::read::point_count(plan, l, i * l.nodes + u) == 0 {
         return 0;
     }
-    sixteenth(profile_runs::least_value(plan, l, firsts, i, u))
+    half(profile_runs::least_value(plan, l, firsts, i, u))
 }
 
 // The table of such bytes of all nodes, towards border number i.
@@ -97,9 +97,9 @@ fn same_bits(plan: &[u8], l: PlanLayout, arc: usize, cell: usize) -> u8
 
 // Is even the least travel to the least value more than the greatest?
 fn is_far(top: u32, low: u8, least: u32) -> bool
-    ensures { λ r. ⌜ r ≡ ltb top (16 * low + least) ⌝ }
+    ensures { λ r. ⌜ r ≡ ltb top (2 * low + least) ⌝ }
 {
-    (top as u64) < 16 * low as u64 + least as u64
+    (top as u64) < 2 * low as u64 + least as u64
 }
 
 // Takes all marks off.

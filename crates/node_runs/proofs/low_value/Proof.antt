@@ -27,11 +27,11 @@ least-value-requires c κs = let s = c .before .before .before .before in (
   ),
 )
 
-sixteenth-requires : tie.Need-sixteenth-requires
-sixteenth-requires c κs = search needs
+half-requires : tie.Need-half-requires
+half-requires c κs = search needs
 
 returns-2 : tie.Need-returns-2
-returns-2 c = low-less (c .before .least-value .ensures) (c .sixteenth .ensures)
+returns-2 c = low-less (c .before .least-value .ensures) (c .half .ensures)
 
 pub low-value-spec : {M : Type 1} → statement M
 low-value-spec =
@@ -42,5 +42,5 @@ low-value-spec =
     point-count-requires
     returns
     least-value-requires
-    sixteenth-requires
+    half-requires
     returns-2)
