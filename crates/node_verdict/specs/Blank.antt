@@ -8,7 +8,8 @@ use Prim.Native.Nat.{ℕ, _+_, _*_, _%_, _≤_, _<_}
 use native.Mathlib.Omega.{arith}
 use lib.Dec.{eqb, ltb}
 use borrow.Author.Tests.{eq-eqb, ne-eqb, lt-ltb, le-ltb, ltb-true, ltb-false}
-use Rattle.theory_loops.specs.First.{any, any-clear, first-same, some}
+use Rattle.theory_loops.specs.Fill.{Filled}
+use Rattle.theory_loops.specs.First.{any, any-clear, first-same, some, yes-any}
 use Rattle.theory_paths.specs.Partition.{Partition}
 use Rattle.theory_paths.specs.Profiles.{Travel, unreachable, plus}
 use Rattle.network.specs.declared.header.Layout.{Layout}
@@ -25,7 +26,7 @@ use Rattle.plan_tests.specs.declared.tests.Layouts.{Layouts}
 use Rattle.plan_tests.specs.Checkable.{Checkable}
 use Rattle.plan_tests.specs.Tests.{giving, fails22, fails}
 use Rattle.profile_runs.specs.Numbers.{number-value, number-never}
-use Rattle.node_verdict.specs.Lowest.{Lowest, each-test}
+use Rattle.node_verdict.specs.Lowest.{tells, Lowest, each-test}
 
 -- arc a leads out of u, to a node that has points towards border number i
 unfoldable pub ahead : Partition → Plan → ℕ → ℕ → ℕ → Bool
@@ -112,25 +113,29 @@ module _ (G : Partition) (p : Plan) (i u : ℕ) (none : pointCount p (i * G .gra
   unfolding fails
   none-24 x = rw (never x)
 
-  module _ (away : u ≢ borderAt G i) (period t : ℕ) where
+  module _ (away : u ≢ borderAt G i) where
     none-21 : (x : ℕ) → fails 21 G p i u x ≡ false
     unfolding fails
     none-21 x = rw (ne-eqb u (borderAt G i) away)
 
-    pub blank-ahead : any (G .graph .arcs) (ahead G p i u) ≡ true → 0 < period
-        → Lowest G p i u period 25 (record { number = 22; tick = 0 })
-    blank-ahead e h = record {
+    pub blank-ahead : {period : ℕ} {old marks : List ℕ} → any (G .graph .arcs) (ahead G p i u) ≡ true → 0 <
+        period
+        → Filled 0 period (λ _. 7) old marks → Lowest G p i u period 25 22 marks
+    unfolding tells
+    blank-ahead {period} e h f = record {
       low = omega arith;
-      passed = λ n x lo hi o k. let z : n ≡ 21 = omega arith in rw z (none-21 x);
-      found = λ _. record { within = h; at = is-22 0 ∙ e; before = λ y l. absurd (omega arith) };
+      passed = λ m x lo hi o k. let z : m ≡ 21 = omega arith in rw z (none-21 x);
+      some = λ _. yes-any (fails 22 G p i u) period 0 h (is-22 0 ∙ e);
+      told = λ _ x k. rw (f .written x (omega arith) k) (sym (is-22 x ∙ e));
     }
 
-    pub blank-none : any (G .graph .arcs) (ahead G p i u) ≡ false
-        → Lowest G p i u period 25 (record { number = 25; tick = t })
+    pub blank-none : {period : ℕ} {marks : List ℕ} → any (G .graph .arcs) (ahead G p i u) ≡ false
+        → Lowest G p i u period 25 25 marks
     blank-none e = record {
       low = omega arith;
-      passed = λ n x lo hi o k.
-          each-test (λ m. fails m G p i u x ≡ false) n lo (omega arith) (none-21 x) (is-22 x ∙ e) (none-23 x)
+      passed = λ m x lo hi o k.
+          each-test (λ n. fails n G p i u x ≡ false) m lo (omega arith) (none-21 x) (is-22 x ∙ e) (none-23 x)
           (none-24 x);
-      found = λ o. absurd (omega arith);
+      some = λ o. absurd (omega arith);
+      told = λ o. absurd (omega arith);
     }

@@ -1,17 +1,16 @@
--- The border itself: its own profile is 0 all day, and then no test fails there, or 21 fails at the first
--- tick at which it is not.
-use mathlib.Core.Path.{_≡_, refl, sym, _∙_, ap}
-use mathlib.Core.Logic.{_≢_, _⊎_, inl, inr}
-use mathlib.Core.Bool.{Bool, true, false, not, _&&_}
+-- The border itself: its own profile is 0 all day, and then no test fails there, or 21 fails at the ticks at
+-- which it is not.
+use mathlib.Core.Path.{_≡_, refl, sym, _∙_}
+use mathlib.Core.Bool.{Bool, true, false, cond, not, _&&_}
 use mathlib.Core.List.{List}
-use Prim.Native.Nat.{ℕ, zero, suc, _+_, _≤_, _<_}
+use Prim.Native.Nat.{ℕ, _+_, _≤_, _<_}
 use native.Mathlib.Decide.{decLt}
-use native.Mathlib.Numerals.{add-one}
 use native.Mathlib.Omega.{arith}
 use lib.ListN.{getD}
 use lib.Dec.{eqb}
-use borrow.Author.Tests.{le-ltb, eq-eqb, ne-eqb, eqb-true}
-use Rattle.theory_loops.specs.First.{first, any-clear, found, least}
+use borrow.Author.Tests.{le-ltb, eq-eqb}
+use Rattle.theory_loops.specs.Fill.{Filled}
+use Rattle.theory_loops.specs.First.{any-clear}
 use Rattle.theory_loops.specs.Pick.{and-clear}
 use Rattle.theory_paths.specs.Graph.{Lawful, all}
 use Rattle.theory_paths.specs.Partition.{Partition}
@@ -21,124 +20,58 @@ use Rattle.plan.specs.Plan.{Plan, profile, pointCount, profileValue}
 use Rattle.plan_values.specs.Compare.{same, less, isNumber}
 use Rattle.plan_tests.specs.Tests.{giving, given, fails22, fails}
 use Rattle.plan_tests.specs.Meaning.{same-true, gives-some, attained-given}
-use Rattle.day_runs.specs.Runs.{Grid, Runs, starts-within}
+use Rattle.day_runs.specs.Runs.{Runs}
 use Rattle.profile_runs.specs.Numbers.{numberAt, number-value, number-never}
-use Rattle.node_verdict.specs.declared.Verdict.{Verdict}
-use Rattle.node_verdict.specs.Lowest.{Lowest, each-test}
+use Rattle.node_verdict.specs.Lowest.{tells, each-test}
+use Rattle.node_verdict.specs.Marks.{Telling}
 
--- a value that is not 0
-unfoldable pub raised : List ℕ → ℕ → Bool
-raised values k = not (eqb (getD values k 0) 0)
+-- the byte of a tick at which its own profile has this number
+abbrev pub homeByte : ℕ → ℕ
+homeByte v = cond (eqb v 0) 6 14
 
--- what is told of the border's own profile, by its value at each tick
-pub record Level (value : ℕ → Travel) (period : ℕ) : Type 0 where
-  pub zero : (x : ℕ) → x < period → value x ≡ ticks 0
+-- the ticks of the first n runs have their bytes
+pub record Painted (starts values : List ℕ) (n : ℕ) (marks : List ℕ) : Type 0 where
+  pub at : (x : ℕ) → x < getD starts n 0
+      → (k : ℕ) × (k < n) × (getD starts k 0 ≤ x) × (x < getD starts (k + 1) 0)
+      × (getD marks x 0 ≡ homeByte (getD values k 0))
 
-pub record Raised (value : ℕ → Travel) (period x : ℕ) : Type 0 where
-  pub within : x < period
-  pub at : value x ≢ ticks 0
-  pub before : (y : ℕ) → y < x → value y ≡ ticks 0
+-- THE RESULT, by the profile's value at each tick
+pub record AtHome (value : ℕ → Travel) (period : ℕ) (marks : List ℕ) : Type 0 where
+  pub byte : (x : ℕ) → x < period → getD marks x 0 ≡ cond (same (value x) (ticks 0)) 6 14
 
-pub record AtHome (value : ℕ → Travel) (period : ℕ) (v : Verdict) : Type 0 where
-  pub either : ((v .number ≡ 21) × Raised value period (v .tick))
-      ⊎ ((v .number ≡ 25) × Level value period)
+-- FOR A LOOP over runs
+module _ {starts values : List ℕ} where
+  pub painted-none : (marks : List ℕ) → getD starts 0 0 ≡ 0 → Painted starts values 0 marks
+  painted-none marks e = record { at = λ x h. absurd (omega arith) }
 
--- FOR A LOOP over values
-module _ (values : List ℕ) (k : ℕ) {v : ℕ} (e : v ≡ getD values k 0) where
-  pub raised-at : v ≢ 0 → raised values k ≡ true
-  unfolding raised
-  raised-at h = rw (← e, ne-eqb v 0 h)
-
-  pub raised-not : v ≡ 0 → raised values k ≡ false
-  unfolding raised
-  raised-not h = rw (← e, eq-eqb v 0 h)
-
-zero-value : (values : List ℕ) (k : ℕ) → raised values k ≡ false → getD values k 0 ≡ 0
-unfolding raised
-zero-value values k e = go (eqb (getD values k 0) 0) refl e
-  where
-    go : (b : Bool) → eqb (getD values k 0) 0 ≡ b → not b ≡ false → getD values k 0 ≡ 0
-    go true f g = eqb-true (getD values k 0) 0 f
-    go false f g = let z : _≡_ {A = ℕ} 0 1 = cc in absurd (omega arith)
-
-some-value : (values : List ℕ) (k : ℕ) → raised values k ≡ true → getD values k 0 ≢ 0
-unfolding raised
-some-value values k e f = let g = rw (eq-eqb (getD values k 0) 0 f) at e in
-    let z : _≡_ {A = ℕ} 0 1 = cc in omega arith
-
--- a tick before run k lies in an earlier run
-earlier-run : (starts : List ℕ) (n period : ℕ) → Grid starts n period → (k : ℕ) → k ≤ n → (y : ℕ)
-    → y < getD starts k 0 → (j : ℕ) × (j < k) × (getD starts j 0 ≤ y) × (y < getD starts (j + 1) 0)
-earlier-run starts n period g zero l y h = absurd (omega (arith, g .begun))
-earlier-run starts n period g (suc k) l y h = elim (decLt y (getD starts k 0)) [
-  | yes m ↦
-      let (j, a, b, c) = earlier-run starts n period g k (omega arith) y m in
-      (j, omega arith, b, c)
-  | no m ↦ (k, omega arith, omega arith, rw (← add-one k) at h)
-]
-
--- its profile as runs, of which run r is the first that is not 0, or none is
-module _ {starts values : List ℕ} {n period : ℕ} (p : Plan) (k : ℕ) (some : 0 < pointCount p k)
-    (runs : Runs starts values n period (numberAt period p k)) {r : ℕ} (e : r ≡ first n (raised values)) where
-  zero-before : (j : ℕ) → j < r → getD values j 0 ≡ 0
-  zero-before j l = zero-value values j (least (raised values) n j (omega arith))
-
-  zero-there : (m : ℕ) → m ≤ n → m ≤ r → (y : ℕ) → y < getD starts m 0 → profileValue period p k y ≡ ticks 0
-  zero-there m o q y h =
-      let (j, a, b, c) = earlier-run starts n period (runs .grid) m o y h in
-      number-value period p k y some
-      ∙ ap ticks (runs .held j y (omega arith) b c ∙ zero-before j (omega arith))
-
-  pub home-raised : (t : ℕ) → r < n → t ≡ getD starts r 0
-      → AtHome (profileValue period p k) period (record { number = 21; tick = t })
-  home-raised t l f =
-      let w : getD starts r 0 < getD starts (r + 1) 0 = runs .grid .rise r l in
-      let z = starts-within (runs .grid) (r + 1) (omega arith) in
-      let s : getD values r 0 ≢ 0 = some-value values r (rw e (found (raised values) n (omega arith))) in
-      record {
-        either = inl (
-          refl,
-          rw f (record {
-            within = omega arith;
-            at = λ q. s (sym (runs .held r (getD starts r 0) l (omega arith) w)
-                ∙ ticks-one _ _ (sym (number-value period p k (getD starts r 0) some) ∙ q));
-            before = λ y h. zero-there r (omega arith) (omega arith) y h;
-          }),
-        );
-      }
-    where
-      ticks-one : (a b : ℕ) → ticks a ≡ ticks b → a ≡ b
-      ticks-one a b q = cc
-
-  pub home-level : (t : ℕ) → n ≤ r → AtHome (profileValue period p k) period (record {
-    number = 25;
-    tick = t;
-  })
-  home-level t l = record {
-    either = inr (
-      refl,
-      record {
-        zero = λ x h. zero-there n (omega arith) (omega arith) x (rw (runs .grid .ended) h);
-      },
-    );
+  pub painted-more : {k a b byte : ℕ} {old new : List ℕ} → Painted starts values k old → a ≡ getD starts k 0
+      → b ≡ getD starts (k + 1) 0 → byte ≡ homeByte (getD values k 0) → Filled a b (λ _. byte) old new
+      → Painted starts values (k + 1) new
+  painted-more {k} h ea eb e f = record {
+    at = λ x m. elim (decLt x (getD starts k 0)) [
+      | yes o ↦
+          let (j, l, lo, hi, d) = h .at x o in
+          (j, omega arith, lo, hi, f .before x (omega arith) ∙ d)
+      | no o ↦ (k, omega arith, omega arith, m, f .written x (omega arith) (omega arith) ∙ e)
+    ];
   }
 
--- it has no points
-pub home-never : (period : ℕ) (p : Plan) (k : ℕ) → 0 < period → pointCount p k ≡ 0
-    → AtHome (profileValue period p k) period (record { number = 21; tick = 0 })
-home-never period p k h z = record {
-  either = inl (
-    refl,
-    record {
-      within = h;
-      at = λ q. let y : _≡_ {A = ℕ} 0 1 = clash (sym (number-never period p k 0 z) ∙ q) in omega arith;
-      before = λ y l. absurd (omega arith);
-    },
-  );
+-- its profile as runs
+pub home-painted : {starts values marks : List ℕ} {n period : ℕ} (p : Plan) (k : ℕ) → 0 < pointCount p k
+    → Runs starts values n period (numberAt period p k) → Painted starts values n marks
+    → AtHome (profileValue period p k) period marks
+home-painted {starts} {values} {marks} {n} {period} p k some runs h = record {
+  byte = λ x m.
+      let (j, a, b, c, d) = h .at x (rw (runs .grid .ended) m) in
+      d ∙ rw (number-value period p k x some, runs .held j x a b c);
 }
-  where
-    clash : unreachable ≡ ticks 0 → _≡_ {A = ℕ} 0 1
-    clash e = cc
+
+-- it has no points
+pub home-never : (period : ℕ) (p : Plan) (k : ℕ) {old marks : List ℕ} → pointCount p k ≡ 0
+    → Filled 0 period (λ _. 14) old marks → AtHome (profileValue period p k) period marks
+home-never period p k z f = record {
+  byte = λ x m. f .written x (omega arith) m ∙ rw (number-never period p k x z);
+}
 
 -- WHERE THE VALUE IS 0: nothing is less, and an arc takes a tick or more
 least-zero : (t : Travel) → less t (ticks 0) ≡ false
@@ -182,32 +115,50 @@ module _ (G : Partition) (p : Plan) (i u x : ℕ) (home : u ≡ borderAt G i) wh
     home-clean number l m =
         each-test (λ n. fails n G p i u x ≡ false) number l m (home-21 true (rw z)) none-less home-23 home-24
 
-not-same : (t : Travel) → t ≢ ticks 0 → not (same t (ticks 0)) ≡ true
-not-same t f = by (same t (ticks 0)) refl
-  where
-    by : (b : Bool) → same t (ticks 0) ≡ b → not b ≡ true
-    by true e = absurd (f (same-true t (ticks 0) e))
-    by false e = refl
+-- a byte tells of no test
+passed-byte : (marks : List ℕ) (x : ℕ) → getD marks x 0 ≡ 6 → (number : ℕ) → 21 ≤ number → number < 25
+    → tells marks number x ≡ false
+unfolding tells
+passed-byte marks x e number l h =
+    each-test (λ n. tells marks n x ≡ false) number l h (rw e) (rw e) (rw e) (rw e)
 
-pub home-lowest : {G : Partition} {p : Plan} {i u : ℕ} {v : Verdict} → Lawful (G .graph) → u ≡ borderAt G i
-    → AtHome (profile (G .graph) p i u) (G .graph .period) v → Lowest G p i u (G .graph .period) 25 v
-home-lowest {G} {p} {i} {u} {v} ok home a = go (a .either)
-  where
-    go : ((v .number ≡ 21) × Raised (profile (G .graph) p i u) (G .graph .period) (v .tick))
-        ⊎ ((v .number ≡ 25) × Level (profile (G .graph) p i u) (G .graph .period))
-        → Lowest G p i u (G .graph .period) 25 v
-    go (inl (e, r)) = record {
-      low = omega arith;
-      passed = λ n x lo hi o k. absurd (omega arith);
-      found = λ _. rw e (record {
-        within = r .within;
-        at = home-21 G p i u (v .tick) home (same (profile (G .graph) p i u (v .tick)) (ticks 0)) refl
-            ∙ not-same _ (r .at);
-        before = λ y l. home-21 G p i u y home true (rw (r .before y l));
-      });
-    }
-    go (inr (e, r)) = record {
-      low = omega arith;
-      passed = λ n x lo hi o k. home-clean G p i u x home ok k (r .zero x k) n lo (omega arith);
-      found = λ o. absurd (omega arith);
-    }
+module _ (G : Partition) (p : Plan) (i u : ℕ) {marks : List ℕ} (ok : Lawful (G .graph))
+    (home : u ≡ borderAt G i) (a : AtHome (profile (G .graph) p i u) (G .graph .period) marks) where
+  tells-21 : (x : ℕ) → x < G .graph .period → tells marks 21 x ≡ fails 21 G p i u x
+  unfolding tells
+  tells-21 x k = by (same (profile (G .graph) p i u x) (ticks 0)) refl
+    where
+      by : (b : Bool) → same (profile (G .graph) p i u x) (ticks 0) ≡ b
+          → tells marks 21 x ≡ fails 21 G p i u x
+      by true e = rw (a .byte x k, e) (sym (home-21 G p i u x home true e))
+      by false e = rw (a .byte x k, e) (sym (home-21 G p i u x home false e))
+
+  -- where 21 does not fail, the value is 0
+  value-zero : (x : ℕ) → fails 21 G p i u x ≡ false → profile (G .graph) p i u x ≡ ticks 0
+  value-zero x e = by (same (profile (G .graph) p i u x) (ticks 0)) refl
+    where
+      by : (b : Bool) → same (profile (G .graph) p i u x) (ticks 0) ≡ b
+          → profile (G .graph) p i u x ≡ ticks 0
+      by true f = same-true (profile (G .graph) p i u x) (ticks 0) f
+      by false f =
+          let g = sym (home-21 G p i u x home false f) ∙ e in
+          let z : _≡_ {A = ℕ} 0 1 = cc in absurd (omega arith)
+
+  clean : (number x : ℕ) → 21 ≤ number → number < 25 → x < G .graph .period → fails 21 G p i u x ≡ false
+      → tells marks number x ≡ fails number G p i u x
+  clean number x lo hi k e =
+      let z = value-zero x e in
+      passed-byte marks x (a .byte x k ∙ rw z) number lo hi
+      ∙ sym (home-clean G p i u x home ok k z number lo hi)
+
+  pub home-telling : Telling G p i u (G .graph .period) marks
+  home-telling = record {
+    is = λ n x lo hi k before.
+        each-test
+        (λ n. ((m y : ℕ) → 21 ≤ m → m < n → y < G .graph .period → fails m G p i u y ≡ false)
+        → tells marks n x ≡ fails n G p i u x)
+        n lo hi (λ _. tells-21 x k)
+        (λ b. clean 22 x (omega arith) (omega arith) k (b 21 x (omega arith) (omega arith) k))
+        (λ b. clean 23 x (omega arith) (omega arith) k (b 21 x (omega arith) (omega arith) k))
+        (λ b. clean 24 x (omega arith) (omega arith) k (b 21 x (omega arith) (omega arith) k)) before;
+  }

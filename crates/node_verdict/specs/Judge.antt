@@ -19,17 +19,17 @@ use Rattle.profile_runs.specs.Numbers.{number-value}
 use Rattle.node_runs.specs.Adds.{numbersOf}
 use Rattle.node_runs.specs.Finding.{node-finds}
 use Rattle.node_runs.specs.Judged.{Judged}
-use Rattle.node_verdict.specs.declared.Verdict.{Verdict}
 use Rattle.node_verdict.specs.Lowest.{Lowest, Tallied, lowest-below, lowest-skipped}
-use Rattle.node_verdict.specs.Home.{AtHome, home-lowest}
-use Rattle.node_verdict.specs.Marks.{Marked, judged-lowest}
+use Rattle.node_verdict.specs.Home.{AtHome, home-telling}
+use Rattle.node_verdict.specs.Marks.{Marked, marked-lowest, judged-telling}
 
 module _ {network plan : List ℕ} {l : Layouts} {points starts : List ℕ} {b : Target}
     (w : Prepared network plan l points starts b) (u : ℕ) where
   -- what is told, and the finds that it took
-  abbrev pub Told : ℕ → Verdict → ℕ → ℕ → Type 0
-  Told limit v before after =
-      Lowest (partitionOf (decode network)) (decodePlan plan) (b .number) u (l .network .period) limit v
+  abbrev pub Told : ℕ → ℕ → List ℕ → ℕ → ℕ → Type 0
+  Told limit number marks before after =
+      Lowest (partitionOf (decode network)) (decodePlan plan) (b .number) u (l .network .period) limit number
+      marks
       × Tallied limit (pointCount (decodePlan plan) (b .number * l .plan .nodes + u))
       (nodeFinds (decode network) (decodePlan plan) (b .number) u) before after
 
@@ -44,46 +44,53 @@ module _ {network plan : List ℕ} {l : Layouts} {points starts : List ℕ} {b :
   away-border h e = h (e ∙ sym (w .aimed .node))
 
   module _ (limit : ℕ) (few : limit ≤ 25) (before : ℕ) where
-    pub told-home : {v : Verdict} {after : ℕ} → u ≡ b .node
+    pub told-home : {number after : ℕ} {marks : List ℕ} → u ≡ b .node
         → AtHome (profileValue (l .plan .period) (decodePlan plan) (b .number * l .plan .nodes + u))
-        (l .plan .period) v
+        (l .plan .period) marks
         → after ≡ before + pointCount (decodePlan plan) (b .number * l .plan .nodes + u)
-        → Told limit v before after
-    told-home {v} e h f =
+        → Marked marks (l .network .period) number → Told limit number marks before after
+    told-home {number} {after} {marks} e h f m =
         let t = w .check .town in
         let a = rw (w .check .period, t .sizes .period, w .check .nodes, t .sizes .nodes) at h in (
           subst
-              (λ (k : ℕ). Lowest (partitionOf (decode network)) (decodePlan plan) (b .number) u k limit v)
+              (λ (k : ℕ). Lowest (partitionOf (decode network)) (decodePlan plan) (b .number) u k limit number
+              marks)
               (sym (t .sizes .period))
-              (lowest-below limit (home-lowest (lawful t) (e ∙ w .aimed .node) a) few),
+              (lowest-below limit
+              (marked-lowest (home-telling _ _ _ _ (lawful t) (e ∙ w .aimed .node) a) (rw (t .sizes .period)
+              at m))
+              few),
           record { up = omega arith; no-fewer = λ _. omega arith; no-more = omega (arith, node-finds w u) },
         )
 
-    pub told-skipped : {t : ℕ} → u ≢ b .node → limit ≤ 22
-        → Told limit (record { number = 25; tick = t }) before before
-    told-skipped {t} h m = (
-      lowest-skipped _ _ _ u _ limit t (away-border h) m,
+    pub told-skipped : {marks : List ℕ} → u ≢ b .node → limit ≤ 22 → Told limit 25 marks before before
+    told-skipped {marks} h m = (
+      lowest-skipped _ _ _ u _ limit marks (away-border h) m,
       record { up = omega arith; no-fewer = λ o. absurd (omega arith); no-more = omega arith },
     )
 
-    pub told-blank : {v : Verdict} → pointCount (decodePlan plan) (b .number * l .plan .nodes + u) ≡ 0
-        → Lowest (partitionOf (decode network)) (decodePlan plan) (b .number) u (l .network .period) 25 v
-        → Told limit v before before
+    pub told-blank : {number : ℕ} {marks : List ℕ}
+        → pointCount (decodePlan plan) (b .number * l .plan .nodes + u) ≡ 0
+        → Lowest (partitionOf (decode network)) (decodePlan plan) (b .number) u (l .network .period) 25 number
+        marks
+        → Told limit number marks before before
     told-blank z h = (
       lowest-below limit h few,
       record { up = omega arith; no-fewer = λ _. omega arith; no-more = omega arith },
     )
 
-    pub told-judged : {v : Verdict} {after : ℕ} {marks : List ℕ} → u ≢ b .node
+    pub told-judged : {number after : ℕ} {marks : List ℕ} → u ≢ b .node
         → 0 < pointCount (decodePlan plan) (b .number * l .plan .nodes + u)
         → Judged (partitionOf (decode network)) (decodePlan plan) (b .number) u (l .network .period) marks
         → Counted (pointCount (decodePlan plan) (b .number * l .plan .nodes + u))
         (nodeFinds (decode network) (decodePlan plan) (b .number) u) before after
-        → Marked marks (l .network .period) v → Told limit v before after
+        → Marked marks (l .network .period) number → Told limit number marks before after
     told-judged h some j c m = (
       lowest-below limit
-          (judged-lowest j (away-border h) (numbersOf plan l b u)
-          (λ x. sym (profile-same w u x) ∙ number-value _ _ _ x some) m)
+          (marked-lowest
+          (judged-telling j (away-border h) (numbersOf plan l b u)
+          (λ x. sym (profile-same w u x) ∙ number-value _ _ _ x some))
+          m)
           few,
       record { up = omega (arith, c .no-fewer); no-fewer = λ _. c .no-fewer; no-more = c .no-more },
     )

@@ -1,32 +1,28 @@
--- The lowest test by the bytes of a node's ticks, which have the answers of `Judged`. A byte is 6 where no
--- test fails; the bits in which it is not are told for all ticks at once, by `||`.
-use mathlib.Core.Path.{_≡_, refl, sym, _∙_}
+-- The lowest test by the bytes of a node's ticks. A byte is 6 where no test fails; the bits in which it is
+-- not are told for all ticks at once, by `||`.
+use mathlib.Core.Path.{_≡_, refl, sym, _∙_, ap}
 use mathlib.Core.Logic.{_≢_}
-use mathlib.Core.Bool.{Bool, true, false, not, _&&_}
+use mathlib.Core.Bool.{Bool, true, false, not, _&&_, _||_}
 use mathlib.Core.List.{List}
-use Prim.Native.Nat.{ℕ, zero, suc, _+_, _≤_, _<_}
+use Prim.Native.Nat.{ℕ, zero, suc, _+_, _-_, _/_, _%_, _≤_, _<_, min, max}
 use native.Mathlib.Numerals.{add-one}
 use native.Mathlib.Decide.{ℕ-discrete}
 use native.Mathlib.Omega.{arith}
+use lib.Arith.{bin-ind}
 use lib.ListN.{getD}
-use lib.Dec.{eqb}
-use lib.Bits.{bitAnd, bitOr, bitXor}
-use borrow.Author.Tests.{eq-eqb, ne-eqb, eqb-true, ltb-true}
-use Rattle.theory_loops.specs.First.{first, any, any-none, any-more, any-clear, found, least, first-same}
+use lib.Dec.{eqb, ltb}
+use lib.Bits.{bitAnd, bitOr, bitXor, and-step, or-step, or-add-and, and-le-l, and-le-r}
+use borrow.Author.Tests.{eq-eqb, ne-eqb, eqb-true}
+use Rattle.theory_loops.specs.First.{any, any-none, any-more, any-clear, first-same}
 use Rattle.theory_paths.specs.Graph.{all}
 use Rattle.theory_paths.specs.Partition.{Partition}
 use Rattle.theory_paths.specs.Profiles.{ticks}
 use Rattle.plan.specs.Border.{borderAt}
 use Rattle.plan.specs.Plan.{Plan, towards, profile}
-use Rattle.plan_tests.specs.Tests.{given, fails, fails22}
-use Rattle.node_runs.specs.Bytes.{byteOf, digit, byte-or}
+use Rattle.plan_tests.specs.Tests.{given, fails}
+use Rattle.node_runs.specs.Bytes.{byteOf, digit}
 use Rattle.node_runs.specs.Judged.{Judged}
-use Rattle.node_verdict.specs.declared.Verdict.{Verdict}
-use Rattle.node_verdict.specs.Lowest.{FirstTick, Lowest, each-test}
-
--- a byte at which bit 1, 2 or 4 is not as in 6
-unfoldable pub isOff : List ℕ → ℕ → ℕ → Bool
-isOff marks bit x = not (eqb (bitAnd (bitXor (getD marks x 0) 6) bit) 0)
+use Rattle.node_verdict.specs.Lowest.{bitOf, tells, Lowest, each-test}
 
 -- the bits in which any of the first n bytes is not as 6
 unfoldable pub offs : List ℕ → ℕ → ℕ
@@ -42,269 +38,208 @@ pub offs-more : (marks : List ℕ) (n : ℕ) {o b : ℕ} → o ≡ offs marks n 
 unfolding offs
 offs-more marks n e f = rw (add-one, e, f)
 
--- FOR A LOOP that looks for a bit
-module _ (marks : List ℕ) (bit x : ℕ) {b : ℕ} (e : b ≡ getD marks x 0) where
-  pub off-at : bitAnd (bitXor b 6) bit ≢ 0 → isOff marks bit x ≡ true
-  unfolding isOff
-  off-at h = rw (← e, ne-eqb (bitAnd (bitXor b 6) bit) 0 h)
+-- A BIT of two numbers put together is that of one or of the other
+half-or : (a b : ℕ) → (bitOr a b / 2 ≡ bitOr (a / 2) (b / 2)) × (bitOr a b % 2 ≡ max (a % 2) (b % 2))
+half-or a b = (omega (arith, or-step a b), omega (arith, or-step a b))
 
-  pub off-not : bitAnd (bitXor b 6) bit ≡ 0 → isOff marks bit x ≡ false
-  unfolding isOff
-  off-not h = rw (← e, eq-eqb (bitAnd (bitXor b 6) bit) 0 h)
+half-and : (a b : ℕ) → (bitAnd a b / 2 ≡ bitAnd (a / 2) (b / 2)) × (bitAnd a b % 2 ≡ min (a % 2) (b % 2))
+half-and a b = (omega (arith, and-step a b), omega (arith, and-step a b))
 
--- 6, byte for byte
-turned : (l s f : Bool) → bitXor (byteOf l s f) 6 ≡ byteOf l (not s) (not f)
-unfolding byteOf digit
-turned true true true = refl
-turned true true false = refl
-turned true false true = refl
-turned true false false = refl
-turned false true true = refl
-turned false true false = refl
-turned false false true = refl
-turned false false false = refl
+and-or : (a b c : ℕ) → bitAnd (bitOr a b) c ≡ bitOr (bitAnd a c) (bitAnd b c)
+and-or a =
+    bin-ind (λ (n : ℕ). (b c : ℕ) → bitAnd (bitOr n b) c ≡ bitOr (bitAnd n c) (bitAnd b c)) (λ b c. refl)
+    (λ n ih b c.
+    let l = rw (half-or n b .0) at (and-step (bitOr n b) c) in
+    let r = rw (half-and n c .0, half-and b c .0) at (or-step (bitAnd n c) (bitAnd b c)) in
+    omega (arith, l, r, ih (b / 2) (c / 2), half-or n b .1, half-and n c .1, half-and b c .1)) a
 
-zeros : 0 ≡ byteOf false false false
-unfolding byteOf digit
-zeros = refl
+or-zero : (a b : ℕ) → bitOr a b ≡ 0 → (a ≡ 0) × (b ≡ 0)
+or-zero a b e =
+    (omega (arith, or-add-and a b, and-le-r a b, e), omega (arith, or-add-and a b, and-le-l a b, e))
 
--- the bits by the answers
-bits : (l s f : Bool)
-    → (eqb (bitAnd (byteOf l s f) 1) 0 ≡ not l) × (eqb (bitAnd (byteOf l s f) 2) 0 ≡ not s)
-    × (eqb (bitAnd (byteOf l s f) 4) 0 ≡ not f)
-unfolding byteOf digit
-bits true true true = (refl, refl, refl)
-bits true true false = (refl, refl, refl)
-bits true false true = (refl, refl, refl)
-bits true false false = (refl, refl, refl)
-bits false true true = (refl, refl, refl)
-bits false true false = (refl, refl, refl)
-bits false false true = (refl, refl, refl)
-bits false false false = (refl, refl, refl)
+or-some : (a b : ℕ) → not (eqb (bitOr a b) 0) ≡ not (eqb a 0) || not (eqb b 0)
+or-some a b = go (eqb a 0) (eqb b 0) refl refl
+  where
+    go : (s t : Bool) → eqb a 0 ≡ s → eqb b 0 ≡ t → not (eqb (bitOr a b) 0) ≡ not s || not t
+    go true true e f = rw (eqb-true a 0 e, eqb-true b 0 f)
+    go true false e f = ap not (ne-eqb (bitOr a b) 0 (λ h. clash (or-zero a b h .1) f))
+      where
+        clash : b ≡ 0 → eqb b 0 ≡ false → ⊥
+        clash h f = let g = rw (eq-eqb b 0 h) at f in let z : _≡_ {A = ℕ} 0 1 = cc in omega arith
+    go false t e f = ap not (ne-eqb (bitOr a b) 0 (λ h. clash (or-zero a b h .0) e))
+      where
+        clash : a ≡ 0 → eqb a 0 ≡ false → ⊥
+        clash h f = let g = rw (eq-eqb a 0 h) at f in let z : _≡_ {A = ℕ} 0 1 = cc in omega arith
 
-twice : (b : Bool) → not (not b) ≡ b
-twice true = refl
-twice false = refl
+-- so those of all ticks tell of any
+any-tells : (marks : List ℕ) (number n : ℕ)
+    → any n (tells marks number) ≡ not (eqb (bitAnd (offs marks n) (bitOf number)) 0)
+unfolding offs tells
+any-tells marks number zero = any-none (tells marks number)
+any-tells marks number (suc n) =
+    let a : any (suc n) (tells marks number) ≡ any n (tells marks number) || tells marks number n =
+    rw (← add-one n) (any-more n (tells marks number)) in
+    let m = bitXor (getD marks n 0) 6 in
+    let b : any n (tells marks number) || tells marks number n
+    ≡ not (eqb (bitAnd (bitOr (offs marks n) m) (bitOf number)) 0) =
+    rw (any-tells marks number n, and-or (offs marks n) m (bitOf number))
+    (sym (or-some (bitAnd (offs marks n) (bitOf number)) (bitAnd m (bitOf number)))) in
+    a ∙ b
 
--- what a verdict is by three answers for each tick: an arc gives less, none the same, none with the flag
-pub record By (period : ℕ) (less none unflagged : ℕ → Bool) (v : Verdict) : Type 0 where
-  pub low : 22 ≤ v .number
-  pub high : v .number ≤ 25
-  pub no-less : 22 < v .number → any period less ≡ false
-  pub attained : 23 < v .number → any period none ≡ false
-  pub flagged : 24 < v .number → any period unflagged ≡ false
-  pub at-22 : v .number ≡ 22 → (any period less ≡ true) × (v .tick ≡ first period less)
-  pub at-23 : v .number ≡ 23 → (any period none ≡ true) × (v .tick ≡ first period none)
-  pub at-24 : v .number ≡ 24 → (any period unflagged ≡ true) × (v .tick ≡ first period unflagged)
+-- THE RESULT, by the bytes alone
+pub record Marked (marks : List ℕ) (period number : ℕ) : Type 0 where
+  pub low : 21 ≤ number
+  pub passed : (m : ℕ) → 21 ≤ m → m < 25 → m < number → any period (tells marks m) ≡ false
+  pub some : number < 25 → any period (tells marks number) ≡ true
 
--- THE RESULT, for whatever answers the bytes have
-pub record Marked (marks : List ℕ) (period : ℕ) (v : Verdict) : Type 0 where
-  pub is : (less same flagged : ℕ → Bool)
-      → ((x : ℕ) → x < period → getD marks x 0 ≡ byteOf (less x) (same x) (flagged x))
-      → By period less (λ x. not (same x)) (λ x. not (flagged x)) v
+-- FOR THE CODE that tests the bits one after the other
+module _ (marks : List ℕ) (period : ℕ) {o : ℕ} (e : o ≡ offs marks period) where
+  set : (number : ℕ) → bitAnd o (bitOf number) ≢ 0 → any period (tells marks number) ≡ true
+  set number h =
+      rw (any-tells marks number period, ← e, ne-eqb (bitAnd o (bitOf number)) 0 h)
 
--- bytes with three answers each
-module _ (marks : List ℕ) (period : ℕ) (less same flagged : ℕ → Bool)
-    (bytes : (x : ℕ) → x < period → getD marks x 0 ≡ byteOf (less x) (same x) (flagged x)) where
-  offs-byte : (n : ℕ) → n ≤ period
-      → offs marks n ≡ byteOf (any n less) (any n (λ x. not (same x))) (any n (λ x. not (flagged x)))
-  unfolding offs
-  offs-byte zero h =
-      rw (any-none less, any-none (λ x. not (same x)), any-none (λ x. not (flagged x))) zeros
-  offs-byte (suc n) h =
-      rw (offs-byte n (omega arith), bytes n (omega arith), turned (less n) (same n) (flagged n))
-      (byte-or (any n less) (any n (λ x. not (same x))) (any n (λ x. not (flagged x))) (less n)
-      (not (same n)) (not (flagged n))
-      ∙ sym (rw (← add-one n)
-      (rw (any-more n less, any-more n (λ x. not (same x)), any-more n (λ x. not (flagged x))))))
+  unset : (number : ℕ) → bitAnd o (bitOf number) ≡ 0 → any period (tells marks number) ≡ false
+  unset number h =
+      rw (any-tells marks number period, ← e, eq-eqb (bitAnd o (bitOf number)) 0 h)
 
-  -- the tests of the code: of all ticks, and of one
-  module _ {o : ℕ} (e : o ≡ offs marks period) where
-    all-1 : eqb (bitAnd o 1) 0 ≡ not (any period less)
-    all-1 = rw (e, offs-byte period (omega arith)) (bits _ _ _ .0)
-
-    all-2 : eqb (bitAnd o 2) 0 ≡ not (any period (λ x. not (same x)))
-    all-2 = rw (e, offs-byte period (omega arith)) (bits _ _ _ .1)
-
-    all-4 : eqb (bitAnd o 4) 0 ≡ not (any period (λ x. not (flagged x)))
-    all-4 = rw (e, offs-byte period (omega arith)) (bits _ _ _ .2)
-
-  one-1 : (x : ℕ) → x < period → isOff marks 1 x ≡ less x
-  unfolding isOff
-  one-1 x h = rw (
-    bytes x h,
-    turned (less x) (same x) (flagged x),
-    bits (less x) (not (same x))
-        (not (flagged x)) .0,
-  ) (twice (less x))
-
-  one-2 : (x : ℕ) → x < period → isOff marks 2 x ≡ not (same x)
-  unfolding isOff
-  one-2 x h = rw (
-    bytes x h,
-    turned (less x) (same x) (flagged x),
-    bits (less x) (not (same x))
-        (not (flagged x)) .1,
-  ) (twice (not (same x)))
-
-  one-4 : (x : ℕ) → x < period → isOff marks 4 x ≡ not (flagged x)
-  unfolding isOff
-  one-4 x h = rw (
-    bytes x h,
-    turned (less x) (same x) (flagged x),
-    bits (less x) (not (same x))
-        (not (flagged x)) .2,
-  ) (twice (not (flagged x)))
-
--- an answer by a test for 0
-is-set : (a : Bool) (k : ℕ) → eqb k 0 ≡ not a → k ≢ 0 → a ≡ true
-is-set true k e h = refl
-is-set false k e h = absurd (h (eqb-true k 0 e))
-
-is-unset : (a : Bool) (k : ℕ) → eqb k 0 ≡ not a → k ≡ 0 → a ≡ false
-is-unset true k e h = let z = sym e ∙ eq-eqb k 0 h in let y : _≡_ {A = ℕ} 0 1 = cc in absurd (omega arith)
-is-unset false k e h = refl
-
--- FOR THE CODE that has tested the bits one after the other
-module _ (marks : List ℕ) (period : ℕ) {o : ℕ} (e : o ≡ offs marks period) (t : ℕ) where
-  pub marked-22 : bitAnd o 1 ≢ 0 → t ≡ first period (isOff marks 1)
-      → Marked marks period (record { number = 22; tick = t })
-  marked-22 h f = record {
-    is = λ l s g b. record {
-      low = omega arith;
-      high = omega arith;
-      no-less = λ k. absurd (omega arith);
-      attained = λ k. absurd (omega arith);
-      flagged = λ k. absurd (omega arith);
-      at-22 = λ _. (
-        is-set _ _ (all-1 marks period l s g b e) h,
-        f ∙ first-same _ _ period (one-1 marks period l s g b),
-      );
-      at-23 = λ k. absurd (omega arith);
-      at-24 = λ k. absurd (omega arith);
-    };
+  pub marked-21 : bitAnd o 8 ≢ 0 → Marked marks period 21
+  marked-21 h = record {
+    low = omega arith;
+    passed = λ m lo hi k. absurd (omega arith);
+    some = λ _. set 21 h;
   }
 
-  module _ (c1 : bitAnd o 1 ≡ 0) where
-    pub marked-23 : bitAnd o 2 ≢ 0 → t ≡ first period (isOff marks 2)
-        → Marked marks period (record { number = 23; tick = t })
-    marked-23 h f = record {
-      is = λ l s g b. record {
-        low = omega arith;
-        high = omega arith;
-        no-less = λ _. is-unset _ _ (all-1 marks period l s g b e) c1;
-        attained = λ k. absurd (omega arith);
-        flagged = λ k. absurd (omega arith);
-        at-22 = λ k. absurd (omega arith);
-        at-23 = λ _. (
-          is-set _ _ (all-2 marks period l s g b e) h,
-          f ∙ first-same _ _ period (one-2 marks period l s g b),
-        );
-        at-24 = λ k. absurd (omega arith);
-      };
+  module _ (c1 : bitAnd o 8 ≡ 0) where
+    pub marked-22 : bitAnd o 1 ≢ 0 → Marked marks period 22
+    marked-22 h = record {
+      low = omega arith;
+      passed = λ m lo hi k. let z : m ≡ 21 = omega arith in rw z (unset 21 c1);
+      some = λ _. set 22 h;
     }
 
-    module _ (c2 : bitAnd o 2 ≡ 0) where
-      pub marked-24 : bitAnd o 4 ≢ 0 → t ≡ first period (isOff marks 4)
-          → Marked marks period (record { number = 24; tick = t })
-      marked-24 h f = record {
-        is = λ l s g b. record {
-          low = omega arith;
-          high = omega arith;
-          no-less = λ _. is-unset _ _ (all-1 marks period l s g b e) c1;
-          attained = λ _. is-unset _ _ (all-2 marks period l s g b e) c2;
-          flagged = λ k. absurd (omega arith);
-          at-22 = λ k. absurd (omega arith);
-          at-23 = λ k. absurd (omega arith);
-          at-24 = λ _. (
-            is-set _ _ (all-4 marks period l s g b e) h,
-            f ∙ first-same _ _ period (one-4 marks period l s g b),
-          );
-        };
+    module _ (c2 : bitAnd o 1 ≡ 0) where
+      pub marked-23 : bitAnd o 2 ≢ 0 → Marked marks period 23
+      marked-23 h = record {
+        low = omega arith;
+        passed = λ m lo hi k.
+            each-test (λ n. n < 23 → any period (tells marks n) ≡ false) m lo hi (λ _. unset 21 c1)
+            (λ _. unset 22 c2) (λ l. absurd (omega arith)) (λ l. absurd (omega arith)) k;
+        some = λ _. set 23 h;
       }
 
-      pub marked-25 : bitAnd o 4 ≡ 0 → Marked marks period (record { number = 25; tick = t })
-      marked-25 c4 = record {
-        is = λ l s g b. record {
+      module _ (c3 : bitAnd o 2 ≡ 0) where
+        pub marked-24 : bitAnd o 4 ≢ 0 → Marked marks period 24
+        marked-24 h = record {
           low = omega arith;
-          high = omega arith;
-          no-less = λ _. is-unset _ _ (all-1 marks period l s g b e) c1;
-          attained = λ _. is-unset _ _ (all-2 marks period l s g b e) c2;
-          flagged = λ _. is-unset _ _ (all-4 marks period l s g b e) c4;
-          at-22 = λ k. absurd (omega arith);
-          at-23 = λ k. absurd (omega arith);
-          at-24 = λ k. absurd (omega arith);
-        };
-      }
+          passed = λ m lo hi k.
+              each-test (λ n. n < 24 → any period (tells marks n) ≡ false) m lo hi (λ _. unset 21 c1)
+              (λ _. unset 22 c2) (λ _. unset 23 c3) (λ l. absurd (omega arith)) k;
+          some = λ _. set 24 h;
+        }
+
+        pub marked-25 : bitAnd o 4 ≡ 0 → Marked marks period 25
+        marked-25 c4 = record {
+          low = omega arith;
+          passed = λ m lo hi k.
+              each-test (λ n. any period (tells marks n) ≡ false) m lo hi (unset 21 c1) (unset 22 c2)
+              (unset 23 c3) (unset 24 c4);
+          some = λ l. absurd (omega arith);
+        }
+
+-- WHAT THE BYTES TELL: each bit of its test, where no lower test fails at any tick
+pub record Telling (G : Partition) (p : Plan) (i u period : ℕ) (marks : List ℕ) : Type 0 where
+  pub is : (number x : ℕ) → 21 ≤ number → number < 25 → x < period
+      → ((m y : ℕ) → 21 ≤ m → m < number → y < period → fails m G p i u y ≡ false)
+      → tells marks number x ≡ fails number G p i u x
+
+module _ {G : Partition} {p : Plan} {i u period number : ℕ} {marks : List ℕ}
+    (t : Telling G p i u period marks) (w : Marked marks period number) where
+  -- so the tests that no byte tells of fail nowhere, one after the other
+  passed-below : (d m x : ℕ) → 21 + d ≤ number → 21 + d ≤ 25 → 21 ≤ m → m < 21 + d → x < period
+      → fails m G p i u x ≡ false
+  passed-below zero m x l h lo hi k = absurd (omega arith)
+  passed-below (suc d) m x l h lo hi k = elim (ℕ-discrete m (21 + d)) [
+    | yes e ↦
+        sym (t .is m x lo (omega arith) k
+        (λ n y a b o. passed-below d n y (omega arith) (omega arith) a (omega arith) o))
+        ∙ any-clear (tells marks m) period .0 (w .passed m lo (omega arith) (omega arith)) x k
+    | no e ↦ passed-below d m x (omega arith) (omega arith) lo (omega (arith, e)) k
+  ]
+
+  told : number < 25 → (x : ℕ) → x < period → tells marks number x ≡ fails number G p i u x
+  told o x k =
+      t .is number x (w .low) o k
+      (λ m y lo hi l. passed-below (number - 21) m y (omega (arith, w .low)) (omega (arith, w .low)) lo
+      (omega (arith, w .low)) l)
+
+  pub marked-lowest : Lowest G p i u period 25 number marks
+  marked-lowest = record {
+    low = w .low;
+    passed = λ m x lo hi o k. passed-below (m - 20) m x (omega arith) (omega arith) lo (omega arith) k;
+    some = λ o.
+        ap (λ (k : ℕ). below k) (first-same (fails number G p i u) (tells marks number) period (λ x k. sym
+        (told o x k)))
+        ∙ w .some o;
+    told = told;
+  }
+    where
+      below : ℕ → Bool
+      below k = ltb k period
 
 -- A NODE whose bytes were judged: it is not the border, and its profile is a number at each tick
+bits : (l s f : Bool)
+    → (not (eqb (bitAnd (bitXor (byteOf l s f) 6) 8) 0) ≡ false)
+    × (not (eqb (bitAnd (bitXor (byteOf l s f) 6) 1) 0) ≡ l)
+    × (not (eqb (bitAnd (bitXor (byteOf l s f) 6) 2) 0) ≡ not s)
+    × (not (eqb (bitAnd (bitXor (byteOf l s f) 6) 4) 0) ≡ not f)
+unfolding byteOf digit
+bits true true true = (refl, refl, refl, refl)
+bits true true false = (refl, refl, refl, refl)
+bits true false true = (refl, refl, refl, refl)
+bits true false false = (refl, refl, refl, refl)
+bits false true true = (refl, refl, refl, refl)
+bits false true false = (refl, refl, refl, refl)
+bits false false true = (refl, refl, refl, refl)
+bits false false false = (refl, refl, refl, refl)
+
 module _ {G : Partition} {p : Plan} {i u period : ℕ} {marks : List ℕ} (j : Judged G p i u period marks)
     (away : u ≢ borderAt G i) (number : ℕ → ℕ)
     (own : (x : ℕ) → profile (G .graph) p i u x ≡ ticks (number x)) where
-  no-home : (x : ℕ) → fails 21 G p i u x ≡ false
-  unfolding fails
-  no-home x = rw (ne-eqb u (borderAt G i) away)
+  module _ (x : ℕ) (k : x < period) where
+    tells-21 : tells marks 21 x ≡ fails 21 G p i u x
+    unfolding tells fails
+    tells-21 = rw (j .at x k, ne-eqb u (borderAt G i) away) (bits _ _ _ .0)
 
-  is-22 : (x : ℕ) → fails 22 G p i u x ≡ fails22 G p i u x
-  unfolding fails
-  is-22 x = refl
+    tells-22 : tells marks 22 x ≡ fails 22 G p i u x
+    unfolding tells fails
+    tells-22 = rw (j .at x k) (bits _ _ _ .1)
 
-  is-23 : (x : ℕ) → fails 23 G p i u x ≡ not (given G p all i u x)
-  unfolding fails
-  is-23 x = rw (own x, ne-eqb u (borderAt G i) away)
+    tells-23 : tells marks 23 x ≡ fails 23 G p i u x
+    unfolding tells fails
+    tells-23 = rw (j .at x k, own x, ne-eqb u (borderAt G i) away) (bits _ _ _ .2)
 
-  is-24 : (x : ℕ) → not (given G p all i u x) ≡ false
-      → fails 24 G p i u x ≡ not (given G p (towards G p (borderAt G i)) i u x)
-  unfolding fails
-  is-24 x e = rw (own x) (go (given G p all i u x) e)
-    where
-      go : (b : Bool) → not b ≡ false
-          → (b && not (given G p (towards G p (borderAt G i)) i u x))
-          ≡ not (given G p (towards G p (borderAt G i)) i u x)
-      go true e = refl
-      go false e = let y : _≡_ {A = ℕ} 0 1 = cc in absurd (omega arith)
+    is-23 : fails 23 G p i u x ≡ not (given G p all i u x)
+    unfolding fails
+    is-23 = rw (own x, ne-eqb u (borderAt G i) away)
 
-  first-tick : (n t : ℕ) (q : ℕ → Bool) → any period q ≡ true → t ≡ first period q
-      → ((x : ℕ) → x < period → fails n G p i u x ≡ q x) → FirstTick G p i u period n t
-  first-tick n t q a e f =
-      let l : first period q < period = ltb-true (first period q) period a in
-      rw e (record {
-        within = l;
-        at = f (first period q) l ∙ found q period l;
-        before = λ y h. f y (omega arith) ∙ least q period y h;
-      })
+    -- where 23 does not fail, some arc gives the number
+    tells-24 : fails 23 G p i u x ≡ false → tells marks 24 x ≡ fails 24 G p i u x
+    unfolding tells fails
+    tells-24 e =
+        rw (j .at x k, own x)
+        (bits _ _ _ .3 ∙ go (given G p all i u x) (not (given G p (towards G p (borderAt G i)) i u x))
+        (sym is-23 ∙ e))
+      where
+        go : (b c : Bool) → not b ≡ false → c ≡ (b && c)
+        go true c f = refl
+        go false c f = let y : _≡_ {A = ℕ} 0 1 = cc in absurd (omega arith)
 
-  pub judged-lowest : {v : Verdict} → Marked marks period v → Lowest G p i u period 25 v
-  judged-lowest {v} m =
-      let b = m .is (fails22 G p i u) (given G p all i u) (given G p (towards G p (borderAt G i)) i u) (j
-      .at) in
-      record {
-        low = omega (arith, b .low);
-        passed = λ n x lo hi o k. each-test (λ n. n < v .number → fails n G p i u x ≡ false) n lo (omega
-            arith)
-            (λ _. no-home x)
-            (λ o. is-22 x ∙ any-clear _ period .0 (b .no-less o) x k)
-            (λ o. is-23 x ∙ any-clear _ period .0 (b .attained o) x k)
-            (λ o.
-            is-24 x (any-clear (λ y. not (given G p all i u y)) period .0 (b .attained (omega arith)) x k)
-            ∙ any-clear (λ y. not (given G p (towards G p (borderAt G i)) i u y)) period .0
-            (b .flagged o) x k)
-            o;
-        found = λ o. found-at b o;
-      }
-    where
-      found-at : By period (fails22 G p i u) (λ x. not (given G p all i u x))
-          (λ x. not (given G p (towards G p (borderAt G i)) i u x)) v
-          → v .number < 25 → FirstTick G p i u period (v .number) (v .tick)
-      found-at b o = elim (ℕ-discrete (v .number) 22) [
-        | yes e ↦ rw e (first-tick 22 (v .tick) _ (b .at-22 e .0) (b .at-22 e .1) (λ x _. is-22 x))
-        | no e ↦
-            elim (ℕ-discrete (v .number) 23) [
-              | yes f ↦ rw f (first-tick 23 (v .tick) _ (b .at-23 f .0) (b .at-23 f .1) (λ x _. is-23 x))
-              | no f ↦
-                  let g : v .number ≡ 24 = omega (arith, b .low, e, f) in
-                  rw g (first-tick 24 (v .tick) _ (b .at-24 g .0) (b .at-24 g .1)
-                  (λ x k. is-24 x
-                  (any-clear (λ y. not (given G p all i u y)) period .0 (b .attained (omega arith)) x k)))
-            ]
-      ]
+  pub judged-telling : Telling G p i u period marks
+  judged-telling = record {
+    is = λ n x lo hi k before.
+        each-test
+        (λ n. ((m y : ℕ) → 21 ≤ m → m < n → y < period → fails m G p i u y ≡ false)
+        → tells marks n x ≡ fails n G p i u x)
+        n lo hi (λ _. tells-21 x k) (λ _. tells-22 x k) (λ _. tells-23 x k)
+        (λ b. tells-24 x k (b 23 x (omega arith) (omega arith) k)) before;
+  }

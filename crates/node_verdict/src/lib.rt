@@ -1,6 +1,6 @@
-// node_verdict: the lowest of the tests 21 to 24 that fails at a node towards one border, and the first tick
-// at which it does: of the border itself by the runs of its own profile, of a node without points by its
-// arcs' heads, and of any other by the bytes that `node_runs` leaves for its ticks.
+// node_verdict: the lowest of the tests 21 to 24 that fails at a node towards one border, by a byte for each
+// tick that also tells at which ticks it does: of the border itself by the runs of its own profile, of a node
+// without points by its arcs' heads, and of any other as `node_runs` leaves it.
 // It may call `node_runs` to judge a node, `profile_runs` for runs, `network`, `plan` and `search_arcs` to
 // read files and tables; it cites `plan_tests` for the tests, `plan_values`, `arc_runs`, `day_runs`,
 // `theory_loops` and `theory_paths`.
@@ -15,6 +15,7 @@ ghost use mathlib.Core.Path.{_≡_};
 ghost use mathlib.Core.Logic.{_≢_};
 ghost use Prim.Native.Nat.{_+_, _*_, _^_, _≤_, _<_};
 ghost use lib.ListN.{length};
+ghost use Rattle.theory_loops.specs.Fill.{Filled};
 ghost use Rattle.theory_loops.specs.First;
 ghost use Rattle.network.specs.Decode.{decode};
 ghost use Rattle.network.specs.Network.{arcs, tail};
@@ -26,24 +27,50 @@ ghost use Rattle.plan.specs.PlanDecode.{decodePlan};
 ghost use Rattle.plan_values.specs.Formed.{Formed};
 ghost use Rattle.plan_values.specs.Starts.{Started};
 ghost use Rattle.day_runs.specs.Filling.{Space};
+ghost use Rattle.day_runs.specs.Runs.{Grid};
 ghost use Rattle.arc_runs.specs.Brief.{Briefs};
 ghost use Rattle.plan_tests.specs.Checkable.{Checkable};
 ghost use Rattle.plan_tests.specs.Failing.{AtBorder};
 ghost use Rattle.plan_tests.specs.Finds.{nodeFinds};
 ghost use Rattle.node_runs.specs.Ready.{Rooms, Lows};
-ghost use Rattle.node_verdict.specs.Lowest.{Lowest, Tallied};
+ghost use Rattle.node_verdict.specs.Lowest.{bitOf, tells, Lowest, Tallied};
 ghost use Rattle.node_verdict.specs.Blank.{ahead};
-ghost use Rattle.node_verdict.specs.Home.{raised, AtHome};
-ghost use Rattle.node_verdict.specs.Marks.{offs, isOff, Marked};
-
-// The number of a test and a tick; 25 where no test fails.
-pub struct Verdict {
-    pub number: u32,
-    pub tick: usize,
-}
+ghost use Rattle.node_verdict.specs.Home.{homeByte, Painted, AtHome};
+ghost use Rattle.node_verdict.specs.Marks.{offs, Marked};
 
 // After the last of the tests: none fails.
 pub const NONE: u32 = number::CHECK_NO_FLAG + 1;
+
+// A tick's byte: no test fails; 21 does; 22 does.
+const PASSED: u8 = 6;
+
+const RAISED: u8 = 14;
+
+const UNDERCUT: u8 = 7;
+
+// The bit of a test, which differs from that of 6 where the test fails.
+fn bit_of(number: u32) -> u8
+    ensures { λ r. ⌜ r ≡ bitOf number ⌝ }
+{
+    if number == number::CHECK_BORDER {
+        return 8;
+    }
+    if number == number::CHECK_LESS {
+        return 1;
+    }
+    if number == number::CHECK_NO_ROAD {
+        return 2;
+    }
+    4
+}
+
+// Does the test with this number fail at a tick, by the tick's byte?
+pub fn fails_at(marks: &[u8], number: u32, tick: usize) -> bool
+    requires { ⌜ tick < length (now marks) ⌝ }
+    ensures { λ r. ⌜ r ≡ tells (now (marks .entry)) number tick ⌝ }
+{
+    (marks[tick] ^ PASSED) & bit_of(number) != 0
+}
 
 // The bits in which any of the first bytes is not as 6.
 fn off_bits(marks: &[u8], period: usize) -> u8
@@ -52,65 +79,66 @@ fn off_bits(marks: &[u8], period: usize) -> u8
 {
     let mut off = 0u8;
     for x in 0..period {
-        off = off | (marks[x] ^ 6);
+        off = off | (marks[x] ^ PASSED);
     }
     off
 }
 
-// The first byte at which a bit is not as in 6.
-fn first_off(marks: &[u8], period: usize, bit: u8) -> usize
-    requires { ⌜ period ≤ length (now marks) ⌝ }
-    ensures { λ r. ⌜ r ≡ First.first period (isOff (now (marks .entry)) bit) ⌝ }
-{
-    for x in 0..period {
-        if (marks[x] ^ 6) & bit != 0 {
-            return x;
-        }
-    }
-    period
-}
-
-// The lowest test that fails at a node whose bytes have the answers for each tick.
-fn judge_marks(marks: &[u8], period: usize) -> Verdict
+// The lowest test that fails at any tick, by the ticks' bytes.
+fn judge_marks(marks: &[u8], period: usize) -> u32
     requires { ⌜ period ≤ length (now marks) ⌝ }
     ensures { λ r. ⌜ Marked (now (marks .entry)) period r ⌝ }
 {
     let off = off_bits(marks, period);
+    if off & 8 != 0 {
+        return number::CHECK_BORDER;
+    }
     if off & 1 != 0 {
-        return Verdict {
-            number: number::CHECK_LESS,
-            tick: first_off(marks, period, 1),
-        };
+        return number::CHECK_LESS;
     }
     if off & 2 != 0 {
-        return Verdict {
-            number: number::CHECK_NO_ROAD,
-            tick: first_off(marks, period, 2),
-        };
+        return number::CHECK_NO_ROAD;
     }
     if off & 4 != 0 {
-        return Verdict {
-            number: number::CHECK_NO_FLAG,
-            tick: first_off(marks, period, 4),
-        };
+        return number::CHECK_NO_FLAG;
     }
-    Verdict {
-        number: NONE,
-        tick: 0,
+    NONE
+}
+
+// Gives the ticks from a up to b one byte.
+fn fill(marks: &mut [u8], a: usize, b: usize, byte: u8)
+    requires { ⌜ (a ≤ b) × (b ≤ length (now marks)) ⌝ }
+    ensures { λ _. ⌜ Filled a b (λ _. byte) (now (marks .entry)) (now (marks .exit)) ⌝ }
+{
+    for x in a..b {
+        marks[x] = byte;
     }
 }
 
-// The first of n values that is not 0; n where there is none.
-fn first_raised(values: &[u32], n: usize) -> usize
-    requires { ⌜ n ≤ length (now values) ⌝ }
-    ensures { λ r. ⌜ r ≡ First.first n (raised (now (values .entry))) ⌝ }
+// The byte of the ticks at which the border's own profile has this value.
+fn home_byte(value: u32) -> u8
+    ensures { λ r. ⌜ r ≡ homeByte value ⌝ }
+{
+    if value == 0 {
+        return PASSED;
+    }
+    RAISED
+}
+
+// Gives each tick of a day its byte, by the runs of the border's own profile.
+fn mark_runs(starts: &[u16], values: &[u32], n: usize, period: usize, marks: &mut [u8])
+    requires { ⌜ Grid (now starts) n period ⌝ }
+    requires { ⌜ (n < length (now starts)) × (n ≤ length (now values)) × (period ≤ length (now marks)) ⌝ }
+    ensures { λ _. ⌜ Painted (now (starts .entry)) (now (values .entry)) n (now (marks .exit)) ⌝ }
 {
     for k in 0..n {
-        if values[k] != 0 {
-            return k;
-        }
+        fill(
+            marks,
+            wide(starts[k]),
+            wide(starts[k + 1]),
+            home_byte(values[k]),
+        );
     }
-    n
 }
 
 // Does an arc out of a node lead to one that has points towards border number i?
@@ -142,7 +170,7 @@ fn is_ahead(
     false
 }
 
-// What is told of a node without points, which is not the border.
+// Judges a node without points, which is not the border.
 fn judge_blank(
     network: &[u8],
     plan: &[u8],
@@ -151,30 +179,27 @@ fn judge_blank(
     next: &[u16; MOST_ARCS],
     i: usize,
     node: usize,
-) -> Verdict
+    marks: &mut [u8],
+) -> u32
     requires { ⌜ Checkable (now network) (now plan) l ⌝ }
     requires { ⌜ Chained (tail (decode (now network))) (l .network .nodes) (l .network .arcs) 0
         (now first) (now next) ⌝ }
     requires { ⌜ (i < l .plan .borders) × (node < l .network .nodes)
         × (pointCount (decodePlan (now plan)) (i * l .plan .nodes + node) ≡ 0)
         × (node ≢ borderAt (partitionOf (decode (now network))) i) ⌝ }
+    requires { ⌜ l .network .period ≤ length (now marks) ⌝ }
     ensures { λ r. ⌜ Lowest (partitionOf (decode (now (network .entry)))) (decodePlan (now (plan .entry)))
-        i node (l .network .period) 25 r ⌝ }
+        i node (l .network .period) 25 r (now (marks .exit)) ⌝ }
 {
     if is_ahead(network, plan, l, first, next, i, node) {
-        return Verdict {
-            number: number::CHECK_LESS,
-            tick: 0,
-        };
+        fill(marks, 0, l.network.period, UNDERCUT);
+        return number::CHECK_LESS;
     }
-    Verdict {
-        number: NONE,
-        tick: 0,
-    }
+    NONE
 }
 
-// What is told of the border itself, border number i and node u, by its own profile.
-fn judge_home(
+// Gives each tick its byte at the border itself, border number i and node u, by its own profile.
+fn mark_home(
     plan: &[u8],
     l: PlanLayout,
     firsts: &[u32; MOST_NODES],
@@ -182,39 +207,28 @@ fn judge_home(
     u: usize,
     so: &mut [u16],
     vo: &mut [u32],
+    marks: &mut [u8],
     finds: &mut u64,
-) -> Verdict
+)
     requires { ⌜ Formed (now plan) l ⌝ }
     requires { ⌜ Started (now plan) l i (now firsts) ⌝ }
     requires { ⌜ (i < l .borders) × (u < l .nodes) ⌝ }
-    requires { ⌜ Space (now so) (now vo) (l .period) ⌝ }
+    requires { ⌜ Space (now so) (now vo) (l .period) × (l .period ≤ length (now marks)) ⌝ }
     requires { ⌜ now finds + pointCount (decodePlan (now plan)) (i * l .nodes + u) < 2 ^ 64 ⌝ }
-    ensures { λ r. ⌜ AtHome (profileValue (l .period) (decodePlan (now (plan .entry))) (i * l .nodes + u))
-        (l .period) r
+    ensures { λ _. ⌜ AtHome (profileValue (l .period) (decodePlan (now (plan .entry))) (i * l .nodes + u))
+        (l .period) (now (marks .exit))
         × (now (finds .exit) ≡ now (finds .entry)
         + pointCount (decodePlan (now (plan .entry))) (i * l .nodes + u)) ⌝ }
 {
     if plan::read::point_count(plan, l, i * l.nodes + u) == 0 {
-        return Verdict {
-            number: number::CHECK_BORDER,
-            tick: 0,
-        };
+        fill(marks, 0, l.period, RAISED);
+        return;
     }
     let n = profile_runs::fill_profile(plan, l, firsts, i, u, so, vo, finds);
-    let k = first_raised(vo, n);
-    if k < n {
-        return Verdict {
-            number: number::CHECK_BORDER,
-            tick: wide(so[k]),
-        };
-    }
-    Verdict {
-        number: NONE,
-        tick: 0,
-    }
+    mark_runs(so, vo, n, l.period, marks);
 }
 
-// What is told of a node, among the tests with numbers below the limit.
+// The lowest test below the limit that fails at a node; its ticks are told by `marks`.
 pub fn judge(
     limit: u32,
     network: &[u8],
@@ -236,7 +250,7 @@ pub fn judge(
     vh: &mut [u32],
     marks: &mut [u8],
     finds: &mut u64,
-) -> Verdict
+) -> u32
     requires { ⌜ AtBorder (now network) (now plan) l (now points) (now first) (now next) (now firsts)
         target ⌝ }
     requires { ⌜ Briefs (decode (now network)) (l .network .period) (l .network .arcs) (now briefs)
@@ -247,23 +261,31 @@ pub fn judge(
     requires { ⌜ now finds + nodeFinds (decode (now network)) (decodePlan (now plan)) (target .number) node
         < 2 ^ 64 ⌝ }
     ensures { λ r. ⌜ Lowest (partitionOf (decode (now (network .entry)))) (decodePlan (now (plan .entry)))
-        (target .number) node (l .network .period) limit r
+        (target .number) node (l .network .period) limit r (now (marks .exit))
         × Tallied limit
         (pointCount (decodePlan (now (plan .entry))) (target .number * l .plan .nodes + node))
         (nodeFinds (decode (now (network .entry))) (decodePlan (now (plan .entry))) (target .number) node)
         (now (finds .entry)) (now (finds .exit)) ⌝ }
 {
     if node == target.node {
-        return judge_home(plan, l.plan, firsts, target.number, node, so, vo, finds);
+        mark_home(
+            plan,
+            l.plan,
+            firsts,
+            target.number,
+            node,
+            so,
+            vo,
+            marks,
+            finds,
+        );
+        return judge_marks(marks, l.network.period);
     }
     if limit <= number::CHECK_LESS {
-        return Verdict {
-            number: NONE,
-            tick: 0,
-        };
+        return NONE;
     }
     if plan::read::point_count(plan, l.plan, target.number * l.plan.nodes + node) == 0 {
-        return judge_blank(network, plan, l, first, next, target.number, node);
+        return judge_blank(network, plan, l, first, next, target.number, node, marks);
     }
     node_runs::judge_node(
         network,

@@ -58,6 +58,23 @@ pub record Lent (firsts lows so vo sa va sh vh marks : List ℕ) : Type 0 where
   pub head-v : length vh ≡ mostPeriod
   pub bytes : length marks ≡ mostPeriod
 
+pub lent-same : {firsts lows so vo sa va sh vh marks firsts' lows' so' vo' sa' va' sh' vh' marks' : List ℕ}
+    → Lent firsts lows so vo sa va sh vh marks → length firsts' ≡ length firsts → length lows' ≡ length lows
+    → length so' ≡ length so → length vo' ≡ length vo → length sa' ≡ length sa → length va' ≡ length va
+    → length sh' ≡ length sh → length vh' ≡ length vh → length marks' ≡ length marks
+    → Lent firsts' lows' so' vo' sa' va' sh' vh' marks'
+lent-same r a b c d e f g h i = record {
+  starts = a ∙ r .starts;
+  least = b ∙ r .least;
+  own-s = c ∙ r .own-s;
+  own-v = d ∙ r .own-v;
+  arc-s = e ∙ r .arc-s;
+  arc-v = f ∙ r .arc-v;
+  head-s = g ∙ r .head-s;
+  head-v = h ∙ r .head-v;
+  bytes = i ∙ r .bytes;
+}
+
 pub lent-rooms : {firsts lows so vo sa va sh vh marks : List ℕ} {period : ℕ}
     → Lent firsts lows so vo sa va sh vh marks → period ≤ mostPeriod → Rooms period sa va sh vh marks
 lent-rooms r h = record {

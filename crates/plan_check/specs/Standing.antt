@@ -3,20 +3,21 @@
 -- at each, so that a lower number takes the place of the one found before, and the same number does not.
 use mathlib.Core.Path.{_≡_, refl, sym, _∙_, ap}
 use mathlib.Core.Logic.{_⊎_, inl, inr}
-use mathlib.Core.Bool.{false, cond}
+use mathlib.Core.Bool.{Bool, true, false, cond}
+use mathlib.Core.List.{List}
 use Prim.Native.Nat.{ℕ, zero, suc, _+_, _-_, _≤_, _<_}
 use native.Mathlib.Decide.{ℕ-discrete, decLt}
 use native.Mathlib.Omega.{arith}
 use lib.Dec.{ltb}
 use borrow.Author.Tests.{lt-ltb, le-ltb}
+use Rattle.theory_loops.specs.First.{first, clear, any-found}
 use Rattle.theory_loops.specs.Triple.{triple-found}
 use Rattle.theory_paths.specs.Partition.{Partition}
 use Rattle.plan.specs.Border.{borderCount}
 use Rattle.plan.specs.Plan.{Plan}
 use Rattle.plan_tests.specs.Tests.{fails}
 use Rattle.plan_tests.specs.Meaning.{Nowhere}
-use Rattle.node_verdict.specs.declared.Verdict.{Verdict}
-use Rattle.node_verdict.specs.Lowest.{FirstTick, Lowest}
+use Rattle.node_verdict.specs.Lowest.{tells, Lowest}
 use Rattle.plan_check.specs.declared.answer.Checking.{Checking}
 use Rattle.plan_check.specs.declared.answer.Checking.the-variants.{Accepted}
 use Rattle.plan_check.specs.declared.judge.Found.{Found}
@@ -27,28 +28,19 @@ use Rattle.plan_check.specs.Exact.{nowhere-rung}
 abbrev pub Before : ℕ → ℕ → ℕ → ℕ → Type 0
 Before i u j v = (j < i) ⊎ ((j ≡ i) × (v < u))
 
+-- the test with this number fails at tick x, and at none before
+pub record FirstTick (G : Partition) (p : Plan) (i u number x : ℕ) : Type 0 where
+  pub within : x < G .graph .period
+  pub at : fails number G p i u x ≡ true
+  pub before : (y : ℕ) → y < x → fails number G p i u y ≡ false
+
 -- the first place at which the test that was found fails
 pub record FirstPlace (G : Partition) (p : Plan) (f : Found) : Type 0 where
   pub border : f .border < borderCount G
   pub node : f .node < G .graph .nodes
-  pub tick : FirstTick G p (f .border) (f .node) (G .graph .period) (f .number) (f .tick)
+  pub tick : FirstTick G p (f .border) (f .node) (f .number) (f .tick)
   pub before : (j v x : ℕ) → Before (f .border) (f .node) j v → v < G .graph .nodes → x < G .graph .period
       → fails (f .number) G p j v x ≡ false
-
--- what was found before, or what is told of a node, where its number is lower
-unfoldable pub lowerOf : Found → Verdict → ℕ → ℕ → Found
-lowerOf f v i u =
-    cond (ltb (v .number) (f .number))
-    (record { number = v .number; border = i; node = u; tick = v .tick }) f
-
-pub lower-told : (f : Found) (v : Verdict) (i u : ℕ) → v .number < f .number
-    → record { number = v .number; border = i; node = u; tick = v .tick } ≡ lowerOf f v i u
-unfolding lowerOf
-lower-told f v i u h = rw (lt-ltb (v .number) (f .number) h)
-
-pub lower-found : (f : Found) (v : Verdict) (i u : ℕ) → f .number ≤ v .number → f ≡ lowerOf f v i u
-unfolding lowerOf
-lower-found f v i u h = rw (le-ltb (v .number) (f .number) h)
 
 -- all that comes before border number i and node u is judged
 pub record Stands (G : Partition) (p : Plan) (i u : ℕ) (f : Found) : Type 0 where
@@ -72,50 +64,69 @@ module _ {G : Partition} {p : Plan} where
       none (inr (e, l)) = absurd (omega arith)
 
   module _ {i u : ℕ} {f : Found} (s : Stands G p i u f) where
-    -- one node more
-    module _ {v : Verdict} (w : Lowest G p i u (G .graph .period) (f .number) v) where
-      more : (number j y x : ℕ) → 21 ≤ number → number < f .number → number < v .number → Before i (u + 1) j y
-          → y < G .graph .nodes → x < G .graph .period → fails number G p j y x ≡ false
-      more n j y x lo hi o (inl l) m k = s .passed n j y x lo hi (inl l) m k
-      more n j y x lo hi o (inr (e, l)) m k = elim (decLt y u) [
-        | yes q ↦ s .passed n j y x lo hi (inr (e, q)) m k
+    -- one node more, of which a number is told
+    module _ {number : ℕ} {marks : List ℕ}
+        (w : Lowest G p i u (G .graph .period) (f .number) number marks) where
+      more : (m j y x : ℕ) → 21 ≤ m → m < f .number → m < number → Before i (u + 1) j y
+          → y < G .graph .nodes → x < G .graph .period → fails m G p j y x ≡ false
+      more m j y x lo hi o (inl l) n k = s .passed m j y x lo hi (inl l) n k
+      more m j y x lo hi o (inr (e, l)) n k = elim (decLt y u) [
+        | yes q ↦ s .passed m j y x lo hi (inr (e, q)) n k
         | no q ↦
             let z : y ≡ u = omega arith in
-            rw (e, z) (w .passed n x lo hi o k)
+            rw (e, z) (w .passed m x lo hi o k)
       ]
 
-      kept : f .number ≤ v .number → Stands G p i (u + 1) f
-      kept h = record {
+      pub stands-kept : f .number ≤ number → Stands G p i (u + 1) f
+      stands-kept h = record {
         low = s .low;
         high = s .high;
-        passed = λ n j y x lo hi q m k. more n j y x lo hi (omega arith) q m k;
+        passed = λ m j y x lo hi q n k. more m j y x lo hi (omega arith) q n k;
         found = s .found;
       }
 
-      lower : v .number < f .number → i < borderCount G → u < G .graph .nodes
-          → Stands G p i (u + 1)
-          (record { number = v .number; border = i; node = u; tick = v .tick })
-      lower h b l = record {
-        low = w .low;
-        high = omega (arith, s .high);
-        passed = λ n j y x lo hi q m k. more n j y x lo (omega arith) hi q m k;
-        found = λ o. record {
-          border = b;
-          node = l;
-          tick = w .found h;
-          before = λ j y x q m k. s .passed (v .number) j y x (w .low) h q m k;
-        };
-      }
+      module _ (h : number < f .number) {x : ℕ} (none : first x (tells marks number) ≡ x) where
+        -- its ticks were passed up to x, at which it fails
+        first-tick : x < G .graph .period → tells marks number x ≡ true → FirstTick G p i u number x
+        first-tick l t = record {
+          within = l;
+          at = sym (w .told h x l) ∙ t;
+          before = λ y m. sym (w .told h y (omega arith)) ∙ clear (tells marks number) x none y m;
+        }
 
-      pub stands-more : {r : Found} → r ≡ lowerOf f v i u → i < borderCount G → u < G .graph .nodes
-          → Stands G p i (u + 1) r × (r .number ≤ f .number)
-      unfolding lowerOf
-      stands-more {r} e b l = elim (decLt (v .number) (f .number)) [
-        | yes h ↦
-            rw (e, lt-ltb (v .number) (f .number) h) (lower h b l, omega arith)
-        | no h ↦
-            rw (e, le-ltb (v .number) (f .number) (omega arith)) (kept (omega arith), omega arith)
-      ]
+        pub stands-lower : i < borderCount G → u < G .graph .nodes → x < G .graph .period
+            → tells marks number x ≡ true
+            → Stands G p i (u + 1) (record { number = number; border = i; node = u; tick = x })
+        stands-lower b l k t = record {
+          low = w .low;
+          high = omega (arith, s .high);
+          passed = λ m j y z lo hi q n o. more m j y z lo (omega arith) hi q n o;
+          found = λ o. record {
+            border = b;
+            node = l;
+            tick = first-tick k t;
+            before = λ j y z q n o. s .passed number j y z (w .low) h q n o;
+          };
+        }
+
+        -- it fails at some tick, so not all are passed
+        pub some-tick : G .graph .period ≤ x → ⊥
+        some-tick l =
+            let (y, m, t) = any-found (fails number G p i u) (G .graph .period) (w .some h) in
+            clash (tells marks number y) (w .told h y m ∙ t)
+            (clear (tells marks number) x none y (omega arith))
+          where
+            clash : (b : Bool) → b ≡ true → b ≡ false → ⊥
+            clash b e g = let z : _≡_ {A = ℕ} 0 1 = cc in omega arith
+
+    -- behind the lowest nothing is left to look for
+    pub stands-least : f .number ≤ 21 → (j : ℕ) → Stands G p j 0 f
+    stands-least e j = record {
+      low = s .low;
+      high = s .high;
+      passed = λ m k y x lo hi q n o. absurd (omega arith);
+      found = s .found;
+    }
 
     -- all nodes of a border
     pub stands-row : G .graph .nodes ≤ u → Stands G p (i + 1) 0 f

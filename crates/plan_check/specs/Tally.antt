@@ -3,7 +3,7 @@
 use mathlib.Core.Path.{_≡_, refl, sym, _∙_, ap}
 use mathlib.Core.Bool.{Bool, true, false, cond}
 use mathlib.Core.List.{List}
-use Prim.Native.Nat.{ℕ, _+_, _-_, _*_, _≤_, _<_}
+use Prim.Native.Nat.{ℕ, zero, suc, _+_, _-_, _*_, _≤_, _<_}
 use native.Mathlib.Decide.{ℕ-discrete}
 use native.Mathlib.Omega.{arith}
 use lib.Dec.{eqb, ltb}
@@ -48,6 +48,14 @@ module _ (n : Network) (p : Plan) where
       up = omega arith;
       no-more = omega arith;
       no-fewer = λ _. omega (arith, total-none (λ v. pointCount p (i * nodes n + v)));
+    }
+
+    -- once a test fails, no points have to be met
+    row-idle : (number finds : ℕ) → number < 25 → Row n p i (nodes n) number finds finds
+    row-idle number finds h = record {
+      up = omega arith;
+      no-more = omega arith;
+      no-fewer = λ e. absurd (omega arith);
     }
 
     module _ {u number before mid : ℕ} (r : Row n p i u number before mid) where
@@ -135,6 +143,22 @@ module _ (n : Network) (p : Plan) where
 
             at-first : (j : ℕ) → (j ≡ i → ⊥) → both j ≡ t .each j
             at-first j e = rw (ne-eqb j i e)
+
+  -- the borders behind one are left out, once a test fails
+  module _ (joined : (a : ℕ) → a < arcs n → tail n a < nodes n) where
+    tally-rest : (k i number finds : ℕ) → Tally n p i number finds → number < 25
+        → Tally n p (i + k) number finds
+    tally-rest zero i number finds t h = let e : i + 0 ≡ i = omega arith in rw e t
+    tally-rest (suc k) i number finds t h =
+        let e : i + suc k ≡ i + 1 + k = omega arith in
+        rw e (tally-rest k (i + 1) number finds
+        (tally-more joined t (row-idle i number finds h) (omega arith) (omega arith)) h)
+
+    pub tally-least : {i number finds borders : ℕ} → Tally n p i number finds → number < 25 → i ≤ borders
+        → Tally n p borders number finds
+    tally-least {i} {number} {finds} {borders} t h l =
+        let e : i + (borders - i) ≡ borders = omega arith in
+        rw e at (tally-rest (borders - i) i number finds t h)
 
   -- ALL BORDERS are judged, and no test failed
   pub tally-enough : {borders finds : ℕ} → Tally n p borders 25 finds

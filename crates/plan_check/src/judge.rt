@@ -1,35 +1,29 @@
 // The tests 21 to 24 at all borders, nodes and ticks, in one pass: the lowest that fails anywhere, and the
 // first place at which it does. Once a test fails, only those with lower numbers are looked for.
 use arc_runs::brief;
+use file_refusals::number::CHECK_BORDER;
 use network::header::Layout;
 use network::limits::MOST_ARCS;
 use network::limits::MOST_NODES;
 use network::limits::MOST_PERIOD;
 use node_verdict::NONE;
-use node_verdict::Verdict;
 use plan_tests::tests::Layouts;
 use plan_tests::tests::Target;
 use plan_values::starts;
 use search_arcs::wide;
 ghost use mathlib.Core.Path.{_≡_};
-ghost use Prim.Native.Nat.{_+_, _*_, _^_, _≤_, _<_};
-ghost use lib.ListN.{length};
-ghost use Rattle.theory_loops.specs.Total.{total};
+ghost use Prim.Native.Nat.{_<_};
 ghost use Rattle.network.specs.Decode.{decode};
 ghost use Rattle.network.specs.Limits.{mostNodes};
-ghost use Rattle.network.specs.Network.{nodes};
 ghost use Rattle.network.specs.Town.{partitionOf};
 ghost use Rattle.search_arcs.specs.Town.{Town};
 ghost use Rattle.plan.specs.Border.{borderCount, Listed};
 ghost use Rattle.plan.specs.PlanDecode.{decodePlan};
 ghost use Rattle.arc_runs.specs.Brief.{Briefs};
-ghost use Rattle.plan_tests.specs.Failing.{AtBorder};
-ghost use Rattle.plan_tests.specs.Finds.{nodeFinds};
 ghost use Rattle.plan_tests.specs.Giving.{Aimed};
-ghost use Rattle.node_runs.specs.Ready.{Rooms, Lows};
-ghost use Rattle.plan_check.specs.Finding.{Equipped};
-ghost use Rattle.plan_check.specs.Standing.{Stands, lowerOf};
-ghost use Rattle.plan_check.specs.Tally.{Row, Tally};
+ghost use Rattle.plan_check.specs.Finding.{Equipped, Lent};
+ghost use Rattle.plan_check.specs.Standing.{Stands};
+ghost use Rattle.plan_check.specs.Tally.{Tally};
 
 // The runs of a day, and the tick after the last of them.
 const RUN_ENDS: usize = MOST_PERIOD + 1;
@@ -57,24 +51,9 @@ fn target_at(network: &[u8], l: Layout, borders: &[u16; MOST_NODES], i: usize) -
     }
 }
 
-// What was found before, or what is told of a node, where its number is lower.
-fn lower_of(found: Found, told: Verdict, border: usize, node: usize) -> Found
-    ensures { λ r. ⌜ r ≡ lowerOf found told border node ⌝ }
-{
-    if told.number < found.number {
-        return Found {
-            number: told.number,
-            border,
-            node,
-            tick: told.tick,
-        };
-    }
-    found
-}
-
-// Judges all nodes towards a border, where those before it are judged.
-fn judge_border(
-    found: Found,
+// Goes over the borders, places and ticks. A number lower than any before is noted with the first tick at
+// which it fails there; behind a border at which the lowest fails nothing is looked for.
+fn first_failing(
     network: &[u8],
     plan: &[u8],
     l: Layouts,
@@ -82,9 +61,9 @@ fn judge_border(
     briefs: &[u8; MOST_ARCS],
     first: &[u16; MOST_NODES],
     next: &[u16; MOST_ARCS],
-    firsts: &[u32; MOST_NODES],
-    lows: &[u8; MOST_NODES],
-    target: Target,
+    borders: &[u16; MOST_NODES],
+    firsts: &mut [u32; MOST_NODES],
+    lows: &mut [u8; MOST_NODES],
     so: &mut [u16],
     vo: &mut [u32],
     sa: &mut [u16],
@@ -94,52 +73,76 @@ fn judge_border(
     marks: &mut [u8],
     finds: &mut u64,
 ) -> Found
-    requires { ⌜ AtBorder (now network) (now plan) l (now points) (now first) (now next) (now firsts)
-        target ⌝ }
-    requires { ⌜ Briefs (decode (now network)) (l .network .period) (l .network .arcs) (now briefs)
-        × Lows (now plan) (l .plan) (target .number) (l .plan .nodes) (now lows) ⌝ }
-    requires { ⌜ (l .network .period < length (now so)) × (l .network .period ≤ length (now vo)) ⌝ }
-    requires { ⌜ Rooms (l .network .period) (now sa) (now va) (now sh) (now vh) (now marks) ⌝ }
-    requires { ⌜ Stands (partitionOf (decode (now network))) (decodePlan (now plan)) (target .number) 0
-        found ⌝ }
-    requires { ⌜ now finds + total (nodes (decode (now network)))
-        (nodeFinds (decode (now network)) (decodePlan (now plan)) (target .number)) < 2 ^ 64 ⌝ }
+    requires { ⌜ Equipped (now network) (now plan) l (now points) (now first) (now next) (now borders) ⌝ }
+    requires { ⌜ Briefs (decode (now network)) (l .network .period) (l .network .arcs) (now briefs) ⌝ }
+    requires { ⌜ Lent (now firsts) (now lows) (now so) (now vo) (now sa) (now va) (now sh) (now vh)
+        (now marks) ⌝ }
+    requires { ⌜ now finds ≡ 0 ⌝ }
     ensures { λ r. ⌜ Stands (partitionOf (decode (now (network .entry)))) (decodePlan (now (plan .entry)))
-        (target .number + 1) 0 r × (r .number ≤ found .number)
-        × Row (decode (now (network .entry))) (decodePlan (now (plan .entry))) (target .number)
-        (nodes (decode (now (network .entry)))) (r .number) (now (finds .entry)) (now (finds .exit)) ⌝ }
+        (l .plan .borders) 0 r
+        × Tally (decode (now (network .entry))) (decodePlan (now (plan .entry))) (l .plan .borders)
+        (r .number) (now (finds .exit)) ⌝ }
 {
-    let count = l.network.nodes;
-    let mut best = found;
-    for node in 0..count {
-        let told = node_verdict::judge(
-            best.number,
-            network,
-            plan,
-            l,
-            points,
-            briefs,
-            first,
-            next,
-            firsts,
-            lows,
-            target,
-            node,
-            so,
-            vo,
-            sa,
-            va,
-            sh,
-            vh,
-            marks,
-            finds,
-        );
-        best = lower_of(best, told, target.number, node);
+    let count = l.plan.borders;
+    let places = l.network.nodes;
+    let period = l.network.period;
+    let mut from = 0;
+    let mut best = Found {
+        number: NONE,
+        border: 0,
+        node: 0,
+        tick: 0,
+    };
+    'borders: for i in 0..count {
+        from = starts::profile_starts(plan, l.plan, i, from, firsts);
+        node_runs::fill_lows(plan, l.plan, firsts, i, lows);
+        let target = target_at(network, l.network, borders, i);
+        'places: for node in 0..places {
+            let number = node_verdict::judge(
+                best.number,
+                network,
+                plan,
+                l,
+                points,
+                briefs,
+                first,
+                next,
+                firsts,
+                lows,
+                target,
+                node,
+                so,
+                vo,
+                sa,
+                va,
+                sh,
+                vh,
+                marks,
+                finds,
+            );
+            if best.number <= number {
+                continue 'places;
+            }
+            'ticks: for tick in 0..period {
+                if node_verdict::fails_at(marks, number, tick) {
+                    best = Found {
+                        number,
+                        border: i,
+                        node,
+                        tick,
+                    };
+                    continue 'places;
+                }
+            }
+        }
+        if best.number <= CHECK_BORDER {
+            break 'borders;
+        }
     }
     best
 }
 
-// Judges all borders.
+// Judges all borders, over tables that are filled once and room that is used again.
 pub fn judge_borders(
     network: &[u8],
     plan: &[u8],
@@ -157,7 +160,6 @@ pub fn judge_borders(
         × Tally (decode (now (network .entry))) (decodePlan (now (plan .entry))) (l .plan .borders)
         (r .number) (now (finds .exit)) ⌝ }
 {
-    let count = l.plan.borders;
     let mut briefs = [0u8; MOST_ARCS];
     brief::fill_briefs(network, l.network, points, &mut briefs);
     let mut firsts = [0u32; MOST_NODES];
@@ -169,38 +171,24 @@ pub fn judge_borders(
     let mut sh = [0u16; RUN_ENDS];
     let mut vh = [0u32; MOST_PERIOD];
     let mut marks = [0u8; MOST_PERIOD];
-    let mut from = 0;
-    let mut best = Found {
-        number: NONE,
-        border: 0,
-        node: 0,
-        tick: 0,
-    };
-    for i in 0..count {
-        from = starts::profile_starts(plan, l.plan, i, from, &mut firsts);
-        node_runs::fill_lows(plan, l.plan, &firsts, i, &mut lows);
-        let target = target_at(network, l.network, borders, i);
-        best = judge_border(
-            best,
-            network,
-            plan,
-            l,
-            points,
-            &briefs,
-            first,
-            next,
-            &firsts,
-            &lows,
-            target,
-            &mut so,
-            &mut vo,
-            &mut sa,
-            &mut va,
-            &mut sh,
-            &mut vh,
-            &mut marks,
-            finds,
-        );
-    }
-    best
+    first_failing(
+        network,
+        plan,
+        l,
+        points,
+        &briefs,
+        first,
+        next,
+        borders,
+        &mut firsts,
+        &mut lows,
+        &mut so,
+        &mut vo,
+        &mut sa,
+        &mut va,
+        &mut sh,
+        &mut vh,
+        &mut marks,
+        finds,
+    )
 }

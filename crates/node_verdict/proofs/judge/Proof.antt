@@ -15,9 +15,9 @@ use borrow.Author.Needs.{needs}
 use Rattle.node_verdict.proofs.judge.Statement.{statement}
 use Rattle.node_verdict.proofs.judge.Tie as tie
 
-judge-home-requires : tie.Need-judge-home-requires
-judge-home-requires c κs = let s = c .before .before .before .before .before .before .before .before .before
-    .before .before .before .before .before in
+mark-home-requires : tie.Need-mark-home-requires
+mark-home-requires c κs = let s = c .before .before .before .before .before .before .before .before .before
+    .before .before .before .before .before .before in
     let w = s .pre .0 .prepared in
     let h = s .pre .1 .1 in
     let p = w .check .period in (
@@ -27,15 +27,29 @@ judge-home-requires c κs = let s = c .before .before .before .before .before .b
         (
           (w .number, omega (arith, h .0 .1, w .check .nodes)),
           (
-            record {
-              short = omega (arith, w .check .town .small .period-most, p);
-              in-s = omega (arith, h .1 .0 .0, p);
-              in-v = omega (arith, h .1 .0 .1, p);
-            },
+            (
+              record {
+                short = omega (arith, w .check .town .small .period-most, p);
+                in-s = omega (arith, h .1 .0 .0, p);
+                in-v = omega (arith, h .1 .0 .1, p);
+              },
+              omega (arith, h .1 .1 .0 .bytes, p),
+            ),
             own-room w _ _ (h .1 .1 .1),
           ),
         ),
       ),
+    )
+
+judge-marks-requires : tie.Need-judge-marks-requires
+judge-marks-requires c κs =
+    omega (
+      arith,
+      c .before .before .before .before .before .before .before .before .before .before .before
+          .before .before .before .before .before .before .before .before .before .before .before .before .pre
+          .1 .1 .1 .1 .0 .bytes,
+      c .before .before .before .before .before .before .before .mark-home .kept .1
+          .1 .1 .1 .1 .1 .1 .0,
     )
 
 same-length : tie.Need-same-length
@@ -44,12 +58,16 @@ same-length c = search needs
 same-length-2 : tie.Need-same-length-2
 same-length-2 c = search needs
 
+same-length-3 : tie.Need-same-length-3
+same-length-3 c = search needs
+
 returns : tie.Need-returns
 returns c = let s = c .before .before .before .before .before .before .before .before .before .before .before
-    .before .before .before .before .before .before .before .before in
-    let r = c .before .before .before .before .judge-home .ensures in
+    .before .before .before .before .before .before .before .before .before .before .before .before .before in
+    let r = c .before .before .before .before .before .before .before .before .mark-home .ensures in
     told-home (s .pre .0 .prepared) _ _ (s .pre .1 .1 .0 .0) _ (c .before .before .before .before .before
-    .before .before .before .if1 .taken) (r .0) (r .1)
+    .before .before .before .before .before .before .before .before .if1 .taken) (r .0) (r .1)
+    (c .judge-marks .ensures)
 
 returns-2 : tie.Need-returns-2
 returns-2 c = let s = c .before .before .before .before .before .before .before .before .before .before
@@ -83,25 +101,32 @@ point-count-requires c κs = let s = c .before .before .before .before .before .
 
 judge-blank-requires : tie.Need-judge-blank-requires
 judge-blank-requires c κs = let s = c .before .before .before .before .before .before .before .before .before
-    .before .before .before .before .before .before .before in
+    .before .before .before .before .before .before .before .before in
     let w = s .pre .0 .prepared in (
       w .check,
       (
         s .pre .0 .chained,
         (
-          w .number,
-          s .pre .1 .1 .0 .1,
-          sym (c .before .point-count .ensures .0) ∙ c .if3 .taken,
-          away-border w _ (c .before .before .before .before .before .if1 .left),
+          (
+            w .number,
+            s .pre .1 .1 .0 .1,
+            sym (c .before .before .point-count .ensures .0) ∙ c .before .if3 .taken,
+            away-border w _ (c .before .before .before .before .before .before .if1 .left),
+          ),
+          s .pre .1 .1 .1 .1 .0 .bytes,
         ),
       ),
     )
 
+same-length-4 : tie.Need-same-length-4
+same-length-4 c = search needs
+
 returns-3 : tie.Need-returns-3
 returns-3 c = let s = c .before .before .before .before .before .before .before .before .before .before
-    .before .before .before .before .before .before .before in
+    .before .before .before .before .before .before .before .before .before .before in
     told-blank (s .pre .0 .prepared) _ _ (s .pre .1 .1 .0 .0) _
-    (sym (c .before .before .point-count .ensures .0) ∙ c .before .if3 .taken) (c .judge-blank .ensures)
+    (sym (c .before .before .before .before .before .point-count .ensures .0) ∙ c .before .before .before
+    .before .if3 .taken) (c .before .before .judge-blank .ensures)
 
 judge-node-requires : tie.Need-judge-node-requires
 judge-node-requires c κs = let s = c .before .before .before .before .before .before .before .before .before
@@ -118,8 +143,8 @@ judge-node-requires c κs = let s = c .before .before .before .before .before .b
               arith,
               c .before .before .before .before .before .before .before .before .before
                   .point-count .ensures .0,
-              c .before .before .before .before .before .before .before .before
-                  .if3 .left,
+              c .before .before .before .before .before .before .before .before .if3
+                  .left,
             ),
           ),
           (h .1 .0, (h .1 .1 .0, h .1 .1 .1)),
@@ -127,24 +152,17 @@ judge-node-requires c κs = let s = c .before .before .before .before .before .b
       ),
     )
 
-judge-marks-requires : tie.Need-judge-marks-requires
-judge-marks-requires c κs = let s = c .before .before .before .before .before .before .before .before .before
-    .before .before .before .before .before .before .before .before .before .before .before .before .before
-    .before .before .before .before .before .before .before .before .before .before .before .before .before
-    .before .before .before .before .before in
+judge-marks-requires-2 : tie.Need-judge-marks-requires-2
+judge-marks-requires-2 c κs =
     omega (
       arith,
-      s .pre .1 .1 .1 .1 .0 .bytes,
-      c .before .before .before .before .before .before .before
-          .before .before .before .before .before .before .before .before .judge-node .kept .1 .1 .1 .1 .1 .1
-          .1 .1 .1 .1 .1 .1 .1 .1 .1 .1 .1 .0,
+      c .before .before .before .before .before .before .before .before .before .before .before .before
+          .before .before .before .before .before .before .before .before .before .before .before .before
+          .before .before .before .before .before .before .before .before .before .before .before .before
+          .before .before .before .before .pre .1 .1 .1 .1 .0 .bytes,
+      c .before .before .before .before .before .before .before .before .before .before .before .before
+          .before .before .before .judge-node .kept .1 .1 .1 .1 .1 .1 .1 .1 .1 .1 .1 .1 .1 .1 .1 .1 .1 .0,
     )
-
-same-length-3 : tie.Need-same-length-3
-same-length-3 c = search needs
-
-same-length-4 : tie.Need-same-length-4
-same-length-4 c = search needs
 
 same-length-5 : tie.Need-same-length-5
 same-length-5 c = search needs
@@ -160,6 +178,12 @@ same-length-8 c = search needs
 
 same-length-9 : tie.Need-same-length-9
 same-length-9 c = search needs
+
+same-length-10 : tie.Need-same-length-10
+same-length-10 c = search needs
+
+same-length-11 : tie.Need-same-length-11
+same-length-11 c = search needs
 
 returns-4 : tie.Need-returns-4
 returns-4 c = let s = c .before .before .before .before .before .before .before .before .before .before
@@ -180,30 +204,33 @@ returns-4 c = let s = c .before .before .before .before .before .before .before 
       c .before .before .before .before .before .before
           .before .before .before .before .before .before .before .before .before .before .before .before
           .before .before .before .before .before .before .before .if3 .left,
-    )) (r .0) (r .1) (c .judge-marks
+    )) (r .0) (r .1) (c .judge-marks2
     .ensures)
 
 pub judge-spec : {M : Type 1} → statement M
 judge-spec =
     tie.close
     (tie.spec
-    judge-home-requires
+    mark-home-requires
+    judge-marks-requires
     same-length
     same-length-2
+    same-length-3
     returns
     returns-2
     mul-point-count
     add-point-count
     point-count-requires
     judge-blank-requires
+    same-length-4
     returns-3
     judge-node-requires
-    judge-marks-requires
-    same-length-3
-    same-length-4
+    judge-marks-requires-2
     same-length-5
     same-length-6
     same-length-7
     same-length-8
     same-length-9
+    same-length-10
+    same-length-11
     returns-4)

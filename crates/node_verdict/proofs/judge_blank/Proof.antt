@@ -9,18 +9,26 @@ use Rattle.node_verdict.proofs.judge_blank.Tie as tie
 is-ahead-requires : tie.Need-is-ahead-requires
 is-ahead-requires c κs = search needs
 
+fill-requires : tie.Need-fill-requires
+fill-requires c κs = search needs
+
+same-length : tie.Need-same-length
+same-length c = search needs
+
 returns : tie.Need-returns
-returns c = let s = c .before .before .before .before in
+returns c = let s = c .before .before .before .before .before .before .before .before .before in
     let w = s .pre .0 in
-    let z = rw (w .nodes, w .town .sizes .nodes) at (s .pre .1 .1 .2) in
-    blank-ahead _ _ _ _ z (s .pre .1 .1 .3) _ 0 (sym (c .before .is-ahead .ensures) ∙ c .if1 .taken)
-    (omega (arith, w .town .small .period-some))
+    let z = rw (w .nodes, w .town .sizes .nodes) at (s .pre .1 .1 .0 .2) in
+    blank-ahead _ _ _ _ z (s .pre .1 .1 .0 .3) (sym (c .before .before .before .before .before .is-ahead
+    .ensures) ∙ c .before .before .before .before .if1 .taken)
+    (omega (arith, w .town .small .period-some)) (c .before .before .fill .ensures)
 
 returns-2 : tie.Need-returns-2
-returns-2 c = let s = c .before .before .before .before in
+returns-2 c = let s = c .before .before .before .before .before in
     let w = s .pre .0 in
-    let z = rw (w .nodes, w .town .sizes .nodes) at (s .pre .1 .1 .2) in
-    blank-none _ _ _ _ z (s .pre .1 .1 .3) _ 0 (sym (c .before .is-ahead .ensures) ∙ c .if1 .left)
+    let z = rw (w .nodes, w .town .sizes .nodes) at (s .pre .1 .1 .0 .2) in
+    blank-none _ _ _ _ z (s .pre .1 .1 .0 .3) (sym (c .before .is-ahead .ensures) ∙ c .if1 .left)
 
 pub judge-blank-spec : {M : Type 1} → statement M
-judge-blank-spec = tie.close (tie.spec is-ahead-requires returns returns-2)
+judge-blank-spec =
+    tie.close (tie.spec is-ahead-requires fill-requires same-length returns returns-2)
