@@ -2,7 +2,7 @@
 -- the pass is what it has found (`Least`) at the keys passed. Of nodes that are equally near, any will do.
 use mathlib.Core.Path.{_≡_, refl, sym, _∙_}
 use mathlib.Core.List.{List}
-use Prim.Native.Nat.{ℕ, _+_, _*_, _≤_, _<_}
+use Prim.Native.Nat.{ℕ, _+_, _*_, _^_, _≤_, _<_}
 use native.Mathlib.Nat.{le-refl, le-trans, le-of-lt}
 use native.Mathlib.Decide.{ℕ-discrete}
 use native.Mathlib.Omega.{arith}
@@ -11,6 +11,10 @@ use Rattle.theory_paths.specs.Labels.{label}
 use Rattle.network.specs.Limits.{mostNodes}
 use Rattle.search_labels.specs.Settle.{Nearest}
 use Rattle.search_labels.specs.Frontier.{nodeOf, nodeAt, Held, Frontier}
+
+-- The first n keys are in the same order as signed numbers.
+pub record Small (Q : List ℕ) (n : ℕ) : Type 0 where
+  pub below : (k : ℕ) → k < n → getD Q k 0 < 2 ^ 31
 
 -- r is the least of the first k keys.
 pub record Least (Q : List ℕ) (k r : ℕ) : Type 0 where
@@ -47,6 +51,10 @@ least-more Q k r x h e l = record {
   is = h .is;
   least = λ j m. elim (ℕ-discrete j k) [ yes q ↦ rw (q, ← e) l | no q ↦ h .least j (omega arith) ];
 }
+
+-- and it is small, as they are
+pub least-small : {Q : List ℕ} {n k r : ℕ} → Small Q n → Least Q k r → k ≤ n → r < 2 ^ 31
+least-small s h l = rw (h .is) (s .below (h .place) (omega (arith, h .inside)))
 
 pub least-end : (Q : List ℕ) (k n r : ℕ) → Least Q k r → k ≤ n → n ≤ k → Least Q n r
 least-end Q k n r h a b = let e : k ≡ n = omega arith in rw e at h

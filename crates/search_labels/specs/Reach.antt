@@ -53,7 +53,7 @@ use Rattle.search_labels.specs.Frontier.{
   key-node,
   held-or,
 }
-use Rattle.search_labels.specs.Nearest.{Least, least-held, least-nearest}
+use Rattle.search_labels.specs.Nearest.{Small, Least, least-held, least-nearest}
 use Rattle.search_arcs.specs.Town.{Town}
 use Rattle.search_labels.specs.Ready.{Ready, Leaving, leaving}
 
@@ -196,6 +196,12 @@ module _ {g : Graph} {p : Permit} {s x : ℕ} where
     pub search-room : n ≤ mostNodes
     search-room = omega (arith, c .front .room)
 
+    pub search-small : Small Q n
+    search-small = record {
+      below = λ k h.
+          omega (arith, c .front .keyed k h, c .kept .early (nodeAt Q k) (c .front .known k h), c .left .early);
+    }
+
     -- u is the node of the least key
     module _ {r u : ℕ} (k : Least Q n r) (e : u ≡ nodeOf r) where
       nearest : Nearest L (Held Q n) u
@@ -262,6 +268,7 @@ pub ruleset turns = (
   search-source,
   search-dry,
   search-room,
+  search-small,
   search-stop,
   search-size,
   search-same,

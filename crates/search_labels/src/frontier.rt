@@ -4,12 +4,13 @@
 use network::limits::MOST_NODES;
 use search_arcs::wide;
 ghost use mathlib.Core.Path.{_≡_};
-ghost use Prim.Native.Nat.{_-_, _≤_, _<_};
+ghost use Prim.Native.Nat.{_-_, _^_, _≤_, _<_};
+ghost use lib.Dec.{ltb};
 ghost use lib.ListN.{getD, set};
 ghost use Rattle.network.specs.Limits.{mostNodes};
 ghost use Rattle.search_labels.specs.Frontier.{keyOf, nodeOf, lastEnd};
 ghost use Rattle.search_labels.specs.Take.{Taken};
-ghost use Rattle.search_labels.specs.Nearest.{Least};
+ghost use Rattle.search_labels.specs.Nearest.{Small, Least};
 
 const NODES: u32 = MOST_NODES as u32;
 
@@ -20,15 +21,23 @@ pub fn node(key: u32) -> usize
     (key % NODES) as usize
 }
 
+// Is a key before another? They are compared as signed numbers, which the vector code of any x86-64 can do.
+fn is_before(key: u32, other: u32) -> bool
+    requires { ⌜ (key < 2 ^ 31) × (other < 2 ^ 31) ⌝ }
+    ensures { λ r. ⌜ r ≡ ltb key other ⌝ }
+{
+    (key as i32) < (other as i32)
+}
+
 // The least key.
 pub fn nearest(keys: &[u32; MOST_NODES], size: usize) -> u32
-    requires { ⌜ (0 < size) × (size ≤ mostNodes) ⌝ }
+    requires { ⌜ (0 < size) × (size ≤ mostNodes) × Small (now keys) size ⌝ }
     ensures { λ r. ⌜ Least (now (keys .entry)) size r ⌝ }
 {
     let mut least = keys[0];
     for i in 1..size {
         let key = keys[i];
-        if key < least {
+        if is_before(key, least) {
             least = key;
         }
     }

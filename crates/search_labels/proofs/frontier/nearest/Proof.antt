@@ -1,11 +1,19 @@
 -- `search_labels::frontier::nearest` meets its contract: the invariant is the contract itself at the keys
 -- passed.
-use mathlib.Core.Path.{refl}
+use mathlib.Core.Path.{refl, sym, _∙_}
 use mathlib.Core.Logic.{⊎-elim}
 use Prim.Native.Nat.{_≤_, _-_}
-use Rattle.search_labels.specs.Nearest.{Least, least-one, least-less, least-more, least-end}
+use Rattle.search_labels.specs.Nearest.{
+  Least,
+  least-one,
+  least-less,
+  least-more,
+  least-small,
+  least-end,
+}
 use native.Mathlib.Numerals.{add-one}
 use borrow.Author.Needs.{needs}
+use borrow.Author.Tests.{ltb-true, ltb-false}
 use Rattle.search_labels.proofs.frontier.nearest.Statement.{statement}
 use Rattle.search_labels.proofs.frontier.nearest.Tie as tie
 
@@ -27,6 +35,11 @@ mul-key c = search needs
 element-copy-out-key : tie.Need-element-copy-out-key Inv-loop μ-loop
 element-copy-out-key c = search needs
 
+is-before-requires : tie.Need-is-before-requires Inv-loop μ-loop
+is-before-requires c κs = let s = c .before .before .before .before .pre .2 in
+    let i = c .before .before .loop .inv in
+    (s .below _ (c .before .loop-test .taken), least-small s (i .1) (i .0))
+
 add-i : tie.Need-add-i Inv-loop μ-loop
 add-i c = search needs
 
@@ -35,12 +48,13 @@ loop-less c = search needs
 
 loop-again : tie.Need-loop-again Inv-loop μ-loop
 loop-again c =
-    let k = c .before .before in
+    let k = c .before .before .before in
     let i = k .before .loop .inv in
-    let l = k .loop-test .taken in (
+    let l = k .loop-test .taken in
+    let e = c .before .is-before .ensures in (
       rw add-one l,
-      ⊎-elim (λ w. rw (w .1) (least-less _ _ _ _ (i .1) refl (w .0 .taken)))
-          (λ w. rw (w .1) (least-more _ _ _ _ (i .1) refl (w .0 .left)))
+      ⊎-elim (λ w. rw (w .1) (least-less _ _ _ _ (i .1) refl (ltb-true _ _ (sym e ∙ w .0 .taken))))
+          (λ w. rw (w .1) (least-more _ _ _ _ (i .1) refl (ltb-false _ _ (sym e ∙ w .0 .left))))
           (c .if1 .came),
     )
 
@@ -57,6 +71,7 @@ nearest-spec =
     loop-holds
     mul-key
     element-copy-out-key
+    is-before-requires
     add-i
     loop-less
     loop-again
