@@ -18,7 +18,8 @@ use Rattle.network.specs.Limits.{WithinLimits, mostPeriod, mostNodes, mo
 use Rattle.network.specs.Limits.{mostHours}
 use Rattle.network.specs.Node.{nodeSize, nodePer, nodeBlocks, node-fits, node-blocks-most}
 use Rattle.network.specs.Node.{size-plain, per-plain, size-held, per-held}
-use Rattle.network.specs.Layout.{arcBlock, pointBlock, allBlocks, layoutOf, LaidBlocks, layout-blocks}
+use Rattle.network.specs.Layout.{arcBlock, pointBlock, allBlocks, mostBlocks, layoutOf, LaidBlocks}
+use Rattle.network.specs.Layout.{layout-blocks}
 use Rattle.network.specs.Network.{Network, nodes, arcs, points, cell, opensAt, closesAt, tail, head}
 use Rattle.network.specs.Network.{count, tick, travel}
 use Rattle.file_blocks.specs.Kind.{cellSize, cellPer, hoursSize, hoursPer, arcSize, arcPer, pointSize}
@@ -45,18 +46,18 @@ abbrev pub closesIn : ℕ → ℕ → List ℕ → ℕ → ℕ
 closesIn zero period file v = period
 closesIn (suc hours) period file v = entry16 file 1 hoursPer hoursSize 4 v
 
-opens-plain : (hours : ℕ) (file : List ℕ) (v : ℕ) → hours ≡ 0 → 0 ≡ opensIn hours file v
+pub opens-plain : (hours : ℕ) (file : List ℕ) (v : ℕ) → hours ≡ 0 → 0 ≡ opensIn hours file v
 opens-plain hours file v e = rw e
 
-closes-plain : (hours period : ℕ) (file : List ℕ) (v : ℕ) → hours ≡ 0 → period ≡ closesIn hours period file v
+pub closes-plain : (hours period : ℕ) (file : List ℕ) (v : ℕ) → hours ≡ 0 → period ≡ closesIn hours period file v
 closes-plain hours period file v e = rw e
 
-opens-there : (hours : ℕ) (file : List ℕ) (v : ℕ) → (hours ≡ 0 → ⊥)
+pub opens-there : (hours : ℕ) (file : List ℕ) (v : ℕ) → (hours ≡ 0 → ⊥)
     → entry16 file 1 hoursPer hoursSize 2 v ≡ opensIn hours file v
 opens-there zero file v e = absurd (e refl)
 opens-there (suc hours) file v e = refl
 
-closes-there : (hours period : ℕ) (file : List ℕ) (v : ℕ) → (hours ≡ 0 → ⊥)
+pub closes-there : (hours period : ℕ) (file : List ℕ) (v : ℕ) → (hours ≡ 0 → ⊥)
     → entry16 file 1 hoursPer hoursSize 4 v ≡ closesIn hours period file v
 closes-there zero period file v e = absurd (e refl)
 closes-there (suc hours) period file v e = refl
@@ -146,6 +147,14 @@ module _ {file : List ℕ} {l : Layout} (s : Laid file l) where
   nodes-stored =
       let f = node-fits (l .hours) in record { pos = f .some; fit = f .fit; room = nodes-room }
 
+  -- by numbers that code has told apart
+  pub nodes-stored-by : (per size : ℕ) → per ≡ nodePer (l .hours) → size ≡ nodeSize (l .hours)
+      → RunInFile 1 per size (l .nodes) file
+  nodes-stored-by per size e f = rw (e, f) nodes-stored
+
+  pub hours-stored : (l .hours ≡ 0 → ⊥) → RunInFile 1 hoursPer hoursSize (l .nodes) file
+  hours-stored z = nodes-stored-by hoursPer hoursSize (per-held (l .hours) z) (size-held (l .hours) z)
+
   pub arcs-stored : RunInFile (l .arcblock) arcPer arcSize (l .arcs) file
   arcs-stored = record { pos = lit< tt; fit = lit≤ tt; room = omega (arith, s .long, laid-blocks) }
 
@@ -154,6 +163,15 @@ module _ {file : List ℕ} {l : Layout} (s : Laid file l) where
 
   few : length file ≤ 2 ^ 63
   few = omega (arith, s .long, s .within, node-blocks-most (headerAt file .hours) (s .within .nodes-most))
+
+  -- the file has no more blocks than any network's
+  pub laid-few : l .blocks ≤ mostBlocks
+  laid-few = omega (
+    arith,
+    laid-blocks,
+    s .within,
+    node-blocks-most (headerAt file .hours) (s .within .nodes-most),
+  )
 
   -- FOR CODE that reads an entry of node v, arc a or point q: it stands in the file, and is the network's
   module _ {v : ℕ} (h : v < l .nodes) where

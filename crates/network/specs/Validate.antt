@@ -87,9 +87,9 @@ validated file =
 -- FOR CODE on a file that is laid out as its header says: where each run ends, and the first block out of
 -- its form
 module _ {file : List ℕ} {l : Layout} (s : Laid file l) where
-  pub nodes-end : (per : ℕ) → per ≡ nodePer (l .hours) → l .arcblock ≡ 1 + blocks per (l .nodes)
+  pub nodes-end : l .arcblock ≡ 1 + blocks (nodePer (l .hours)) (l .nodes)
   unfolding nodeBlocks
-  nodes-end per e = rw (e, laid-blocks s .hours, laid-blocks s .nodes) (laid-blocks s .arcblock)
+  nodes-end = rw (laid-blocks s .hours, laid-blocks s .nodes) (laid-blocks s .arcblock)
 
   pub arcs-end : l .pointblock ≡ l .arcblock + blocks arcPer (l .arcs)
   arcs-end = omega (arith, laid-blocks s)

@@ -3,7 +3,7 @@
 use file_blocks::kind;
 ghost use mathlib.Core.Path.{_≡_};
 ghost use Prim.Native.Nat.{_≤_, _<_};
-ghost use Rattle.file_blocks.specs.Kind.{cellPer};
+ghost use Rattle.file_blocks.specs.Kind.{cellPer, hoursSize};
 ghost use Rattle.network.specs.Node.{nodeKind, nodeSize, nodePer};
 
 // The kind of their blocks.
@@ -15,7 +15,7 @@ pub fn node_kind(hours: usize) -> u8
 
 // The bytes of an entry.
 pub fn node_size(hours: usize) -> usize
-    ensures { λ r. ⌜ r ≡ nodeSize hours ⌝ }
+    ensures { λ r. ⌜ (r ≡ nodeSize hours) × ((2 ≤ r) × (r ≤ hoursSize)) ⌝ }
 {
     if hours == 0 {
         kind::CELL_SIZE
