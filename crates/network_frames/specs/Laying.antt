@@ -22,7 +22,7 @@ use Rattle.network.specs.declared.header.Header.{Header}
 use Rattle.network.specs.declared.header.Layout.{Layout}
 use Rattle.network.specs.Layout.{allBlocks, LaidBlocks}
 use Rattle.network.specs.Network.{Network, cell, tail, head, count, tick, travel}
-use Rattle.network_encode.specs.Encode.{headerOf, headerNumber, headerByte, cellByte, arcByte, pointByte}
+use Rattle.network_encode.specs.Encode.{headerOf, headerNumber, headerByte, cellByte, tripleByte, pointByte}
 use Rattle.network_encode.specs.Encode.{bodyBy, encodeBy, encode}
 use Rattle.network_frames.specs.Places.{NetworkWritable, laid-by, blocks-fit}
 
@@ -52,7 +52,7 @@ Laying h C A P old new =
 
 -- the bytes of the arcs and of the points of a network
 abbrev pub arcsOf : Network → ℕ → ℕ → ℕ
-arcsOf n = arcByte (n .tails) (n .heads) (n .counts)
+arcsOf n = tripleByte (n .tails) (n .heads) (n .counts)
 
 abbrev pub pointsOf : Network → ℕ → ℕ → ℕ
 pointsOf n = pointByte (n .ticks) (n .travels)
@@ -86,7 +86,7 @@ module _ {h : Header} {l : Layout} (n : Network) (C : ℕ → ℕ → ℕ) (old 
       → t ≡ put 6 s (offset (l .arcblock) arcPer arcSize q)
       (tail n q + 65536 * (head n q + 65536 * count n q))
       → Laying h C (upTo (q + 1) (arcsOf n)) P old t
-  unfolding arcByte
+  unfolding tripleByte
   arc-more P x m p =
       second-laid (networkShape h) (network-fits h) _ C (arcsOf n) P old s t (blocks-fit w) _ q x
       (omega (arith, laid-by w))

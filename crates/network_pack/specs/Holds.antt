@@ -17,7 +17,7 @@ use Rattle.file_blocks.specs.RunLaws.{laid-run, file-run}
 use Rattle.network.specs.declared.header.Header.{Header}
 use Rattle.network.specs.Layout.{arcBlock, pointBlock, allBlocks}
 use Rattle.network.specs.Network.{Network, nodes, arcs, points}
-use Rattle.network_encode.specs.Encode.{headerByte, cellByte, arcByte, pointByte, bodyBy, encodeBy}
+use Rattle.network_encode.specs.Encode.{headerByte, cellByte, tripleByte, pointByte, bodyBy, encodeBy}
 use Rattle.network_encode.specs.Encode.{header-body, cells-body, arcs-body, points-body}
 use Rattle.file_fields.specs.Block.{blockSize, summedSize, entriesSize}
 use Rattle.file_blocks.specs.Kind.{networkKind, networkSize, cellKind, cellSize, cellPer, arcKind, arcSize}
@@ -28,7 +28,7 @@ pub record Holds (file : List ℕ) (h : Header) (n : Network) : Type 0 where
   pub cells : (j : ℕ) → j < blocks cellPer (h .nodes)
       → RunLaid file 1 cellKind cellPer cellSize (h .nodes) (cellByte (n .cellOf)) j
   pub arcs : (j : ℕ) → j < blocks arcPer (h .arcs)
-      → RunLaid file (arcBlock h) arcKind arcPer arcSize (h .arcs) (arcByte (n .tails) (n .heads) (n .counts))
+      → RunLaid file (arcBlock h) arcKind arcPer arcSize (h .arcs) (tripleByte (n .tails) (n .heads) (n .counts))
       j
   pub points : (j : ℕ) → j < blocks pointPer (h .points)
       → RunLaid file (pointBlock h) pointKind pointPer pointSize (h .points)

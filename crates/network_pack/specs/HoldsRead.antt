@@ -21,7 +21,7 @@ use Rattle.network.specs.Limits.{WithinLimits}
 use Rattle.network.specs.Layout.{arcBlock, pointBlock}
 use Rattle.network.specs.Network.{Network, nodes, arcs, points}
 use Rattle.network.specs.Decode.{headerAt, decodeBy, decode}
-use Rattle.network_encode.specs.Encode.{headerOf, headerByte, cellByte, arcByte, pointByte}
+use Rattle.network_encode.specs.Encode.{headerOf, headerByte, cellByte, tripleByte, pointByte}
 use Rattle.network_encode.specs.Encode.{Words, Proper}
 use Rattle.network_encode.specs.Encode.{cell-byte, tail-byte, head-byte, count-byte, tick-byte, travel-byte}
 use Rattle.network_encode.specs.Encode.{number-byte, period-byte, nodes-byte, arcs-byte, cells-byte}
@@ -43,7 +43,7 @@ module _ {file : List ℕ} {h : Header} {n : Network} (w : WithinLimits h) (d : 
 
   pub arcs-formed : RunFormed file (arcBlock h) arcKind arcPer arcSize (h .arcs)
   arcs-formed j l = formed-run file (arcBlock h) arcKind arcPer arcSize (h .arcs)
-      (arcByte (n .tails) (n .heads) (n .counts)) (lit< tt) (lit< tt) (lit≤ tt) j (omega (arith, w))
+      (tripleByte (n .tails) (n .heads) (n .counts)) (lit< tt) (lit< tt) (lit≤ tt) j (omega (arith, w))
       (d .arcs j l)
 
   pub points-formed : RunFormed file (pointBlock h) pointKind pointPer pointSize (h .points)
@@ -85,10 +85,10 @@ module _ (file : List ℕ) (from kind per size m : ℕ) (f : ℕ → ℕ → ℕ
 
 module _ {file : List ℕ} {n : Network} (p : Proper n) (d : Holds file (headerOf n) n) where
   abbrev arcField : (at : ℕ) (s : List ℕ) → at + 2 ≤ arcSize → length s ≡ arcs n → Words s
-      → ((i k : ℕ) → k < 2 → arcByte (n .tails) (n .heads) (n .counts) i (at + k) ≡ byteOf (getD s i 0) k)
+      → ((i k : ℕ) → k < 2 → tripleByte (n .tails) (n .heads) (n .counts) i (at + k) ≡ byteOf (getD s i 0) k)
       → tab (arcs n) (entry16 file (arcBlock (headerOf n)) arcPer arcSize at) ≡ s
   arcField = table-is file (arcBlock (headerOf n)) arcKind arcPer arcSize (arcs n)
-      (arcByte (n .tails) (n .heads) (n .counts)) (lit< tt) (lit< tt) (lit≤ tt) (d .arcs)
+      (tripleByte (n .tails) (n .heads) (n .counts)) (lit< tt) (lit< tt) (lit≤ tt) (d .arcs)
 
   abbrev pointField : (at : ℕ) (s : List ℕ) → at + 2 ≤ pointSize → length s ≡ points n → Words s
       → ((i k : ℕ) → k < 2 → pointByte (n .ticks) (n .travels) i (at + k) ≡ byteOf (getD s i 0) k)
@@ -159,7 +159,7 @@ module _ (file : List ℕ) (s : Bytes file) where
     h = headerAt file
 
     pub formed-holds : Holds file (headerAt file) (decode file)
-    unfolding decode cellByte arcByte pointByte
+    unfolding decode cellByte tripleByte pointByte
     formed-holds = record {
       header = run-formed file 0 networkKind 1 networkSize 1 (λ _. headerByte h) (lit< tt) (lit< tt) (lit≤ tt)
           s header-bytes 0 first-formed;
@@ -170,7 +170,7 @@ module _ (file : List ℕ) (s : Bytes file) where
           ∙ one-word (offset 1 cellPer cellSize v)) r m)
           j (cells-formed j l);
       arcs = λ j l. run-formed file (arcBlock h) arcKind arcPer arcSize (h .arcs)
-          (arcByte (decode file .tails) (decode file .heads) (decode file .counts)) (lit< tt) (lit< tt)
+          (tripleByte (decode file .tails) (decode file .heads) (decode file .counts)) (lit< tt) (lit< tt)
           (lit≤ tt) s
           (λ a r l m. rw (
             getD-tab (h .arcs) (entry16 file (arcBlock h) arcPer arcSize 0) a l,

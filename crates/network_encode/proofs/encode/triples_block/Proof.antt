@@ -1,13 +1,13 @@
--- `network_encode::encode::arcs_block` meets its contract.
+-- `network_encode::encode::triples_block` meets its contract.
 use Prim.Native.Nat.{_*_, _≤_}
 use native.Mathlib.Omega.{arith}
 use lib.Dec.{lit<}
 use Rattle.network_encode.specs.BlockWritten.{block-written}
 use borrow.Author.Needs.{needs}
-use Rattle.network_encode.proofs.encode.arcs_block.Statement.{statement}
-use Rattle.network_encode.proofs.encode.arcs_block.Tie as tie
+use Rattle.network_encode.proofs.encode.triples_block.Statement.{statement}
+use Rattle.network_encode.proofs.encode.triples_block.Tie as tie
 use Rattle.file_fields.specs.Block.{entriesSize}
-use Rattle.file_blocks.specs.Kind.{arcKind, arcSize, arcPer}
+use Rattle.file_blocks.specs.Kind.{arcSize, arcPer}
 
 mul-at : tie.Need-mul-at
 mul-at c = search needs
@@ -24,14 +24,14 @@ entries-in-requires c κs = search needs
 write-head-requires : tie.Need-write-head-requires
 write-head-requires c κs = search needs
 
-sub-put-arcs : tie.Need-sub-put-arcs
-sub-put-arcs c = search needs
+sub-put-triples : tie.Need-sub-put-triples
+sub-put-triples c = search needs
 
-mul-put-arcs : tie.Need-mul-put-arcs
-mul-put-arcs c = search needs
+mul-put-triples : tie.Need-mul-put-triples
+mul-put-triples c = search needs
 
-put-arcs-requires : tie.Need-put-arcs-requires
-put-arcs-requires c κs = search needs
+put-triples-requires : tie.Need-put-triples-requires
+put-triples-requires c κs = search needs
 
 mul-write-zeros : tie.Need-mul-write-zeros
 mul-write-zeros c = search needs
@@ -60,19 +60,19 @@ returns c =
       c .before .before .before .before .before .before .before .before .before .before
           .before .before .before .before .before .before .entries-in .ensures,
     ) in
-    block-written arcKind arcPer arcSize _ _ _ _ _ (lit< tt)
+    block-written _ arcPer arcSize _ _ _ _ _ (lit< tt)
     (c .before .before .before .before .before .before .before .before .before .before .before .before
-    .before .before .before .before .entries-in .ensures) fit _ _ _ _ _ (lit< tt)
+    .before .before .before .before .entries-in .ensures) fit _ _ _ _ _ (search needs)
     (c .before .before .before .before .before .before .before .before .before .before .before .before
     .before .before .before .before .before .before .before .before .before .pre .0 .whole)
     (c .before .before .before .before .before .before .before .before .before .before .before .before
     .before .before .write-head .ensures)
-    (c .before .before .before .before .before .before .before .before .before .before .put-arcs .ensures)
+    (c .before .before .before .before .before .before .before .before .before .before .put-triples .ensures)
     (c .before .before .before .before .before .before .write-zeros .ensures)
     (c .before .before .write-check .ensures)
 
-pub arcs-block-spec : {M : Type 1} → statement M
-arcs-block-spec =
+pub triples-block-spec : {M : Type 1} → statement M
+triples-block-spec =
     tie.close
     (tie.spec
     mul-at
@@ -80,9 +80,9 @@ arcs-block-spec =
     sub-entries-in
     entries-in-requires
     write-head-requires
-    sub-put-arcs
-    mul-put-arcs
-    put-arcs-requires
+    sub-put-triples
+    mul-put-triples
+    put-triples-requires
     mul-write-zeros
     add-write-zeros
     add-write-zeros-2

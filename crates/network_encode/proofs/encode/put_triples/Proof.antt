@@ -1,19 +1,19 @@
--- `network_encode::encode::put_arcs` meets its contract.
+-- `network_encode::encode::put_triples` meets its contract.
 use Prim.Native.Nat.{_+_, _-_, _*_, _≤_}
 use Rattle.theory_loops.specs.Fill.{Filled}
-use Rattle.network_encode.specs.Encode.{arcByte}
+use Rattle.network_encode.specs.Encode.{tripleByte}
 use Rattle.network_encode.specs.Entries.{partByte, entry-none, entry-end}
-use Rattle.network_encode.specs.Written.{arc-put}
+use Rattle.network_encode.specs.Written.{triple-put}
 use borrow.Author.Needs.{needs}
-use Rattle.network_encode.proofs.encode.put_arcs.Statement.{statement}
-use Rattle.network_encode.proofs.encode.put_arcs.Tie as tie
+use Rattle.network_encode.proofs.encode.put_triples.Statement.{statement}
+use Rattle.network_encode.proofs.encode.put_triples.Tie as tie
 
 abbrev Inv-loop : tie.InvT-loop
-Inv-loop out₀ base first m tails heads counts e₀ out e =
-    (e ≤ m) × Filled base (base + 6 * e) (partByte 6 (arcByte tails heads counts) base first) out₀ out
+Inv-loop out₀ base first m xs ys zs e₀ out e =
+    (e ≤ m) × Filled base (base + 6 * e) (partByte 6 (tripleByte xs ys zs) base first) out₀ out
 
 abbrev μ-loop : tie.MeasureT-loop
-μ-loop out₀ base first m tails heads counts e₀ out e = m - e
+μ-loop out₀ base first m xs ys zs e₀ out e = m - e
 
 loop-holds : tie.Need-loop-holds Inv-loop μ-loop
 loop-holds c = (search needs, entry-none _ _ _ _ _)
@@ -57,7 +57,7 @@ loop-less c = search needs
 loop-again : tie.Need-loop-again Inv-loop μ-loop
 loop-again c = (
   search needs,
-  arc-put _ _ _ _ _ _ _ (c .before .before .before .before .before .before .before .loop-test .taken) _ _ _
+  triple-put _ _ _ _ _ _ _ (c .before .before .before .before .before .before .before .loop-test .taken) _ _ _
       (c .before .before .before .before .before .before .before .before .loop .inv .1)
       (c .before .before .before .before .before .before .before .before .before .before .before .before
       .before
@@ -70,8 +70,8 @@ same-length c = search needs
 returns : tie.Need-returns Inv-loop μ-loop
 returns c = search entry-end
 
-pub put-arcs-spec : {M : Type 1} → statement M
-put-arcs-spec =
+pub put-triples-spec : {M : Type 1} → statement M
+put-triples-spec =
     tie.close
     (tie.spec
     Inv-loop
