@@ -18,8 +18,8 @@ use Rattle.network.specs.Limits.{WithinLimits, mostPeriod, mostNodes, mo
 use Rattle.network.specs.Limits.{mostHours}
 use Rattle.network.specs.Node.{nodeSize, nodePer, nodeBlocks, node-fits, node-blocks-most}
 use Rattle.network.specs.Node.{size-plain, per-plain, size-held, per-held}
-use Rattle.network.specs.Layout.{arcBlock, pointBlock, allBlocks, mostBlocks, layoutOf, LaidBlocks}
-use Rattle.network.specs.Layout.{layout-blocks}
+use Rattle.network.specs.Layout.{arcBlock, pointBlock, allBlocks, mostBlocks, mostBytes, layoutOf}
+use Rattle.network.specs.Layout.{LaidBlocks, layout-blocks}
 use Rattle.network.specs.Network.{Network, nodes, arcs, points, cell, opensAt, closesAt, tail, head}
 use Rattle.network.specs.Network.{count, tick, travel}
 use Rattle.file_blocks.specs.Kind.{cellSize, cellPer, hoursSize, hoursPer, arcSize, arcPer, pointSize}
@@ -161,9 +161,6 @@ module _ {file : List ℕ} {l : Layout} (s : Laid file l) where
   pub points-stored : RunInFile (l .pointblock) pointPer pointSize (l .points) file
   points-stored = record { pos = lit< tt; fit = lit≤ tt; room = omega (arith, s .long, laid-blocks) }
 
-  few : length file ≤ 2 ^ 63
-  few = omega (arith, s .long, s .within, node-blocks-most (headerAt file .hours) (s .within .nodes-most))
-
   -- the file has no more blocks than any network's
   pub laid-few : l .blocks ≤ mostBlocks
   laid-few = omega (
@@ -172,6 +169,12 @@ module _ {file : List ℕ} {l : Layout} (s : Laid file l) where
     s .within,
     node-blocks-most (headerAt file .hours) (s .within .nodes-most),
   )
+
+  pub laid-bytes : length file ≤ mostBytes
+  laid-bytes = omega (arith, s .long, laid-blocks, laid-few)
+
+  few : length file ≤ 2 ^ 63
+  few = omega (arith, laid-bytes)
 
   -- FOR CODE that reads an entry of node v, arc a or point q: it stands in the file, and is the network's
   module _ {v : ℕ} (h : v < l .nodes) where

@@ -1,14 +1,16 @@
 -- The bytes of a network: block 0 for its header, then a run of blocks for the nodes, one for the arcs and
 -- one for the points, each with its check. An entry is one number, its fields one behind the other, low byte
 -- first. `Proper` says which networks fit into these fields.
-use mathlib.Core.Path.{_≡_, _∙_}
+use mathlib.Core.Path.{_≡_, refl, sym, _∙_}
 use mathlib.Core.Bool.{cond}
 use mathlib.Core.List.{List}
 use Prim.Native.Nat.{ℕ, zero, suc, _+_, _*_, _^_, _≤_, _<_}
 use native.Mathlib.Omega.{arith}
 use lib.ListN.{length, getD}
 use lib.Dec.{ltb}
+use lib.Seq.{ext-getD}
 use borrow.Author.Tests.{lt-ltb, le-ltb}
+use Rattle.theory_loops.specs.Fill.{tab, length-tab, getD-tab}
 use Rattle.file_fields.specs.Fields.{byteOf, byteOf-low, byteOf-high}
 use Rattle.file_blocks.specs.Bytes.{fileOf}
 use Rattle.file_blocks.specs.Run.{runBody, headerBody}
@@ -16,6 +18,7 @@ use Rattle.network.specs.declared.header.Header.{Header}
 use Rattle.network.specs.Limits.{WithinLimits}
 use Rattle.network.specs.Layout.{arcBlock, pointBlock, allBlocks}
 use Rattle.network.specs.Network.{Network, nodes, arcs, points}
+use Rattle.network.specs.Sound.{SoundHours}
 use Rattle.network.specs.Node.{nodeKind, nodeSize, nodePer}
 use Rattle.file_blocks.specs.Kind.{networkKind, networkSize, arcKind, arcSize, arcPer, pointKind, pointSize}
 use Rattle.file_blocks.specs.Kind.{pointPer}
@@ -97,6 +100,65 @@ pub record Proper (n : Network) : Type 0 where
   pub ticks-fit : Words (n .ticks)
   pub travels-fit : Words (n .travels)
 
+-- the network that its file holds: without hours every node is open all day
+abbrev pub heldOpens : ℕ → Network → List ℕ
+heldOpens zero n = tab (nodes n) (λ _. 0)
+heldOpens (suc hours) n = n .opens
+
+abbrev pub heldCloses : ℕ → Network → List ℕ
+heldCloses zero n = tab (nodes n) (λ _. n .period)
+heldCloses (suc hours) n = n .closes
+
+abbrev pub held : Network → Network
+held n = record {
+  number = n .number;
+  period = n .period;
+  cells = n .cells;
+  hours = n .hours;
+  cellOf = n .cellOf;
+  opens = heldOpens (n .hours) n;
+  closes = heldCloses (n .hours) n;
+  tails = n .tails;
+  heads = n .heads;
+  counts = n .counts;
+  ticks = n .ticks;
+  travels = n .travels;
+}
+
+-- which is the network itself where its hours are sound
+module _ {n : Network} (p : Proper n) (s : (v : ℕ) → v < nodes n → SoundHours n v) where
+  opens-held : (hours : ℕ) → n .hours ≡ hours → heldOpens hours n ≡ n .opens
+  opens-held (suc hours) e = refl
+  opens-held zero e =
+      ext-getD 0 _ _ (length-tab _ _ ∙ sym (p .opens-long))
+      (λ v l.
+      let k : v < nodes n = omega (arith, length-tab (nodes n) (λ (_ : ℕ). 0)) in
+      getD-tab _ _ v k ∙ sym (s v k .all-day e .0))
+
+  closes-held : (hours : ℕ) → n .hours ≡ hours → heldCloses hours n ≡ n .closes
+  closes-held (suc hours) e = refl
+  closes-held zero e =
+      ext-getD 0 _ _ (length-tab _ _ ∙ sym (p .closes-long))
+      (λ v l.
+      let k : v < nodes n = omega (arith, length-tab (nodes n) (λ (_ : ℕ). n .period)) in
+      getD-tab _ _ v k ∙ sym (s v k .all-day e .1))
+
+  pub held-same : held n ≡ n
+  held-same = λ i. record {
+    number = n .number;
+    period = n .period;
+    cells = n .cells;
+    hours = n .hours;
+    cellOf = n .cellOf;
+    opens = opens-held (n .hours) refl i;
+    closes = closes-held (n .hours) refl i;
+    tails = n .tails;
+    heads = n .heads;
+    counts = n .counts;
+    ticks = n .ticks;
+    travels = n .travels;
+  }
+
 -- WHICH RUN a block belongs to
 module _ (h : Header) (n : Network) (b : ℕ) where
   pub header-body : b < 1 → bodyBy h n b ≡ headerBody networkKind networkSize (headerByte h) b
@@ -132,11 +194,6 @@ here x y k l = let z : 0 + k ≡ k = omega arith in rw z (byteOf-low 2 x y k l)
 after : (x y k : ℕ) → x < 65536 → byteOf (x + 65536 * y) (2 + k) ≡ byteOf y k
 after x y k l = byteOf-high 2 x y k l
 
-module _ (s : List ℕ) (i k : ℕ) where
-  pub cell-byte : cellByte s i (0 + k) ≡ byteOf (getD s i 0) k
-  unfolding cellByte
-  cell-byte = let z : 0 + k ≡ k = omega arith in rw z
-
 module _ (s t : List ℕ) (i k : ℕ) where
   pub tick-byte : k < 2 → pointByte s t i (0 + k) ≡ byteOf (getD s i 0) k
   unfolding pointByte
@@ -147,6 +204,12 @@ module _ (s t : List ℕ) (i k : ℕ) where
   travel-byte m = after _ _ k m
 
 module _ (s t u : List ℕ) (i k : ℕ) where
+  -- a node's cell stands first, with hours or without
+  pub node-first : (hours : ℕ) → k < 2 → nodeByte hours s t u i (0 + k) ≡ byteOf (getD s i 0) k
+  unfolding nodeByte cellByte tripleByte
+  node-first zero l = let z : 0 + k ≡ k = omega arith in rw z
+  node-first (suc hours) l = here _ _ k l
+
   pub first-byte : k < 2 → tripleByte s t u i (0 + k) ≡ byteOf (getD s i 0) k
   unfolding tripleByte
   first-byte l = here _ _ k l

@@ -255,16 +255,7 @@ fn write_block(
         return;
     }
     if b < l.pointblock {
-        triples_block(
-            out,
-            b,
-            kind::ARC,
-            l.arcblock,
-            l.arcs,
-            tails,
-            heads,
-            counts,
-        );
+        triples_block(out, b, kind::ARC, l.arcblock, l.arcs, tails, heads, counts);
         return;
     }
     points_block(out, b, l.pointblock, l.points, ticks, travels);
@@ -295,7 +286,18 @@ pub fn encode_network(
 {
     for b in 0..l.blocks {
         write_block(
-            out, h, l, b, cells, opens, closes, tails, heads, counts, ticks, travels,
+            out,
+            h,
+            l,
+            b,
+            cells,
+            opens,
+            closes,
+            tails,
+            heads,
+            counts,
+            ticks,
+            travels,
         );
     }
 }

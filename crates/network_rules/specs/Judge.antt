@@ -149,21 +149,21 @@ module _ {file : List ℕ} {l : Layout} (s : Laid file l) (opens closes : List �
 
   module _ (v : ℕ) (r : Judged) (e : v
       ≡ first (l .nodes) (badHoursIn (l .hours) (l .period) (take (l .nodes) opens) (take (l .nodes) closes)))
-      where
-    found : v ≡ first (nodes m) (badHoursOf m)
-    found = rw (laid-sizes s .hours, laid-sizes s .period, laid-sizes s .nodes) at e
+    where
+      found : v ≡ first (nodes m) (badHoursOf m)
+      found = rw (laid-sizes s .hours, laid-sizes s .period, laid-sizes s .nodes) at e
 
-    pub hours-taken-with : v < l .nodes → r ≡ faulty 37 v
-        → r ≡ judgedHours (withHours opens closes (decode file))
-    unfolding judgedHours
-    hours-taken-with h f =
-        at-first r _ (faulty 37) (nodes m) v (badHoursOf m) found (rw (laid-sizes s .nodes) at h) f
+      pub hours-taken-with : v < l .nodes → r ≡ faulty 37 v
+          → r ≡ judgedHours (withHours opens closes (decode file))
+      unfolding judgedHours
+      hours-taken-with h f =
+          at-first r _ (faulty 37) (nodes m) v (badHoursOf m) found (rw (laid-sizes s .nodes) at h) f
 
-    pub hours-passed-with : l .nodes ≤ v → r ≡ judgedArcs (decode file)
-        → r ≡ judgedHours (withHours opens closes (decode file))
-    unfolding judgedHours judgedArcs judgedSum judgedPoints firstPoint start
-    hours-passed-with h f =
-        past-first r _ (faulty 37) (nodes m) v (badHoursOf m) found (rw (laid-sizes s .nodes) at h) f
+      pub hours-passed-with : l .nodes ≤ v → r ≡ judgedArcs (decode file)
+          → r ≡ judgedHours (withHours opens closes (decode file))
+      unfolding judgedHours judgedArcs judgedSum judgedPoints firstPoint start
+      hours-passed-with h f =
+          past-first r _ (faulty 37) (nodes m) v (badHoursOf m) found (rw (laid-sizes s .nodes) at h) f
 
 -- for `search judgings-with`
 pub ruleset judgings-with = (cell-taken-with, cells-passed-with, hours-taken-with, hours-passed-with)
