@@ -21,6 +21,8 @@ use Rattle.network.specs.Decode.{decode, Laid}
 use Rattle.network.specs.Sound.{SoundNetwork}
 use Rattle.network.specs.Valid.{ValidFile, valid-laid}
 use Rattle.network.specs.Town.{graphOf}
+use Rattle.search_arcs.specs.Town.{town-of}
+use Rattle.search_labels.specs.Ready.{Leaving, leaving}
 use Rattle.search_path.specs.Answer.{Answered, answerOf, pathOf, searched, entryOf, count-is, not-both}
 use Rattle.search_path.specs.Trim.{shown}
 use Rattle.search_path.specs.declared.answer.Arrival.{Arrival}
@@ -125,6 +127,12 @@ pub drive-sizes : (l : Layout) (h : Header) → l ≡ layoutOf h
 unfolding layoutOf
 drive-sizes l h e =
     (ap (λ (k : Layout). k .nodes) e, ap (λ (k : Layout). k .arcs) e, ap (λ (k : Layout). k .period) e)
+
+-- and a trip that leaves from one of its nodes at a tick of the day
+pub valid-leaving : {file : List ℕ} {h : Header} → ValidFile file h → (s x : ℕ) → s < h .nodes → x < h .period
+    → Leaving (graphOf (decode file)) s x
+unfolding layoutOf
+valid-leaving {h = h} v s x m k = leaving (town-of (drive-laid v (layoutOf h) refl) (v .sound)) m k
 
 -- FOR `drive`: the search of a valid file answers the call
 pub driven-call : (file : List ℕ) (h : Header) (p : Permit) (s x t : ℕ)
