@@ -15,7 +15,7 @@ use Rattle.network.specs.declared.answer.Opening.{Opening}
 use Rattle.network.specs.declared.answer.Opening.the-variants.{Opened, Refused}
 use Rattle.network.specs.declared.header.Header.{Header}
 use Rattle.network.specs.declared.header.Layout.{Layout}
-use Rattle.network.specs.Network.{nodes, arcs}
+use Rattle.network.specs.Network.{nodes, arcs, points}
 use Rattle.network.specs.Layout.{layoutOf}
 use Rattle.network.specs.Decode.{decode, Laid}
 use Rattle.network.specs.Sound.{SoundNetwork}
@@ -113,6 +113,14 @@ module _ {file : List ℕ} {h : Header} (v : ValidFile file h) where
   pub drive-arcs : arcs (decode file) ≡ h .arcs
   unfolding decode
   drive-arcs = length-tab _ _ ∙ ap (λ (k : Header). k .arcs) (sym (v .is))
+
+  pub drive-points : points (decode file) ≡ h .points
+  unfolding decode
+  drive-points = length-tab _ _ ∙ ap (λ (k : Header). k .points) (sym (v .is))
+
+  pub drive-number : decode file .number ≡ h .number
+  unfolding decode
+  drive-number = ap (λ (k : Header). k .number) (sym (v .is))
 
   pub drive-cells : decode file .cells ≡ h .cells
   unfolding decode
