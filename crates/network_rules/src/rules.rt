@@ -392,9 +392,9 @@ pub fn judge_with(file: &[u8], l: Layout, opens: &[u16], closes: &[u16]) -> Judg
     if v < l.nodes {
         return faulty(number::NETWORK_CELL, v as u32);
     }
-    let u = first_bad_hours_in(l.hours, l.period, l.nodes, opens, closes);
-    if u < l.nodes {
-        return faulty(number::NETWORK_HOURS, u as u32);
+    let w = first_bad_hours_in(l.hours, l.period, l.nodes, opens, closes);
+    if w < l.nodes {
+        return faulty(number::NETWORK_HOURS, w as u32);
     }
     judge_arcs(file, l)
 }

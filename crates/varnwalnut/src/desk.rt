@@ -56,7 +56,15 @@ pub extern "C" fn varnwalnut_open_network(
     }
     write_opening(
         open_network(
-            network, cells, opens, closes, from, to, points, ticks, travels,
+            network,
+            cells,
+            opens,
+            closes,
+            from,
+            to,
+            points,
+            ticks,
+            travels,
         ),
         answer,
     )

@@ -41,8 +41,7 @@ returns c =
     let d = c .before .before .before .before in
     let m = d .before .before .before .before in
     let l = m .before .before in
-    let s = l .before .before .before .before .before .before .before .before in
-    (
+    let s = l .before .before .before .before .before .before .before .before in (
       flagged-driven (s .pre .0) (s .pre .1 .0) _ _ _ _ _ (l .before .cell .ensures .0) (l .layout2 .ensures)
           (m .fill-mask .ensures) _ _ _ _ _ _ _ (d .visit-over .ensures .0),
       d .visit-over .ensures .1,
