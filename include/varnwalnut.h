@@ -39,7 +39,7 @@ enum {
     VARNWALNUT_MOST_CELLS = 64,
     VARNWALNUT_MOST_POINTS = 65535,
     VARNWALNUT_TRIP_BYTES = 1032,  /* the longest answer to a trip: 511 roads */
-    VARNWALNUT_NETWORK_BYTES = 283648, /* the longest network file */
+    VARNWALNUT_NETWORK_BYTES = 285696, /* the longest network file */
     VARNWALNUT_PLAN_BYTES = 7023616,   /* the longest plan file */
     VARNWALNUT_WORK_ENTRIES = 1474560  /* the longest work list that making a plan needs: ticks x places */
 };
@@ -48,21 +48,23 @@ enum {
 #define VARNWALNUT_NEVER UINT32_C(4294967295)
 
 /*
- * Refusals. The lowest number wins, then the lowest place; a function with another order names it. In
- * brackets: what the three places say; places that are not named are 0. Where counts do not add up, the place
- * is how many roads or profiles there are.
+ * Refusals. The lowest number wins, then the lowest place, but for 37, which comes straight after 7, over all
+ * places; a function with another order names it. In brackets: what the three places say; places that are not
+ * named are 0. Where counts do not add up, the place is how many roads or profiles there are.
  */
 enum {
     VARNWALNUT_OK = 0,
 
     /* the network file */
-    VARNWALNUT_NETWORK_LENGTH = 1,  /* its length is zero, no multiple of 512, or above 554 blocks */
+    VARNWALNUT_NETWORK_LENGTH = 1,  /* its length is zero, no multiple of 512, or above 558 blocks */
     VARNWALNUT_NETWORK_SUM = 2,     /* a block's check is wrong (block) */
     VARNWALNUT_NETWORK_FIRST = 3,   /* the first block's kind, number, entries, byte 1 or fill */
     VARNWALNUT_NETWORK_LIMITS = 4,  /* the header's numbers are outside the limits */
     VARNWALNUT_NETWORK_SIZE = 5,    /* its length is not what the header calls for */
     VARNWALNUT_NETWORK_FORM = 6,    /* a later block's kind, number, entries, byte 1 or fill (block) */
     VARNWALNUT_NETWORK_CELL = 7,    /* a cell is not below the count of cells (place) */
+    VARNWALNUT_NETWORK_HOURS = 37,  /* a place's open tick is not below its close tick, or that one above the
+                                       period; without hours: it is not open all day (place) */
     VARNWALNUT_NETWORK_ROAD = 8,    /* a road's ends or count of points (road); the counts' sum (roads) */
     VARNWALNUT_NETWORK_POINT = 9,   /* a point's tick or travel (point) */
     VARNWALNUT_NETWORK_FIFO = 10,   /* leaving later would arrive earlier (the earlier point) */
@@ -116,8 +118,8 @@ enum {
  */
 
 /*
- * Over all roads: the arrival is the earliest over all ways, with whatever waits. Refusals: 1 to 10, 25, 26,
- * 28, 31.
+ * Over all roads: the arrival is the earliest over all ways, with whatever waits. Hours play no part in it.
+ * Refusals: 1 to 10 with 37, 25, 26, 28, 31.
  */
 uint32_t varnwalnut_plain_trip(const uint8_t *network, size_t network_length,
                                uint8_t *answer, size_t answer_length,
@@ -125,8 +127,8 @@ uint32_t varnwalnut_plain_trip(const uint8_t *network, size_t network_length,
 
 /*
  * Over the roads with the flag of the target's cell. Under a plan that varnwalnut_check_plan accepts, the
- * arrival is the earliest over all ways too, and 28 is said exactly when there is none. Refusals: 1 to 19,
- * 25, 26, 28, 31.
+ * arrival is the earliest over all ways too, and 28 is said exactly when there is none. Refusals: 1 to 19
+ * with 37, 25, 26, 28, 31.
  */
 uint32_t varnwalnut_flagged_trip(const uint8_t *network, size_t network_length,
                                  const uint8_t *plan, size_t plan_length,
@@ -145,7 +147,7 @@ uint32_t varnwalnut_flagged_trip(const uint8_t *network, size_t network_length,
 /*
  * Is the plan one that the flagged trips of this network may trust? 0 exactly when its profiles are the true
  * least travels at every tick and its flags are enough. answer[0..5]: the places, then how many finds the
- * check made, in 64 bits: the low 32 bits, then the high. Refusals: 1 to 24, 31.
+ * check made, in 64 bits: the low 32 bits, then the high. Refusals: 1 to 24 with 37, 31.
  *
  * A find is one piece of a day, from a point to the next, looked up and divided by its width. For each border
  * and each of 21 to 24 the finds are at most twice the points of all roads, twice those of all the border's
@@ -166,9 +168,9 @@ uint32_t varnwalnut_check_plan(const uint8_t *network, size_t network_length,
  *
  * answer[0..4]: the places, then the file's length in bytes. `work` needs an entry for each tick of each
  * place, at most VARNWALNUT_WORK_ENTRIES; `out` needs at most VARNWALNUT_PLAN_BYTES. On a refusal no byte of
- * `out` changes; else its first bytes become the file and the others stay. On 1 to 10 and on 34 `work` stays
+ * `out` changes; else its first bytes become the file and the others stay. On 1 to 10, 37 and 34 `work` stays
  * as it was; on 33, on 31 for `out` and on success the entries that are needed end as 0, and those after them
- * stay. Refusals: 1 to 10, 34, 33, 31, in this order.
+ * stay. Refusals: 1 to 10 with 37, then 34, 33, 31, in this order.
  */
 uint32_t varnwalnut_make_plan(const uint8_t *network, size_t network_length,
                               uint32_t *work, size_t work_length,
@@ -176,13 +178,17 @@ uint32_t varnwalnut_make_plan(const uint8_t *network, size_t network_length,
                               uint32_t *answer, size_t answer_length);
 
 /*
- * The tables of a network file: for each place its cell; for each road where it leads from and to and its
- * count of points; for each point its tick and travel. answer[0..9]: the places, then network number, period,
- * places, roads, cells, points. On a refusal every table stays as it was; else only the first entries of each
- * change, as many as there are places, roads or points. Refusals: 1 to 10, 30, 31.
+ * The tables of a network file: for each place its cell and the ticks at which it opens and closes; for each
+ * road where it leads from and to and its count of points; for each point its tick and travel. A place is
+ * open from its open tick up to, and without, its close tick, every day. answer[0..10]: the places, then
+ * network number, period, places, roads, cells, points, and 1 where the file holds hours, else 0: then every
+ * place opens at 0 and closes at the period. On a refusal every table stays as it was; else only the first
+ * entries of each change, as many as there are places, roads or points. Refusals: 1 to 10 with 37, 30, 31.
  */
 uint32_t varnwalnut_open_network(const uint8_t *network, size_t network_length,
                                  uint16_t *cells, size_t cells_length,
+                                 uint16_t *opens, size_t opens_length,
+                                 uint16_t *closes, size_t closes_length,
                                  uint16_t *from, size_t from_length,
                                  uint16_t *to, size_t to_length,
                                  uint16_t *points, size_t points_length,
@@ -191,14 +197,18 @@ uint32_t varnwalnut_open_network(const uint8_t *network, size_t network_length,
                                  uint32_t *answer, size_t answer_length);
 
 /*
- * The network file of such tables, of which only the first entries are looked at. answer[0..4]: the places,
- * then the file's length in bytes. On a refusal no byte of `out` changes; else its first bytes become the
- * file and the others stay. What is packed opens to the same tables, and the tables of an opened file pack to
- * the same bytes. Refusals: 4, 30, 7 to 10, 31, in this order.
+ * The network file of such tables, of which only the first entries are looked at. `hours` is 1 for a file
+ * that holds hours and 0 for one that does not; above 1 is 4. Under 0 every place has to open at 0 and close
+ * at the period, else it is 37; under 1 the hours are written, also where all places are open all day.
+ * answer[0..4]: the places, then the file's length in bytes. On a refusal no byte of `out` changes; else its
+ * first bytes become the file and the others stay. What is packed opens to the same tables, and the tables of
+ * an opened file pack to the same bytes. Refusals: 4, 30, 7, 37, 8 to 10, 31, in this order.
  */
 uint32_t varnwalnut_pack_network(uint32_t number, uint32_t period, uint32_t place_count, uint32_t road_count,
-                                 uint32_t cell_count, uint32_t point_count,
+                                 uint32_t cell_count, uint32_t point_count, uint32_t hours,
                                  const uint16_t *cells, size_t cells_length,
+                                 const uint16_t *opens, size_t opens_length,
+                                 const uint16_t *closes, size_t closes_length,
                                  const uint16_t *from, size_t from_length,
                                  const uint16_t *to, size_t to_length,
                                  const uint16_t *points, size_t points_length,
@@ -220,7 +230,7 @@ uint32_t varnwalnut_pack_network(uint32_t number, uint32_t period, uint32_t plac
  *
  * The network has the number given, the period 2,880, one cell and a place for each node, numbered one lower.
  * Its roads are the arcs in the order of the text, each with one point: the weight is its travel in ticks, at
- * every hour. What is written opens.
+ * every hour. It holds no hours. What is written opens.
  *
  * answer[0..4]: the places, then the file's length in bytes. Lines are numbered from 1. 35 names the first
  * line that has no such form, is an arc before the sizes, a second line of sizes, or an arc more than ARCS;
@@ -236,11 +246,14 @@ uint32_t varnwalnut_import_dimacs(const uint8_t *text, size_t text_length,
                                   uint32_t *answer, size_t answer_length);
 
 /*
- * The trips with lent lists. answer[0..5]: the places, then the tick of arrival and the count of roads. Up to
- * 27 both lists stay as they were. On arrival and on 29 the first arrivals, one for each place, hold the
- * earliest arrival where it is before the target's or the place is the target, else never; on 28 the earliest
- * arrival of every place that can be reached, and never for the others. `roads` changes only on arrival, in
- * its first entries, as many as are counted. Refusals: those of the tablet's trips, and 27 and 29.
+ * The trips with lent lists. answer[0..6]: the places, then the tick of arrival, the count of roads and the
+ * open tick: the first tick from the arrival on at which the target is open. It counts on from the day of
+ * leaving, as the arrival does, and may be the next day's; from a place to itself it is asked from the
+ * departure on. Driving through a place that is shut is allowed. Up to 27 both lists stay as they were. On
+ * arrival and on 29 the first arrivals, one for each place, hold the earliest arrival where it is before the
+ * target's or the place is the target, else never; on 28 the earliest arrival of every place that can be
+ * reached, and never for the others. `roads` changes only on arrival, in its first entries, as many as are
+ * counted. Refusals: those of the tablet's trips, and 27 and 29.
  */
 uint32_t varnwalnut_plain_trip_lists(const uint8_t *network, size_t network_length,
                                      uint32_t from, uint32_t to, uint32_t departure,

@@ -4,7 +4,7 @@ use crate::finds;
 use crate::library;
 use crate::plain::blocks::{sums, BLOCK};
 use crate::plain::network::{self, Header, Tables};
-use crate::plain::trips::{self, Ask};
+use crate::plain::trips::{self, Arrived, Ask};
 use crate::plain::{check, import, pack, Refusal};
 use crate::texts::{self, Text};
 use crate::town::{Dice, Town};
@@ -16,6 +16,8 @@ pub type Seen = [usize; 40];
 #[derive(Clone, PartialEq, Eq, Debug)]
 pub struct Opened {
     cells: Vec<u16>,
+    opens: Vec<u16>,
+    closes: Vec<u16>,
     tails: Vec<u16>,
     heads: Vec<u16>,
     counts: Vec<u16>,
@@ -27,6 +29,8 @@ impl Opened {
     pub fn room() -> Opened {
         Opened {
             cells: vec![0; 512],
+            opens: vec![0; 512],
+            closes: vec![0; 512],
             tails: vec![0; 2048],
             heads: vec![0; 2048],
             counts: vec![0; 2048],
@@ -38,6 +42,8 @@ impl Opened {
     pub fn lend(&mut self) -> Tables<'_> {
         Tables {
             cells: &mut self.cells,
+            opens: &mut self.opens,
+            closes: &mut self.closes,
             tails: &mut self.tails,
             heads: &mut self.heads,
             counts: &mut self.counts,
@@ -48,9 +54,9 @@ impl Opened {
 }
 
 /// What a trip leaves: its outcome, arrivals and roads.
-type Left = (Result<(u32, usize), Refusal>, Vec<u32>, Vec<u16>);
+type Left = (Result<Arrived, Refusal>, Vec<u32>, Vec<u16>);
 
-fn leave(trip: impl FnOnce(&mut [u32], &mut [u16]) -> Result<(u32, usize), Refusal>) -> Left {
+fn leave(trip: impl FnOnce(&mut [u32], &mut [u16]) -> Result<Arrived, Refusal>) -> Left {
     let mut arrivals = vec![7; 520];
     let mut roads = vec![9; 520];
     let outcome = trip(&mut arrivals, &mut roads);
@@ -89,7 +95,7 @@ fn opens(file: &[u8]) -> (Result<Header, Refusal>, Opened) {
 }
 
 fn packs(header: &Header, town: &Town) -> Result<usize, Refusal> {
-    let (mut left, mut ours) = (vec![5; 283_650], vec![5; 283_650]);
+    let (mut left, mut ours) = (vec![5; 285_698], vec![5; 285_698]);
     let long = library::pack(header, &lists(town), &mut left);
     assert_eq!(long, pack::pack(header, &lists(town), &mut ours), "pack");
     assert!(left == ours, "bytes of pack");
@@ -102,7 +108,7 @@ pub fn on_trips(files: &Files, asks: &[Ask]) {
         let plain = plain_trips(&files.network, ask);
         for plan in [&files.plan, &files.light_plan] {
             let flagged = flagged_trips(&files.network, plan, ask);
-            assert_eq!(plain.0.map(|(tick, _)| tick), flagged.0.map(|(tick, _)| tick), "{ask:?}");
+            assert_eq!(plain.0.map(|arrived| arrived.tick), flagged.0.map(|arrived| arrived.tick), "{ask:?}");
         }
         byte_trips(&files.network, &files.plan, ask);
     }
@@ -113,6 +119,19 @@ pub fn on_tables(town: &Town, files: &Files) {
     assert_eq!(opens(&files.network).0, Ok(header));
     assert_eq!(packs(&header, town), Ok(files.network.len()));
     assert_eq!(packs(&Header { points: header.points - 1, ..header }, town).map_err(|refusal| refusal.number), Err(8));
+}
+
+/// The same town with hours: tables, trips with their open ticks, and damaged files.
+pub fn on_hours(town: &Town, files: &Files, asks: &[Ask], cases: usize) -> Seen {
+    let town = town.with_hours(&mut Dice::new(6));
+    let header = header(&town);
+    let mut network = vec![0; BLOCK * header.blocks()];
+    pack::pack(&header, &lists(&town), &mut network).expect("hours that are allowed");
+    let files = Files { network, ..files.clone() };
+    on_tables(&town, &files);
+    assert_eq!(packs(&Header { hours: 0, ..header }, &town).map_err(|refusal| refusal.number), Err(37));
+    on_trips(&files, asks);
+    on_damaged_files(&files, asks, cases)
 }
 
 /// A file with one byte changed at random; mostly its block's check is mended, so that later rules speak.

@@ -7,6 +7,7 @@ use crate::profiles::{compress, Days};
 use crate::town::Town;
 
 /// A network file and plan files for it.
+#[derive(Clone)]
 pub struct Files {
     pub network: Vec<u8>,
     pub plan: Vec<u8>,
@@ -23,11 +24,21 @@ pub fn header(town: &Town) -> Header {
         arcs: town.tails.len() as u32,
         cells: town.cell_count as u32,
         points: town.ticks.len() as u32,
+        hours: town.hours as u32,
     }
 }
 
 pub fn lists(town: &Town) -> Lists<'_> {
-    Lists { cells: &town.cells, tails: &town.tails, heads: &town.heads, counts: &town.counts, ticks: &town.ticks, travels: &town.travels }
+    Lists {
+        cells: &town.cells,
+        opens: &town.opens,
+        closes: &town.closes,
+        tails: &town.tails,
+        heads: &town.heads,
+        counts: &town.counts,
+        ticks: &town.ticks,
+        travels: &town.travels,
+    }
 }
 
 /// The nodes with an arc from another cell, rising.

@@ -1,7 +1,7 @@
 //! The C library behind safe functions. A slice passes as a pointer and a count of elements; every call returns the refusal or 0.
 use crate::plain::network::{Header, Tables};
 use crate::plain::pack::Lists;
-use crate::plain::trips::Ask;
+use crate::plain::trips::{Arrived, Ask};
 use crate::plain::Refusal;
 
 mod entry {
@@ -39,6 +39,10 @@ mod entry {
             network_len: usize,
             cells: *mut u16,
             cells_len: usize,
+            opens: *mut u16,
+            opens_len: usize,
+            closes: *mut u16,
+            closes_len: usize,
             from: *mut u16,
             from_len: usize,
             to: *mut u16,
@@ -59,8 +63,13 @@ mod entry {
             arcs: u32,
             cells: u32,
             points: u32,
+            hours: u32,
             cell_of: *const u16,
             cell_of_len: usize,
+            opens: *const u16,
+            opens_len: usize,
+            closes: *const u16,
+            closes_len: usize,
             from: *const u16,
             from_len: usize,
             to: *const u16,
@@ -124,6 +133,11 @@ fn outcome<T>(number: u32, answer: &[u32], told: T) -> Result<T, Refusal> {
     }
 }
 
+/// What the trips with lists answer behind the places.
+fn arrived(answer: &[u32; 6]) -> Arrived {
+    Arrived { tick: answer[3], count: answer[4] as usize, open: answer[5] }
+}
+
 pub fn plain_trip(network: &[u8], out: &mut [u8], ask: &Ask) -> u32 {
     // SAFETY: in each call below, every pointer stands beside the length of the slice that it comes from, and no two lent slices overlap.
     unsafe { entry::varnwalnut_plain_trip(network.as_ptr(), network.len(), out.as_mut_ptr(), out.len(), ask.from, ask.to, ask.departure) }
@@ -145,8 +159,8 @@ pub fn flagged_trip(network: &[u8], plan: &[u8], out: &mut [u8], ask: &Ask) -> u
     }
 }
 
-pub fn plain_trip_lists(network: &[u8], ask: &Ask, arrivals: &mut [u32], roads: &mut [u16]) -> Result<(u32, usize), Refusal> {
-    let mut answer = [0; 5];
+pub fn plain_trip_lists(network: &[u8], ask: &Ask, arrivals: &mut [u32], roads: &mut [u16]) -> Result<Arrived, Refusal> {
+    let mut answer = [0; 6];
     let number = unsafe {
         entry::varnwalnut_plain_trip_lists(
             network.as_ptr(),
@@ -162,17 +176,11 @@ pub fn plain_trip_lists(network: &[u8], ask: &Ask, arrivals: &mut [u32], roads: 
             answer.len(),
         )
     };
-    outcome(number, &answer, (answer[3], answer[4] as usize))
+    outcome(number, &answer, arrived(&answer))
 }
 
-pub fn flagged_trip_lists(
-    network: &[u8],
-    plan: &[u8],
-    ask: &Ask,
-    arrivals: &mut [u32],
-    roads: &mut [u16],
-) -> Result<(u32, usize), Refusal> {
-    let mut answer = [0; 5];
+pub fn flagged_trip_lists(network: &[u8], plan: &[u8], ask: &Ask, arrivals: &mut [u32], roads: &mut [u16]) -> Result<Arrived, Refusal> {
+    let mut answer = [0; 6];
     let number = unsafe {
         entry::varnwalnut_flagged_trip_lists(
             network.as_ptr(),
@@ -190,7 +198,7 @@ pub fn flagged_trip_lists(
             answer.len(),
         )
     };
-    outcome(number, &answer, (answer[3], answer[4] as usize))
+    outcome(number, &answer, arrived(&answer))
 }
 
 /// The verdict, and how many finds the check made: the low word stands behind the places, and the high one behind it.
@@ -203,13 +211,17 @@ pub fn check_plan(network: &[u8], plan: &[u8]) -> (Result<(), Refusal>, u64) {
 }
 
 pub fn open(network: &[u8], tables: Tables) -> Result<Header, Refusal> {
-    let mut answer = [0; 9];
+    let mut answer = [0; 10];
     let number = unsafe {
         entry::varnwalnut_open_network(
             network.as_ptr(),
             network.len(),
             tables.cells.as_mut_ptr(),
             tables.cells.len(),
+            tables.opens.as_mut_ptr(),
+            tables.opens.len(),
+            tables.closes.as_mut_ptr(),
+            tables.closes.len(),
             tables.tails.as_mut_ptr(),
             tables.tails.len(),
             tables.heads.as_mut_ptr(),
@@ -224,8 +236,8 @@ pub fn open(network: &[u8], tables: Tables) -> Result<Header, Refusal> {
             answer.len(),
         )
     };
-    let [_, _, _, network, period, nodes, arcs, cells, points] = answer;
-    outcome(number, &answer, Header { number: network, period, nodes, arcs, cells, points })
+    let [_, _, _, network, period, nodes, arcs, cells, points, hours] = answer;
+    outcome(number, &answer, Header { number: network, period, nodes, arcs, cells, points, hours })
 }
 
 pub fn pack(header: &Header, lists: &Lists, out: &mut [u8]) -> Result<usize, Refusal> {
@@ -238,8 +250,13 @@ pub fn pack(header: &Header, lists: &Lists, out: &mut [u8]) -> Result<usize, Ref
             header.arcs,
             header.cells,
             header.points,
+            header.hours,
             lists.cells.as_ptr(),
             lists.cells.len(),
+            lists.opens.as_ptr(),
+            lists.opens.len(),
+            lists.closes.as_ptr(),
+            lists.closes.len(),
             lists.tails.as_ptr(),
             lists.tails.len(),
             lists.heads.as_ptr(),

@@ -10,7 +10,10 @@ fn quay_town() -> Town {
         number: 1,
         period: 10,
         cell_count: 2,
+        hours: false,
         cells: vec![0, 0, 1, 1],
+        opens: vec![0; 4],
+        closes: vec![10; 4],
         tails: vec![0, 1, 0, 2],
         heads: vec![1, 2, 2, 3],
         counts: vec![1, 2, 1, 1],
@@ -27,9 +30,9 @@ fn ask(from: u32, to: u32, departure: u32) -> Ask {
 fn trip(files: &Files, ask: &Ask) -> Result<(u32, Vec<u16>), u32> {
     let (outcome, _, roads) = agree::plain_trips(&files.network, ask);
     let flagged = agree::flagged_trips(&files.network, &files.plan, ask).0;
-    assert_eq!(outcome.map(|(tick, _)| tick), flagged.map(|(tick, _)| tick));
+    assert_eq!(outcome.map(|arrived| arrived.tick), flagged.map(|arrived| arrived.tick));
     match outcome {
-        Ok((tick, count)) => Ok((tick, roads[..count].to_vec())),
+        Ok(arrived) => Ok((arrived.tick, roads[..arrived.count].to_vec())),
         Err(refusal) => Err(refusal.number),
     }
 }
@@ -88,4 +91,5 @@ fn contestants_agree_on_the_medium_town() {
     let asks: Vec<Ask> = (0..20).map(|k| ask(k * 5 % 100, k * 37 % 100, k * 143)).collect();
     agree::on_trips(&files, &asks);
     agree::on_damaged_files(&files, &asks, 300);
+    agree::on_hours(&town, &files, &asks, 300);
 }

@@ -70,11 +70,13 @@ pub fn agree(medium: &Subject, full: &Subject, texts: &[Text]) {
         agree::on_trips(&subject.files, &subject.asks);
     }
     let trips = agree::on_damaged_files(&medium.files, &medium.asks, 2000);
+    let hours = agree::on_hours(&medium.town, &medium.files, &medium.asks, 1000);
     let checks = agree::on_checks(&medium.files, 12);
     let imports = agree::on_texts(texts, 20_000);
-    // Each ask of each town is a plain and two flagged trips in lists, and a plain and a flagged one in bytes.
-    println!("alike: {} trips; on damaged files, in checks and in imports, refusal:times", 5 * ASKS * 2);
-    println!("  files {}\n  checks {}\n  imports {}", told(&trips), told(&checks), told(&imports));
+    // Each ask of each town, and of the medium one with hours, is a plain and two flagged trips in lists, and a plain and a flagged one in bytes.
+    println!("alike: {} trips; on damaged files, in checks and in imports, refusal:times", 5 * ASKS * 3);
+    println!("  files {}\n  files with hours {}", told(&trips), told(&hours));
+    println!("  checks {}\n  imports {}", told(&checks), told(&imports));
 }
 
 /// Refusal numbers with how often each occurred.
@@ -217,7 +219,7 @@ fn opens(subject: &Subject, rounds: usize) {
 
 fn packs(subject: &Subject, rounds: usize) {
     let (header, lists) = (files::header(&subject.town), files::lists(&subject.town));
-    let (mut left, mut ours) = (vec![0; 283_648], vec![0; 283_648]);
+    let (mut left, mut ours) = (vec![0; 285_696], vec![0; 285_696]);
     let [library, rust] = interleave(
         rounds,
         16,
@@ -287,7 +289,7 @@ pub fn stacks(full: &Subject, medium: &Subject, text: &Text) {
     let mut arrivals = [0; 512];
     let mut roads = [0; 512];
     let mut opened = Opened::room();
-    let mut out = vec![0; 283_648];
+    let mut out = vec![0; 285_696];
     println!("stack of a library call, bytes ({} is the least that is told):", stack::MARGIN);
     println!("  plain trip          {}", stack::need(|| _ = library::plain_trip(network, &mut answer, ask)));
     println!("  flagged trip        {}", stack::need(|| _ = library::flagged_trip(network, plan, &mut answer, ask)));

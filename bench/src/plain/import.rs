@@ -184,7 +184,7 @@ fn encode(header: &Header, arcs: &[Arc], out: &mut [u8]) {
 pub fn import(text: &[u8], number: u32, out: &mut [u8]) -> Result<usize, Refusal> {
     let mut reading = Reading { lines: 0, sizes: None, seen: 0, wrong: 0, arcs: [[0; 3]; MOST_ARCS] };
     let (nodes, arcs) = judge(text, &mut reading)?;
-    let header = Header { number, period: PERIOD, nodes, arcs, cells: 1, points: arcs };
+    let header = Header { number, period: PERIOD, nodes, arcs, cells: 1, points: arcs, hours: 0 };
     let long = BLOCK * header.blocks();
     if out.len() < long {
         return Err(refuse(31, 0));

@@ -1,13 +1,15 @@
-//! Network files: the header and its limits, validation (refusals 1 to 10), the entries read in place, and Open.
+//! Network files: the header and its limits, validation (refusals 1 to 10 and 37), the entries read in place, and Open.
 use super::blocks::{blocks_of, first_bad_sum, first_unformed, is_formed, le16, le32, Block, Kind, BLOCK};
 use super::points::judge_points;
 use super::{refuse, Refusal};
 
 pub const CELLS: Kind = Kind { kind: 2, per: 250, size: 2 };
+/// Cells with hours, where byte 24 of the header is 1.
+pub const HALLS: Kind = Kind { kind: 9, per: 83, size: 6 };
 pub const ARCS: Kind = Kind { kind: 3, per: 83, size: 6 };
 pub const POINTS: Kind = Kind { kind: 4, per: 125, size: 4 };
 
-const MOST_BLOCKS: usize = 554;
+const MOST_BLOCKS: usize = 558;
 
 #[derive(Clone, Copy, Debug, PartialEq, Eq)]
 pub struct Header {
@@ -17,6 +19,8 @@ pub struct Header {
     pub arcs: u32,
     pub cells: u32,
     pub points: u32,
+    /// 1 where hours are held.
+    pub hours: u32,
 }
 
 impl Header {
@@ -26,10 +30,26 @@ impl Header {
             && self.arcs <= 2048
             && (1..=64).contains(&self.cells)
             && self.points <= 65_535
+            && self.hours <= 1
+    }
+
+    pub fn place_kind(&self) -> Kind {
+        if self.hours == 0 {
+            CELLS
+        } else {
+            HALLS
+        }
+    }
+
+    /// May a place have these hours?
+    #[inline(always)]
+    pub fn allows(&self, open: u16, close: u16) -> bool {
+        let all_day = open == 0 && close as u32 == self.period;
+        open < close && close as u32 <= self.period && (self.hours == 1 || all_day)
     }
 
     pub fn arc_block(&self) -> usize {
-        1 + CELLS.blocks(self.nodes as usize)
+        1 + self.place_kind().blocks(self.nodes as usize)
     }
 
     pub fn point_block(&self) -> usize {
@@ -77,7 +97,19 @@ impl<'a> Network<'a> {
 
     #[inline(always)]
     pub fn cell(&self, v: usize) -> u16 {
-        le16(&self.cells[v / CELLS.per], 8 + 2 * (v % CELLS.per))
+        match self.header.hours {
+            0 => le16(&self.cells[v / CELLS.per], 8 + 2 * (v % CELLS.per)),
+            _ => le16(&self.cells[v / HALLS.per], 8 + 6 * (v % HALLS.per)),
+        }
+    }
+
+    /// The ticks at which a place opens and closes.
+    pub fn hours(&self, v: usize) -> (u16, u16) {
+        if self.header.hours == 0 {
+            return (0, self.period as u16);
+        }
+        let (block, at) = (&self.cells[v / HALLS.per], 8 + 6 * (v % HALLS.per));
+        (le16(block, at + 2), le16(block, at + 4))
     }
 
     /// All arcs by rising number, without a division for each.
@@ -114,10 +146,11 @@ fn header_of(block: &Block) -> Header {
         arcs: le16(block, 16) as u32,
         cells: le16(block, 18) as u32,
         points: le32(block, 20),
+        hours: block[24] as u32,
     }
 }
 
-/// Refusals 1 to 10, or the tables.
+/// Refusals 1 to 10 and 37, or the tables.
 pub fn validate(file: &[u8]) -> Result<Network<'_>, Refusal> {
     if file.is_empty() || !file.len().is_multiple_of(BLOCK) || file.len() > MOST_BLOCKS * BLOCK {
         return Err(refuse(1, 0));
@@ -126,7 +159,7 @@ pub fn validate(file: &[u8]) -> Result<Network<'_>, Refusal> {
     if let Some(block) = first_bad_sum(blocks) {
         return Err(refuse(2, block));
     }
-    if !is_formed(&blocks[0], 0, 1, 1, 24) {
+    if !is_formed(&blocks[0], 0, 1, 1, 25) {
         return Err(refuse(3, 0));
     }
     let header = header_of(&blocks[0]);
@@ -136,7 +169,8 @@ pub fn validate(file: &[u8]) -> Result<Network<'_>, Refusal> {
     if blocks.len() != header.blocks() {
         return Err(refuse(5, 0));
     }
-    let runs = [(1, CELLS, header.nodes), (header.arc_block(), ARCS, header.arcs), (header.point_block(), POINTS, header.points)];
+    let runs =
+        [(1, header.place_kind(), header.nodes), (header.arc_block(), ARCS, header.arcs), (header.point_block(), POINTS, header.points)];
     for (from, kind, n) in runs {
         if let Some(block) = first_unformed(blocks, from, kind, n as usize) {
             return Err(refuse(6, block));
@@ -147,10 +181,14 @@ pub fn validate(file: &[u8]) -> Result<Network<'_>, Refusal> {
     Ok(network)
 }
 
-/// Rules 7 to 10.
+/// Rules 7, 37 and 8 to 10.
 pub fn judge(network: &Network) -> Result<(), Refusal> {
     if let Some(v) = (0..network.nodes).find(|&v| network.cell(v) as u32 >= network.header.cells) {
         return Err(refuse(7, v));
+    }
+    let is_allowed = |(open, close)| network.header.allows(open, close);
+    if let Some(v) = (0..network.nodes).find(|&v| !is_allowed(network.hours(v))) {
+        return Err(refuse(37, v));
     }
     let mut sum = 0;
     for (a, arc) in network.each_arc().enumerate() {
@@ -166,9 +204,11 @@ pub fn judge(network: &Network) -> Result<(), Refusal> {
     judge_points(network)
 }
 
-/// The six tables of Open.
+/// The tables of Open.
 pub struct Tables<'a> {
     pub cells: &'a mut [u16],
+    pub opens: &'a mut [u16],
+    pub closes: &'a mut [u16],
     pub tails: &'a mut [u16],
     pub heads: &'a mut [u16],
     pub counts: &'a mut [u16],
@@ -176,12 +216,23 @@ pub struct Tables<'a> {
     pub travels: &'a mut [u16],
 }
 
-/// Refusals 1 to 10 and 30, or the header with the tables filled.
+/// The cells of a file that holds no hours.
+fn open_all_day(network: &Network, cells: &mut [u16]) {
+    for (part, block) in cells.chunks_mut(CELLS.per).zip(network.cells) {
+        for (cell, entry) in part.iter_mut().zip(block[8..508].as_chunks::<2>().0) {
+            *cell = le16(entry, 0);
+        }
+    }
+}
+
+/// Refusals 1 to 10, 37 and 30, or the header with the tables filled.
 pub fn open(file: &[u8], tables: Tables) -> Result<Header, Refusal> {
     let network = validate(file)?;
     let header = network.header;
     let (nodes, arcs, points) = (network.nodes, network.arcs, header.points as usize);
     let is_short = tables.cells.len() < nodes
+        || tables.opens.len() < nodes
+        || tables.closes.len() < nodes
         || tables.tails.len() < arcs
         || tables.heads.len() < arcs
         || tables.counts.len() < arcs
@@ -190,9 +241,14 @@ pub fn open(file: &[u8], tables: Tables) -> Result<Header, Refusal> {
     if is_short {
         return Err(refuse(30, 0));
     }
-    for (part, block) in tables.cells[..nodes].chunks_mut(CELLS.per).zip(network.cells) {
-        for (cell, entry) in part.iter_mut().zip(block[8..508].as_chunks::<2>().0) {
-            *cell = le16(entry, 0);
+    if header.hours == 0 {
+        open_all_day(&network, &mut tables.cells[..nodes]);
+        tables.opens[..nodes].fill(0);
+        tables.closes[..nodes].fill(network.period as u16);
+    } else {
+        for v in 0..nodes {
+            tables.cells[v] = network.cell(v);
+            (tables.opens[v], tables.closes[v]) = network.hours(v);
         }
     }
     let ends = tables.tails[..arcs].iter_mut().zip(&mut tables.heads[..arcs]);

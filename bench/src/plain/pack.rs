@@ -1,12 +1,14 @@
 //! Pack: the tables are judged where they stand, and the file is written straight into the lent bytes.
 use super::blocks::{blocks_of, sums, Block, Kind, BLOCK};
-use super::network::{judge, Header, Network, ARCS, CELLS, POINTS};
+use super::network::{judge, Header, Network, ARCS, CELLS, HALLS, POINTS};
 use super::{refuse, Refusal};
 
-/// The six tables of a network.
+/// The tables of a network.
 #[derive(Clone, Copy)]
 pub struct Lists<'a> {
     pub cells: &'a [u16],
+    pub opens: &'a [u16],
+    pub closes: &'a [u16],
     pub tails: &'a [u16],
     pub heads: &'a [u16],
     pub counts: &'a [u16],
@@ -58,13 +60,14 @@ pub fn put_first(block: &mut Block, kind: u8, used: usize, put: impl Fn(&mut Blo
 
 /// The first block of a network's file.
 pub fn put_header(block: &mut Block, header: &Header) {
-    put_first(block, 1, 24, |block| {
+    put_first(block, 1, 25, |block| {
         put32(block, 8, header.number);
         let fields = [header.period, header.nodes, header.arcs, header.cells];
         for (k, field) in fields.into_iter().enumerate() {
             put16(block, 12 + 2 * k, field as u16);
         }
         put32(block, 20, header.points);
+        block[24] = header.hours as u8;
     });
 }
 
@@ -72,8 +75,16 @@ fn encode(header: &Header, lists: &Lists, out: &mut [u8]) {
     let blocks = out.as_chunks_mut().0;
     put_header(&mut blocks[0], header);
     let (nodes, arcs, points) = (header.nodes as usize, header.arcs as usize, header.points as usize);
-    let cells = &lists.cells[..nodes];
-    put_run(blocks, 1, CELLS, nodes, |slot: &mut [u8; 2], i| put16(slot, 0, cells[i]));
+    let (cells, opens, closes) = (&lists.cells[..nodes], &lists.opens[..nodes], &lists.closes[..nodes]);
+    if header.hours == 0 {
+        put_run(blocks, 1, CELLS, nodes, |slot: &mut [u8; 2], i| put16(slot, 0, cells[i]));
+    } else {
+        put_run(blocks, 1, HALLS, nodes, |slot: &mut [u8; 6], i| {
+            put16(slot, 0, cells[i]);
+            put16(slot, 2, opens[i]);
+            put16(slot, 4, closes[i]);
+        });
+    }
     let (tails, heads, counts) = (&lists.tails[..arcs], &lists.heads[..arcs], &lists.counts[..arcs]);
     put_run(blocks, header.arc_block(), ARCS, arcs, |slot: &mut [u8; 6], i| {
         put16(slot, 0, tails[i]);
@@ -90,6 +101,8 @@ fn encode(header: &Header, lists: &Lists, out: &mut [u8]) {
 fn is_short(header: &Header, lists: &Lists) -> bool {
     let (nodes, arcs, points) = (header.nodes as usize, header.arcs as usize, header.points as usize);
     lists.cells.len() < nodes
+        || lists.opens.len() < nodes
+        || lists.closes.len() < nodes
         || lists.tails.len() < arcs
         || lists.heads.len() < arcs
         || lists.counts.len() < arcs
@@ -97,11 +110,14 @@ fn is_short(header: &Header, lists: &Lists) -> bool {
         || lists.travels.len() < points
 }
 
-/// Rules 7 to 10 of tables.
+/// Rules 7, 37 and 8 to 10 of tables.
 fn judge_lists(header: &Header, lists: &Lists) -> Result<(), Refusal> {
     let nodes = header.nodes as usize;
     if let Some(v) = lists.cells[..nodes].iter().position(|&cell| cell as u32 >= header.cells) {
         return Err(refuse(7, v));
+    }
+    if let Some(v) = (0..nodes).find(|&v| !header.allows(lists.opens[v], lists.closes[v])) {
+        return Err(refuse(37, v));
     }
     let arcs = header.arcs as usize;
     let mut from = 0;
@@ -160,7 +176,7 @@ fn points_fault(header: &Header, lists: &Lists) -> Refusal {
     judge(&network).expect_err("a rule is broken")
 }
 
-/// Refusals 4, 30, 7 to 10 and 31, or the file's length with the file written.
+/// Refusals 4, 30, 7, 37, 8 to 10 and 31, or the file's length with the file written.
 pub fn pack(header: &Header, lists: &Lists, out: &mut [u8]) -> Result<usize, Refusal> {
     if !header.is_within_limits() {
         return Err(refuse(4, 0));

@@ -22,6 +22,14 @@ impl Ask {
     }
 }
 
+/// Where a trip ends: the tick of arrival, the count of roads, and the first tick from then on at which the target is open.
+#[derive(Clone, Copy, Debug, PartialEq, Eq)]
+pub struct Arrived {
+    pub tick: u32,
+    pub count: usize,
+    pub open: u32,
+}
+
 /// Refusals 25 to 27.
 fn judge_ask(network: &Network, ask: &Ask, room: usize) -> Result<(), Refusal> {
     if let Some(node) = [ask.from, ask.to].into_iter().find(|&node| node >= network.header.nodes) {
@@ -41,12 +49,15 @@ struct Searched {
     streets: Streets,
     labels: Labels,
     nodes: usize,
+    period: u32,
+    /// The target's.
+    hours: (u16, u16),
 }
 
 fn search_plain(network: &Network, ask: &Ask) -> Searched {
     let streets = Streets::new(network);
     let labels = reach(network, &streets, |_| true, ask.source(), ask.target(), ask.departure);
-    Searched { streets, labels, nodes: network.nodes }
+    Searched { streets, labels, nodes: network.nodes, period: network.period, hours: network.hours(ask.target()) }
 }
 
 fn search_flagged(network: &Network, plan: &Plan, ask: &Ask) -> Searched {
@@ -54,7 +65,7 @@ fn search_flagged(network: &Network, plan: &Plan, ask: &Ask) -> Searched {
     let cell = network.cell(ask.target());
     let permits = |arc: usize| plan.flags(arc) >> cell & 1 == 1;
     let labels = reach(network, &streets, permits, ask.source(), ask.target(), ask.departure);
-    Searched { streets, labels, nodes: network.nodes }
+    Searched { streets, labels, nodes: network.nodes, period: network.period, hours: network.hours(ask.target()) }
 }
 
 fn plain(network: &[u8], ask: &Ask, room: usize) -> Result<Searched, Refusal> {
@@ -70,8 +81,19 @@ fn flagged(network: &[u8], plan: &[u8], ask: &Ask, room: usize) -> Result<Search
     Ok(search_flagged(&network, &plan, ask))
 }
 
-/// The tick of arrival and the count of roads, with both lists written.
-fn tell(searched: &Searched, ask: &Ask, arrivals: &mut [u32], roads: &mut [u16]) -> Result<(u32, usize), Refusal> {
+/// The first tick from the arrival on at which the target is open.
+fn open_tick(searched: &Searched, arrival: u32) -> u32 {
+    let (open, close) = (searched.hours.0 as u32, searched.hours.1 as u32);
+    let tick = arrival % searched.period;
+    match tick {
+        _ if tick < open => arrival - tick + open,
+        _ if tick < close => arrival,
+        _ => arrival - tick + searched.period + open,
+    }
+}
+
+/// Where the trip ends, with both lists written.
+fn tell(searched: &Searched, ask: &Ask, arrivals: &mut [u32], roads: &mut [u16]) -> Result<Arrived, Refusal> {
     let (source, target) = (ask.source(), ask.target());
     for (v, arrival) in arrivals[..searched.nodes].iter_mut().enumerate() {
         *arrival = searched.labels.shown(v, target);
@@ -89,21 +111,15 @@ fn tell(searched: &Searched, ask: &Ask, arrivals: &mut [u32], roads: &mut [u16])
         at -= 1;
         roads[at] = arc;
     });
-    Ok((tick, count))
+    Ok(Arrived { tick, count, open: open_tick(searched, tick) })
 }
 
-pub fn plain_trip_lists(network: &[u8], ask: &Ask, arrivals: &mut [u32], roads: &mut [u16]) -> Result<(u32, usize), Refusal> {
+pub fn plain_trip_lists(network: &[u8], ask: &Ask, arrivals: &mut [u32], roads: &mut [u16]) -> Result<Arrived, Refusal> {
     let searched = plain(network, ask, arrivals.len())?;
     tell(&searched, ask, arrivals, roads)
 }
 
-pub fn flagged_trip_lists(
-    network: &[u8],
-    plan: &[u8],
-    ask: &Ask,
-    arrivals: &mut [u32],
-    roads: &mut [u16],
-) -> Result<(u32, usize), Refusal> {
+pub fn flagged_trip_lists(network: &[u8], plan: &[u8], ask: &Ask, arrivals: &mut [u32], roads: &mut [u16]) -> Result<Arrived, Refusal> {
     let searched = flagged(network, plan, ask, arrivals.len())?;
     tell(&searched, ask, arrivals, roads)
 }
@@ -111,9 +127,9 @@ pub fn flagged_trip_lists(
 const ANSWER_BYTES: usize = 1032;
 
 /// Document 01's answer: refusal or 0, arrival, count, roads. Returns the refusal or 0.
-fn answer(outcome: Result<(u32, usize), Refusal>, roads: &[u16], out: &mut [u8]) -> u32 {
+fn answer(outcome: Result<Arrived, Refusal>, roads: &[u16], out: &mut [u8]) -> u32 {
     let (number, tick, count) = match outcome {
-        Ok((tick, count)) => (0, tick, count),
+        Ok(arrived) => (0, arrived.tick, arrived.count),
         Err(refusal) => (refusal.number, 0, 0),
     };
     out[0..4].copy_from_slice(&number.to_le_bytes());

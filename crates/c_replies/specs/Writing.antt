@@ -15,6 +15,7 @@ use Rattle.search_path.specs.declared.answer.Arrival.{Arrival}
 use Rattle.search_path.specs.declared.answer.Answer.{Answer}
 use Rattle.search_path.specs.declared.answer.Answer.the-variants.{Arrived, Refused}
 use Rattle.search_path.specs.Says.{tripSays, tripTick, tripCount}
+use Rattle.trip_call.specs.Visit.{visitSays}
 use Rattle.network.specs.Limits.{mostRoads}
 use Rattle.plan_check.specs.declared.answer.Checking.{Checking}
 use Rattle.plan_check.specs.Answer.{reportSays}
@@ -137,6 +138,15 @@ pub report-numbers : (finds : ℕ) (o k : Checking) → o ≡ k → (old new : L
     → new ≡ overwritten (numbersOf (reportSays k finds)) old
     → new ≡ overwritten (numbersOf (reportSays o finds)) old
 report-numbers finds = case-numbers (λ v. reportSays v finds)
+
+-- and a trip's, whose target's hours are the same in either case
+pub visit-numbers : (opens : ℕ) (o k : Answer) → o ≡ k → (old new : List ℕ)
+    → new ≡ overwritten (numbersOf (visitSays k opens)) old
+    → new ≡ overwritten (numbersOf (visitSays o opens)) old
+visit-numbers opens = case-numbers (λ v. visitSays v opens)
+
+pub visit-number : (opens : ℕ) (o k : Answer) → o ≡ k → visitSays k opens .number ≡ visitSays o opens .number
+visit-number opens = case-number (λ v. visitSays v opens)
 
 -- for `search replies` where a trip's answer is written
 pub ruleset replies = (arrived-bytes, arrived-count, arrived-room, refused-bytes)

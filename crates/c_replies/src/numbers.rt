@@ -5,6 +5,7 @@ use network::answer::Opening;
 use plan_check::answer::Checking;
 use plan_check::answer::Report;
 use search_path::answer::Answer;
+use trip_call::visit::Visit;
 ghost use mathlib.Core.Path.{_≡_};
 ghost use Prim.Native.Nat.{_≤_};
 ghost use lib.ListN.{length};
@@ -13,7 +14,8 @@ ghost use Rattle.file_refusals.specs.Says.{numbersOf};
 ghost use Rattle.network.specs.Answer.{openingSays};
 ghost use Rattle.file_refusals.specs.Writing.{writingSays};
 ghost use Rattle.plan_check.specs.Answer.{reportSays};
-ghost use Rattle.search_path.specs.Says.{tripSays, tripCount};
+ghost use Rattle.search_path.specs.Says.{tripCount};
+ghost use Rattle.trip_call.specs.Visit.{visitSays};
 ghost use Rattle.network.specs.Limits.{mostRoads};
 
 // One more than the greatest number of 32 bits.
@@ -55,7 +57,7 @@ pub fn write_checking(report: Report, answer: &mut [u32]) -> u32
 
 // What Open answers.
 pub fn write_opening(opening: Opening, answer: &mut [u32]) -> u32
-    requires { ⌜ 9 ≤ length (now answer) ⌝ }
+    requires { ⌜ 10 ≤ length (now answer) ⌝ }
     ensures code { λ r. ⌜ r ≡ openingSays opening .number ⌝ }
     ensures numbers { λ _. ⌜ now (answer .exit)
         ≡ overwritten (numbersOf (openingSays opening)) (now (answer .entry)) ⌝ }
@@ -72,12 +74,13 @@ pub fn write_opening(opening: Opening, answer: &mut [u32]) -> u32
                 h.arcs as u32,
                 h.cells as u32,
                 h.points,
+                h.hours as u32,
             ];
             write(&numbers, answer);
             0
         }
         Opening::Refused(r) => {
-            let numbers = [r.first, r.second, r.third, 0, 0, 0, 0, 0, 0];
+            let numbers = [r.first, r.second, r.third, 0, 0, 0, 0, 0, 0, 0];
             write(&numbers, answer);
             r.number
         }
@@ -105,21 +108,23 @@ pub fn write_writing(packing: Writing, answer: &mut [u32]) -> u32
     }
 }
 
-// What a trip answers.
-pub fn write_lists(trip: Answer, answer: &mut [u32]) -> u32
-    requires { ⌜ (tripCount trip ≤ mostRoads) × (5 ≤ length (now answer)) ⌝ }
-    ensures code { λ r. ⌜ r ≡ tripSays trip .number ⌝ }
+// What a trip answers, and when its target is open.
+pub fn write_lists(visit: Visit, answer: &mut [u32]) -> u32
+    requires { ⌜ (tripCount (visit .trip) ≤ mostRoads) × (6 ≤ length (now answer)) ⌝ }
+    ensures code { λ r. ⌜ r ≡ visitSays (visit .trip) (visit .opens) .number ⌝ }
     ensures numbers { λ _. ⌜ now (answer .exit)
-        ≡ overwritten (numbersOf (tripSays trip)) (now (answer .entry)) ⌝ }
+        ≡ overwritten (numbersOf (visitSays (visit .trip) (visit .opens))) (now (answer .entry)) ⌝ }
 {
+    let opens = visit.opens;
+    let trip = visit.trip;
     match trip {
         Answer::Arrived(a) => {
-            let numbers = [0, 0, 0, a.tick, a.count as u32];
+            let numbers = [0, 0, 0, a.tick, a.count as u32, opens];
             write(&numbers, answer);
             0
         }
         Answer::Refused(r) => {
-            let numbers = [r.first, r.second, r.third, 0, 0];
+            let numbers = [r.first, r.second, r.third, 0, 0, 0];
             write(&numbers, answer);
             r.number
         }

@@ -16,6 +16,7 @@ use Rattle.file_frames.specs.Sealed.{sealedTo}
 use Rattle.network.specs.declared.header.Header.{Header}
 use Rattle.network.specs.declared.header.Layout.{Layout}
 use Rattle.network.specs.Limits.{mostNodes}
+use Rattle.network.specs.Node.{node-blocks-most}
 use Rattle.network.specs.Layout.{layoutOf, layout-blocks, allBlocks, mostBlocks}
 use Rattle.network.specs.Network.{Network}
 use Rattle.network_encode.specs.Encode.{headerOf, encode}
@@ -246,7 +247,7 @@ module _ (text : List ℕ) (h : Header) (l : Layout) (old frames entered new : L
   file-written framed put =
       let arcs = arcsOf (linesOf text) in
       network-written (imported (h .number) (h .nodes) (linesOf text)) old frames entered new writable header
-      (cell-at (h .number) (h .nodes) arcs) framed
+      refl (cell-at (h .number) (h .nodes) arcs) framed
       (entered-alike l arcs (h .number) (h .nodes) 0 0 frames (l .arcs) (l .points) entered put)
 
 -- and what its writing requires, for an accepted text and a list with room
@@ -260,7 +261,9 @@ module _ (text : List ℕ) (number : ℕ) (k : Sizes) (l : Layout) (f : Fit k (a
       ∙ sym (encode-long n))
 
   pub file-few : l .blocks ≤ mostBlocks
-  file-few = omega (arith, layout-blocks is, header-within number k (arcsOf (linesOf text)) f)
+  file-few =
+      let w = header-within number k (arcsOf (linesOf text)) f in
+      omega (arith, layout-blocks is, w, node-blocks-most 0 (w .nodes-most))
 
   pub now-writable : (room : ℕ) → number < 2 ^ 32 → blockSize * l .blocks ≤ room
       → NetworkWritable (headerFor number k) l room

@@ -20,14 +20,17 @@ use Rattle.dimacs_text.specs.declared.judge.Judgement.the-variants.{Accepted, R
 use Rattle.dimacs_text.specs.Reading.{judging}
 use Rattle.dimacs_text.specs.Arcs.{arcsOf}
 
--- so many nodes, all in cell 0; each arc once, in order, its ends lowered by one, its weight the travel all
--- day
+-- so many nodes, all in cell 0 and open all day, with no hours held; each arc once, in order, its ends
+-- lowered by one, its weight the travel all day
 abbrev pub networkBy : ℕ → ℕ → List Arc → Network
 networkBy number nodes arcs = record {
   number = number;
   period = mostPeriod;
   cells = 1;
+  hours = 0;
   cellOf = replicate nodes 0;
+  opens = replicate nodes 0;
+  closes = replicate nodes mostPeriod;
   tails = map (λ (a : Arc). a .tail - 1) arcs;
   heads = map (λ (a : Arc). a .head - 1) arcs;
   counts = replicate (length arcs) 1;

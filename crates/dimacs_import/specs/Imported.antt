@@ -61,6 +61,7 @@ headerFor number k = record {
   arcs = k .arcs;
   cells = 1;
   points = k .arcs;
+  hours = 0;
 }
 
 module _ (number : ℕ) (k : Sizes) (arcs : List Arc) (f : Fit k arcs) where
@@ -77,6 +78,7 @@ module _ (number : ℕ) (k : Sizes) (arcs : List Arc) (f : Fit k arcs) where
         arcs = a i;
         cells = 1;
         points = q i;
+        hours = 0;
       }
 
   pub header-within : WithinLimits (headerFor number k)
@@ -89,4 +91,5 @@ module _ (number : ℕ) (k : Sizes) (arcs : List Arc) (f : Fit k arcs) where
     cells-some = lit≤ tt;
     cells-most = lit≤ tt;
     points-most = omega (arith, f .within .arcs-few);
+    hours-most = lit≤ tt;
   }

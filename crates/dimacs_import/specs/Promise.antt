@@ -8,6 +8,7 @@ use mathlib.Core.List.{List, map}
 use Prim.Native.Nat.{ℕ, _-_, _^_, _<_}
 use native.Mathlib.Omega.{arith}
 use lib.ListN.{length, getD, take, replicate, List·getD-append, length-map, length-replicate}
+use lib.ListN.{getD-replicate}
 use lib.Seq.{take-at}
 use lib.Dec.{eqb, ltb}
 use Rattle.theory_loops.specs.Fill.{overwritten}
@@ -51,6 +52,8 @@ use Rattle.dimacs_import.specs.Sound.{imported-proper, imported-sound, i
 pub record OpensTo (number : ℕ) (k : Sizes) (roads : List Arc) (after : Tables) (r : Opening) : Type 0 where
   pub opened : r ≡ Opened (headerFor number k)
   pub cells : (v : ℕ) → v < k .nodes → getD (after .cells) v 0 ≡ 0
+  pub open-all-day : (v : ℕ) → v < k .nodes
+      → (getD (after .opens) v 0 ≡ 0) × (getD (after .closes) v 0 ≡ mostPeriod)
   pub tails : (i : ℕ) → i < k .arcs → getD (after .tails) i 0 ≡ arcAt roads i .tail - 1
   pub heads : (i : ℕ) → i < k .arcs → getD (after .heads) i 0 ≡ arcAt roads i .head - 1
   pub counts : (i : ℕ) → i < k .arcs → getD (after .counts) i 0 ≡ 1
@@ -84,7 +87,7 @@ module _ (number : ℕ) (k : Sizes) (roads : List Arc) (f : Fit k roads) (b : nu
       (encode-valid (imported-proper number k roads f b) (imported-sound number k roads f)))
 
   decoded : decode (encode n) ≡ n
-  decoded = decode-encode (imported-proper number k roads f b)
+  decoded = decode-encode (imported-proper number k roads f b) (imported-sound number k roads f)
 
   module _ (before after : Tables) (r : Opening) (c : OpenCall (encode n) before after r)
       (s : tooShort (headerFor number k) before ≡ false) where
@@ -103,6 +106,12 @@ module _ (number : ℕ) (k : Sizes) (roads : List Arc) (f : Fit k roads) (b : nu
           cells = λ v l.
               entry-kept (n .cellOf) _ v (omega (arith, length-replicate {A = ℕ} (k .nodes) 0))
               ∙ cell-at number (k .nodes) roads v;
+          open-all-day = λ v l. (
+            entry-kept (n .opens) _ v (omega (arith, length-replicate {A = ℕ} (k .nodes) 0))
+                ∙ cell-at number (k .nodes) roads v,
+            entry-kept (n .closes) _ v (omega (arith, length-replicate {A = ℕ} (k .nodes) mostPeriod))
+                ∙ getD-replicate (k .nodes) v mostPeriod 0 l,
+          );
           tails = λ i l.
               entry-kept (n .tails) _ i (omega (arith, length-map roads (λ (a : Arc). a .tail - 1), long))
               ∙ tail-at number (k .nodes) roads i;

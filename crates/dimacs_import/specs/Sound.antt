@@ -13,7 +13,7 @@ use Rattle.theory_travel.specs.Table.{entryAt}
 use Rattle.network.specs.Limits.{mostNodes, mostPeriod, WithinLimits}
 use Rattle.network.specs.Network.{Network, nodes, arcs, points, cell, tail, head, count, tick, travel, start}
 use Rattle.network.specs.Rules.{ticksOf, travelsOf}
-use Rattle.network.specs.Sound.{SoundArc, SoundPoints, SoundNetwork}
+use Rattle.network.specs.Sound.{SoundHours, SoundArc, SoundPoints, SoundNetwork}
 use Rattle.network.specs.Town.{travelAt}
 use Rattle.network_encode.specs.Encode.{Proper}
 use Rattle.dimacs_line.specs.declared.line.Sizes.{Sizes}
@@ -42,12 +42,12 @@ module _ (number : ℕ) (k : Sizes) (roads : List Arc) (f : Fit k roads) where
         rw e (lit≤ tt, lit≤ tt, lit≤ tt)
   ]
 
-  ones : (m i : ℕ) → getD {A = ℕ} (replicate m 1) i 0 ≤ 1
-  ones m i = elim (decLt i m) [
-    | yes l ↦ omega (arith, getD-replicate {A = ℕ} m i 1 0 l)
+  alike : (m v i : ℕ) → getD {A = ℕ} (replicate m v) i 0 ≤ v
+  alike m v i = elim (decLt i m) [
+    | yes l ↦ omega (arith, getD-replicate {A = ℕ} m i v 0 l)
     | no l ↦ omega (
       arith,
-      List·getD-eq-default {A = ℕ} (replicate m 1) 0 {n = i} (omega (arith, length-replicate {A = ℕ} m 1)),
+      List·getD-eq-default {A = ℕ} (replicate m v) 0 {n = i} (omega (arith, length-replicate {A = ℕ} m v)),
     )
   ]
 
@@ -55,13 +55,17 @@ module _ (number : ℕ) (k : Sizes) (roads : List Arc) (f : Fit k roads) where
   imported-proper b = record {
     within = subst WithinLimits (header-is number k roads f) (header-within number k roads f);
     number-fits = b;
+    opens-long = refl;
+    closes-long = length-replicate (k .nodes) mostPeriod ∙ sym (length-replicate (k .nodes) 0);
     heads-long = length-map roads _ ∙ sym (length-map roads _);
     counts-long = length-replicate (length roads) 1 ∙ sym (length-map roads _);
     travels-long = length-map roads _ ∙ sym (length-replicate (length roads) 0);
     cells-fit = record { word = λ i. omega (arith, cell-at number (k .nodes) roads i) };
+    opens-fit = record { word = λ i. omega (arith, cell-at number (k .nodes) roads i) };
+    closes-fit = record { word = λ i. omega (arith, alike (k .nodes) mostPeriod i) };
     tails-fit = record { word = λ i. omega (arith, tail-at number (k .nodes) roads i, small i .0) };
     heads-fit = record { word = λ i. omega (arith, head-at number (k .nodes) roads i, small i .1) };
-    counts-fit = record { word = λ i. omega (arith, ones (length roads) i) };
+    counts-fit = record { word = λ i. omega (arith, alike (length roads) 1 i) };
     ticks-fit = record { word = λ i. omega (arith, tick-at number (k .nodes) roads i) };
     travels-fit = record { word = λ i. omega (arith, travel-at number (k .nodes) roads i, small i .2) };
   }
@@ -133,9 +137,17 @@ module _ (number : ℕ) (k : Sizes) (roads : List Arc) (f : Fit k roads) where
           };
         }
 
+  -- each node is open all day
+  hours-sound : (v : ℕ) → v < nodes n → SoundHours n v
+  hours-sound v l =
+      let o = cell-at number (k .nodes) roads v in
+      let c = getD-replicate {A = ℕ} (k .nodes) v mostPeriod 0 (omega (arith, nodes-are)) in
+      record { some = omega (arith, o, c); within = omega (arith, c); all-day = λ _. (o, c) }
+
   pub imported-sound : SoundNetwork n
   imported-sound = record {
     cells-below = λ v l. omega (arith, cell-at number (k .nodes) roads v);
+    hours = hours-sound;
     arc = λ a l. arc-sound a (omega (arith, arcs-are));
     sum =
         rw arcs-are

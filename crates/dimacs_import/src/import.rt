@@ -104,6 +104,7 @@ fn import_sized(text: &[u8], number: u32, k: Sizes, out: &mut [u8]) -> Writing
         arcs: k.arcs as u16,
         cells: 1,
         points: k.arcs,
+        hours: 0,
     };
     let l = h.layout();
     let long = BLOCK * l.blocks;

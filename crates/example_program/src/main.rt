@@ -32,7 +32,9 @@ fn travel_at(file: &[u8; 2048], tick: u32) -> u32
 {
     let mut arrivals = [NEVER; MOST_NODES];
     let mut roads = [0u16; MOST_ROADS];
-    match plain_trip(file, 1, 2, tick, &mut arrivals, &mut roads) {
+    let visit = plain_trip(file, 1, 2, tick, &mut arrivals, &mut roads);
+    let answer = visit.trip;
+    match answer {
         Answer::Arrived(a) => if tick < a.tick { a.tick - tick } else { 0 },
         Answer::Refused(r) => 0,
     }
@@ -51,6 +53,8 @@ fn print_road(file: &[u8; 2048]) {
 // A file's opening, with tables that are long enough.
 fn print_open(file: &[u8; 2048]) {
     let mut cells = [0u16; 4];
+    let mut opens = [0u16; 4];
+    let mut closes = [0u16; 4];
     let mut tails = [0u16; 4];
     let mut heads = [0u16; 4];
     let mut counts = [0u16; 4];
@@ -59,6 +63,8 @@ fn print_open(file: &[u8; 2048]) {
     print_opening(network_open::open::open_network(
         file,
         &mut cells,
+        &mut opens,
+        &mut closes,
         &mut tails,
         &mut heads,
         &mut counts,
@@ -89,7 +95,8 @@ fn print_file(name: &[u8]) {
 fn print_plain(file: &[u8; 2048], from: u32, to: u32, departure: u32) {
     let mut arrivals = [NEVER; MOST_NODES];
     let mut roads = [0u16; MOST_ROADS];
-    let answer = plain_trip(file, from, to, departure, &mut arrivals, &mut roads);
+    let visit = plain_trip(file, from, to, departure, &mut arrivals, &mut roads);
+    let answer = visit.trip;
     say(b"plain ");
     print_trip(from, to, departure, answer, &roads);
 }
@@ -98,7 +105,8 @@ fn print_plain(file: &[u8; 2048], from: u32, to: u32, departure: u32) {
 fn print_flagged(file: &[u8; 2048], plan: &[u8; 2048], from: u32, to: u32, departure: u32) {
     let mut arrivals = [NEVER; MOST_NODES];
     let mut roads = [0u16; MOST_ROADS];
-    let answer = flagged_trip(file, plan, from, to, departure, &mut arrivals, &mut roads);
+    let visit = flagged_trip(file, plan, from, to, departure, &mut arrivals, &mut roads);
+    let answer = visit.trip;
     say(b"flagged ");
     print_trip(from, to, departure, answer, &roads);
 }

@@ -8,6 +8,8 @@ pub const LONG: usize = 2048;
 // Writes the network, with this travel at road 1's second point.
 pub fn pack(travel: u16, out: &mut [u8; 2048]) -> Writing {
     let cells = [0u16, 0, 1, 1];
+    let opens = [0u16; 4];
+    let closes = [10u16; 4];
     let tails = [0u16, 1, 0, 2];
     let heads = [1u16, 2, 2, 3];
     let counts = [1u16, 2, 1, 1];
@@ -20,7 +22,10 @@ pub fn pack(travel: u16, out: &mut [u8; 2048]) -> Writing {
         4,
         2,
         5,
+        0,
         &cells,
+        &opens,
+        &closes,
         &tails,
         &heads,
         &counts,

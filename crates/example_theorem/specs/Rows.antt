@@ -47,7 +47,8 @@ tripTold a path = told (tripSays a) ++ take (tripCount a) path
 -- the tables that are lent to Open have room for 4 nodes, 4 arcs and 5 points
 abbrev pub lent : Tables
 lent =
-    tables (replicate 4 0) (replicate 4 0) (replicate 4 0) (replicate 4 0) (replicate 5 0) (replicate 5 0)
+    tables (replicate 4 0) (replicate 4 0) (replicate 4 0) (replicate 4 0) (replicate 4 0) (replicate 4 0)
+    (replicate 5 0) (replicate 5 0)
 
 abbrev pub answerTo : Question → List ℕ
 answerTo (blocks file) = length file % blockSize ∷ length file / blockSize ∷ []
@@ -139,9 +140,9 @@ rows =
     ∷ (plain network 3 0 8 yields refused 2 28 0 0 0)
     ∷ (plain network 3 0 9 yields refused 2 28 0 0 0)
     -- the second point of road 1 as (5, 7), (5, 8) and (5, 9)
-    ∷ (opens network yields granted (9 ∷ 10 ∷ 4 ∷ 4 ∷ 2 ∷ 5 ∷ []))
-    ∷ (opens (networkFile 8 (38 ∷ 0 ∷ 203 ∷ 36 ∷ [])) yields granted (9 ∷ 10 ∷ 4 ∷ 4 ∷ 2 ∷ 5 ∷ []))
-    ∷ (opens (networkFile 9 (39 ∷ 0 ∷ 192 ∷ 37 ∷ [])) yields refused 6 10 2 0 0)
+    ∷ (opens network yields granted (9 ∷ 10 ∷ 4 ∷ 4 ∷ 2 ∷ 5 ∷ 0 ∷ []))
+    ∷ (opens (networkFile 8 (38 ∷ 0 ∷ 203 ∷ 36 ∷ [])) yields granted (9 ∷ 10 ∷ 4 ∷ 4 ∷ 2 ∷ 5 ∷ 0 ∷ []))
+    ∷ (opens (networkFile 9 (39 ∷ 0 ∷ 192 ∷ 37 ∷ [])) yields refused 7 10 2 0 0)
     -- the plan, and one by travels rounded down; flags 1, 2, 2, 2 and 3, 2, 0, 2; place 0's first travel as
     -- 5 and 7
     ∷ (checks network plan yields granted [])

@@ -34,6 +34,9 @@ use Rattle.network.specs.Network.{Network, start}
 use Rattle.network.specs.Decode.{decode}
 use Rattle.network.specs.Rules.{
   judged,
+  judgedHours,
+  partOfDay,
+  badHours,
   judgedArcs,
   judgedSum,
   judgedPoints,
@@ -42,6 +45,7 @@ use Rattle.network.specs.Rules.{
   badPoint,
   overtaken,
 }
+use Rattle.network.specs.Node.{nodeKind, nodeSize, nodePer, nodeBlocks}
 use Rattle.network.specs.Validate.{validated}
 use Rattle.network.specs.Town.{graphOf, partitionOf, travelAt}
 use Rattle.network_open.specs.Open.{openedIn, tooShort, tooShortBy}
@@ -195,7 +199,8 @@ allAgree (r ∷ l) = agrees r && allAgree l
 rows-agree : allAgree rows ≡ true
 unfolding allAgree agrees same rows first firstRung select total tab offset line segment value closed
     dayValue entryAt ends relaxed rounds labels hops lowest back traced chosen made start decode
-    judged judgedArcs judgedSum judgedPoints badEnds firstPoint badPoint badTick overtaken badLength
+    nodeKind nodeSize nodePer nodeBlocks judged judgedHours partOfDay badHours
+    judgedArcs judgedSum judgedPoints badEnds firstPoint badPoint badTick overtaken badLength
     tooShortBy travelAt borders isBorder pointStart profileValue decodePlan rules.badProfile
     rules.firstBadPoint rules.judgedTicks rules.judgedSum rules.judgedCounts rules.judgedFlags
     matching fails fails22 given checked tripleRung firstTripleRung asked networkFile planFile summed

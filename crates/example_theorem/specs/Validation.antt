@@ -17,6 +17,7 @@ use Rattle.network.specs.declared.header.Header.{Header}
 use Rattle.network.specs.declared.header.Made.{Made}
 use Rattle.network.specs.declared.header.Made.the-variants.{Inside, Outside}
 use Rattle.network.specs.Network.{Network}
+use Rattle.network.specs.Node.{nodeKind, nodeSize, nodePer}
 use Rattle.network.specs.Layout.{arcBlock, pointBlock, allBlocks, mostBytes}
 use Rattle.network.specs.Decode.{decode}
 use Rattle.network.specs.Town.{partitionOf}
@@ -50,7 +51,7 @@ module _ (check : Checks) (form : Forms) where
   -- a network file
   abbrev pub offNetwork : Header → ℕ
   offNetwork h =
-      firstOff 1 2 250 2 (h .nodes)
+      firstOff 1 (nodeKind (h .hours)) (nodePer (h .hours)) (nodeSize (h .hours)) (h .nodes)
       (firstOff (arcBlock h) 3 83 6 (h .arcs) (firstOff (pointBlock h) 4 125 4 (h .points) (allBlocks h)))
 
   abbrev pub headedBy : List ℕ → Made → Opening
@@ -65,7 +66,7 @@ module _ (check : Checks) (form : Forms) where
   validatedBy file =
       cond (badLength mostBytes (length file)) (network.unopened 1 0)
       (firstRung (network.unopened 2) (length file / 512) (λ b. not (check b))
-      (cond (form 0 1 1 24) (headedBy file (network.madeAt file)) (network.unopened 3 0)))
+      (cond (form 0 1 1 25) (headedBy file (network.madeAt file)) (network.unopened 3 0)))
 
   -- a plan file
   abbrev pub offPlan : PlanHeader → ℕ

@@ -9,7 +9,7 @@ abbrev pub networkKind : ℕ
 networkKind = 1
 
 abbrev pub networkSize : ℕ
-networkSize = 16
+networkSize = 17
 
 -- the cell of a node
 abbrev pub cellKind : ℕ
@@ -78,8 +78,19 @@ profilePointSize = 6
 abbrev pub profilePointPer : ℕ
 profilePointPer = 83
 
+-- a node's cell, and the ticks at which it opens and closes
+abbrev pub hoursKind : ℕ
+hoursKind = 9
+
+abbrev pub hoursSize : ℕ
+hoursSize = 6
+
+abbrev pub hoursPer : ℕ
+hoursPer = 83
+
 -- a full block has as many entries as fit
 pub full-blocks : (cellPer ≡ entriesSize / cellSize) × (arcPer ≡ entriesSize / arcSize)
     × (pointPer ≡ entriesSize / pointSize) × (flagPer ≡ entriesSize / flagSize)
     × (countPer ≡ entriesSize / countSize) × (profilePointPer ≡ entriesSize / profilePointSize)
-full-blocks = (refl, refl, refl, refl, refl, refl)
+    × (hoursPer ≡ entriesSize / hoursSize)
+full-blocks = (refl, refl, refl, refl, refl, refl, refl)

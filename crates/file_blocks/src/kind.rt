@@ -4,7 +4,7 @@
 // The header of a network.
 pub const NETWORK: u8 = 1;
 
-pub const NETWORK_SIZE: usize = 16;
+pub const NETWORK_SIZE: usize = 17;
 
 // The cell of a node.
 pub const CELL: u8 = 2;
@@ -52,3 +52,10 @@ pub const PROFILE_POINT: u8 = 8;
 pub const PROFILE_POINT_SIZE: usize = 6;
 
 pub const PROFILE_POINT_PER: usize = 83;
+
+// A node's cell, and the ticks at which it opens and closes.
+pub const HOURS: u8 = 9;
+
+pub const HOURS_SIZE: usize = 6;
+
+pub const HOURS_PER: usize = 83;

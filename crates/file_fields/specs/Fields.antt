@@ -1,6 +1,6 @@
 -- Fields of a list of bytes, low byte first: a field's value, its bound, and its bytes back from it.
--- `le16`, `le32` and `le64` are the widths that the files have; the laws are stated once, over the width, on
--- `number` and `byteOf`.
+-- `le8`, `le16`, `le32` and `le64` are the widths that the files have; the laws are stated once, over the
+-- width, on `number` and `byteOf`.
 use mathlib.Core.Path.{_≡_, refl, _∙_}
 use mathlib.Core.List.{List}
 use Prim.Native.Nat.{ℕ, zero, suc, _+_, _*_, _/_, _%_, _^_, _<_}
@@ -9,6 +9,9 @@ use native.Mathlib.Omega.{arith}
 use lib.ListN.{getD}
 
 -- the fields at byte o
+abbrev pub le8 : List ℕ → ℕ → ℕ
+le8 s o = getD s o 0
+
 abbrev pub le16 : List ℕ → ℕ → ℕ
 le16 s o = getD s o 0 + 256 * getD s (o + 1) 0
 

@@ -52,6 +52,10 @@ put-filled w s o v h =
     ap (byteOf v) q)
 
 -- FOR THE CODE, which stores a byte, or a field of two bytes, after the other
+pub put-one : (s : List ℕ) (o v : ℕ) → v < 256 → set s o v ≡ put 1 s o v
+unfolding put
+put-one s o v l = let q : v % 256 ≡ v = omega arith in rw q
+
 pub put-two : (s : List ℕ) (o v : ℕ) → v < 65536 → set (set s o (v % 256)) (o + 1) (v / 256) ≡ put 2 s o v
 unfolding put
 put-two s o v l = let q : v / 256 % 256 ≡ v / 256 = omega arith in rw q

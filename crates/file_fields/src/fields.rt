@@ -13,6 +13,13 @@ fn wide(b: u8) -> u16
     b as u16
 }
 
+pub fn le8(s: &[u8], o: usize) -> u16
+    requires { ⌜ o + 1 ≤ length (now s) ⌝ }
+    ensures { λ r. ⌜ r ≡ Fields.le8 (now (s .entry)) o ⌝ }
+{
+    wide(s[o])
+}
+
 pub fn le16(s: &[u8], o: usize) -> u16
     requires { ⌜ o + 2 ≤ length (now s) ⌝ }
     ensures { λ r. ⌜ r ≡ Fields.le16 (now (s .entry)) o ⌝ }
@@ -32,6 +39,13 @@ pub fn le64(s: &[u8], o: usize) -> u64
     ensures { λ r. ⌜ r ≡ Fields.le64 (now (s .entry)) o ⌝ }
 {
     le32(s, o) as u64 + 4294967296 * (le32(s, o + 4) as u64)
+}
+
+pub fn put8(out: &mut [u8], o: usize, v: u8)
+    requires { ⌜ o + 1 ≤ length (now out) ⌝ }
+    ensures { λ _. ⌜ now (out .exit) ≡ put 1 (now (out .entry)) o v ⌝ }
+{
+    out[o] = v;
 }
 
 pub fn put16(out: &mut [u8], o: usize, v: u16)

@@ -22,6 +22,8 @@ pub const NETWORK_POINT: u32 = 9;
 
 pub const NETWORK_FIFO: u32 = 10;
 
+pub const NETWORK_HOURS: u32 = 37;
+
 // The plan file.
 pub const PLAN_LENGTH: u32 = 11;
 

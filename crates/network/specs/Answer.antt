@@ -5,5 +5,6 @@ use Rattle.network.specs.declared.answer.Opening.{Opening}
 use Rattle.network.specs.declared.answer.Opening.the-variants.{Opened, Refused}
 
 abbrev pub openingSays : Opening → Says
-openingSays (Opened h) = answers (h .number ∷ h .period ∷ h .nodes ∷ h .arcs ∷ h .cells ∷ h .points ∷ [])
-openingSays (Refused r) = refuses 6 r
+openingSays (Opened h) =
+    answers (h .number ∷ h .period ∷ h .nodes ∷ h .arcs ∷ h .cells ∷ h .points ∷ h .hours ∷ [])
+openingSays (Refused r) = refuses 7 r

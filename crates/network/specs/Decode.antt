@@ -1,22 +1,29 @@
 -- The network that a file holds, field by field, and the laws by which code reads it in place.
 -- Every list of bytes decodes to some network; what makes it a network file is validation.
-use mathlib.Core.Path.{_≡_, refl, sym}
+use mathlib.Core.Path.{_≡_, refl, sym, _∙_}
 use mathlib.Core.List.{List}
-use Prim.Native.Nat.{ℕ, _^_, _≤_, _<_}
+use Prim.Native.Nat.{ℕ, zero, suc, _+_, _*_, _^_, _≤_, _<_}
 use native.Mathlib.Omega.{arith}
-use lib.ListN.{length}
+use lib.ListN.{length, getD}
 use lib.Dec.{lit<, lit≤}
-use Rattle.theory_loops.specs.Fill.{tab, length-tab}
-use Rattle.file_fields.specs.Fields.{le16, le32}
+use Rattle.theory_loops.specs.Fill.{tab, length-tab, getD-tab}
+use Rattle.file_fields.specs.Block.{blockSize}
+use Rattle.file_fields.specs.Fields.{le8, le16, le32}
 use Rattle.file_blocks.specs.Table.{entry16, entry-is}
-use Rattle.file_blocks.specs.Place.{RunInFile, EntryInFile, entry-stands}
+use Rattle.file_blocks.specs.Place.{blocks, RunInFile, EntryInFile, entry-stands}
 use Rattle.file_blocks.specs.Laid.{LaidOut}
 use Rattle.network.specs.declared.header.Header.{Header}
 use Rattle.network.specs.declared.header.Layout.{Layout}
 use Rattle.network.specs.Limits.{WithinLimits, mostPeriod, mostNodes, mostArcs, mostCells, mostPoints}
-use Rattle.network.specs.Layout.{arcBlock, pointBlock, allBlocks, layoutOf, LaidBlocks, layout-blocks}
-use Rattle.network.specs.Network.{Network, nodes, arcs, points, cell, tail, head, count, tick, travel}
-use Rattle.file_blocks.specs.Kind.{cellSize, cellPer, arcSize, arcPer, pointSize, pointPer}
+use Rattle.network.specs.Limits.{mostHours}
+use Rattle.network.specs.Node.{nodeSize, nodePer, nodeBlocks, node-fits, node-blocks-most}
+use Rattle.network.specs.Node.{size-plain, per-plain, size-held, per-held}
+use Rattle.network.specs.Layout.{arcBlock, pointBlock, allBlocks, mostBlocks, mostBytes, layoutOf}
+use Rattle.network.specs.Layout.{LaidBlocks, layout-blocks}
+use Rattle.network.specs.Network.{Network, nodes, arcs, points, cell, opensAt, closesAt, tail, head}
+use Rattle.network.specs.Network.{count, tick, travel}
+use Rattle.file_blocks.specs.Kind.{cellSize, cellPer, hoursSize, hoursPer, arcSize, arcPer, pointSize}
+use Rattle.file_blocks.specs.Kind.{pointPer}
 
 -- the numbers in a file's first block
 abbrev pub headerAt : List ℕ → Header
@@ -27,7 +34,33 @@ headerAt file = record {
   arcs = le16 file 16;
   cells = le16 file 18;
   points = le32 file 20;
+  hours = le8 file 24;
 }
+
+-- the hours of a node in a file: where none are held a node is open all day
+abbrev pub opensIn : ℕ → List ℕ → ℕ → ℕ
+opensIn zero file v = 0
+opensIn (suc hours) file v = entry16 file 1 hoursPer hoursSize 2 v
+
+abbrev pub closesIn : ℕ → ℕ → List ℕ → ℕ → ℕ
+closesIn zero period file v = period
+closesIn (suc hours) period file v = entry16 file 1 hoursPer hoursSize 4 v
+
+pub opens-plain : (hours : ℕ) (file : List ℕ) (v : ℕ) → hours ≡ 0 → 0 ≡ opensIn hours file v
+opens-plain hours file v e = rw e
+
+pub closes-plain : (hours period : ℕ) (file : List ℕ) (v : ℕ) → hours ≡ 0 → period ≡ closesIn hours period file v
+closes-plain hours period file v e = rw e
+
+pub opens-there : (hours : ℕ) (file : List ℕ) (v : ℕ) → (hours ≡ 0 → ⊥)
+    → entry16 file 1 hoursPer hoursSize 2 v ≡ opensIn hours file v
+opens-there zero file v e = absurd (e refl)
+opens-there (suc hours) file v e = refl
+
+pub closes-there : (hours period : ℕ) (file : List ℕ) (v : ℕ) → (hours ≡ 0 → ⊥)
+    → entry16 file 1 hoursPer hoursSize 4 v ≡ closesIn hours period file v
+closes-there zero period file v e = absurd (e refl)
+closes-there (suc hours) period file v e = refl
 
 -- the network of a header and of the tables where that header says they stand
 abbrev pub decodeBy : Header → List ℕ → Network
@@ -35,7 +68,10 @@ decodeBy h file = record {
   number = h .number;
   period = h .period;
   cells = h .cells;
-  cellOf = tab (h .nodes) (entry16 file 1 cellPer cellSize 0);
+  hours = h .hours;
+  cellOf = tab (h .nodes) (entry16 file 1 (nodePer (h .hours)) (nodeSize (h .hours)) 0);
+  opens = tab (h .nodes) (opensIn (h .hours) file);
+  closes = tab (h .nodes) (closesIn (h .hours) (h .period) file);
   tails = tab (h .arcs) (entry16 file (arcBlock h) arcPer arcSize 0);
   heads = tab (h .arcs) (entry16 file (arcBlock h) arcPer arcSize 2);
   counts = tab (h .arcs) (entry16 file (arcBlock h) arcPer arcSize 4);
@@ -54,6 +90,7 @@ Laid = LaidOut headerAt layoutOf WithinLimits allBlocks
 pub record Sizes (n : Network) (l : Layout) : Type 0 where
   pub period : l .period ≡ n .period
   pub cells : l .cells ≡ n .cells
+  pub hours : l .hours ≡ n .hours
   pub nodes : l .nodes ≡ nodes n
   pub arcs : l .arcs ≡ arcs n
   pub points : l .points ≡ points n
@@ -68,6 +105,7 @@ pub record Small (l : Layout) : Type 0 where
   pub cells-some : 1 ≤ l .cells
   pub cells-most : l .cells ≤ mostCells
   pub points-most : l .points ≤ mostPoints
+  pub hours-most : l .hours ≤ mostHours
 
 module _ {file : List ℕ} {l : Layout} (s : Laid file l) where
   pub laid-blocks : LaidBlocks (headerAt file) l
@@ -78,6 +116,7 @@ module _ {file : List ℕ} {l : Layout} (s : Laid file l) where
   laid-sizes = rw (s .is) (record {
     period = refl;
     cells = refl;
+    hours = refl;
     nodes = sym (length-tab _ _);
     arcs = sym (length-tab _ _);
     points = sym (length-tab _ _);
@@ -96,11 +135,25 @@ module _ {file : List ℕ} {l : Layout} (s : Laid file l) where
         cells-some = w .cells-some;
         cells-most = w .cells-most;
         points-most = w .points-most;
+        hours-most = w .hours-most;
       })
 
   -- the runs stand in the file
-  pub nodes-stored : RunInFile 1 cellPer cellSize (l .nodes) file
-  nodes-stored = record { pos = lit< tt; fit = lit≤ tt; room = omega (arith, s .long, laid-blocks) }
+  nodes-room : blockSize * (1 + blocks (nodePer (l .hours)) (l .nodes)) ≤ length file
+  unfolding nodeBlocks
+  nodes-room = rw (laid-blocks .hours, laid-blocks .nodes) (omega (arith, s .long))
+
+  pub nodes-stored : RunInFile 1 (nodePer (l .hours)) (nodeSize (l .hours)) (l .nodes) file
+  nodes-stored =
+      let f = node-fits (l .hours) in record { pos = f .some; fit = f .fit; room = nodes-room }
+
+  -- by numbers that code has told apart
+  pub nodes-stored-by : (per size : ℕ) → per ≡ nodePer (l .hours) → size ≡ nodeSize (l .hours)
+      → RunInFile 1 per size (l .nodes) file
+  nodes-stored-by per size e f = rw (e, f) nodes-stored
+
+  pub hours-stored : (l .hours ≡ 0 → ⊥) → RunInFile 1 hoursPer hoursSize (l .nodes) file
+  hours-stored z = nodes-stored-by hoursPer hoursSize (per-held (l .hours) z) (size-held (l .hours) z)
 
   pub arcs-stored : RunInFile (l .arcblock) arcPer arcSize (l .arcs) file
   arcs-stored = record { pos = lit< tt; fit = lit≤ tt; room = omega (arith, s .long, laid-blocks) }
@@ -108,17 +161,74 @@ module _ {file : List ℕ} {l : Layout} (s : Laid file l) where
   pub points-stored : RunInFile (l .pointblock) pointPer pointSize (l .points) file
   points-stored = record { pos = lit< tt; fit = lit≤ tt; room = omega (arith, s .long, laid-blocks) }
 
+  -- the file has no more blocks than any network's
+  pub laid-few : l .blocks ≤ mostBlocks
+  laid-few = omega (
+    arith,
+    laid-blocks,
+    s .within,
+    node-blocks-most (headerAt file .hours) (s .within .nodes-most),
+  )
+
+  pub laid-bytes : length file ≤ mostBytes
+  laid-bytes = omega (arith, s .long, laid-blocks, laid-few)
+
   few : length file ≤ 2 ^ 63
-  few = omega (arith, s .long, s .within)
+  few = omega (arith, laid-bytes)
 
   -- FOR CODE that reads an entry of node v, arc a or point q: it stands in the file, and is the network's
   module _ {v : ℕ} (h : v < l .nodes) where
-    pub cell-in : EntryInFile 1 cellPer cellSize v file
-    cell-in = entry-stands nodes-stored few h
+    node-in : EntryInFile 1 (nodePer (l .hours)) (nodeSize (l .hours)) v file
+    node-in = entry-stands nodes-stored few h
 
-    pub cell-is : {r : ℕ} → r ≡ entry16 file 1 cellPer cellSize 0 v → r ≡ cell (decode file) v
+    node-is : {r : ℕ} → r ≡ entry16 file 1 (nodePer (l .hours)) (nodeSize (l .hours)) 0 v
+        → r ≡ cell (decode file) v
     unfolding decode
-    cell-is = entry-is le16 file cellPer cellSize 0 refl (laid-blocks .nodes) h
+    node-is e =
+        entry-is le16 file _ _ 0 refl (laid-blocks .nodes) h (rw (laid-blocks .hours) at e)
+
+    -- an entry of a table of nodes
+    listed : (f : ℕ → ℕ) {r : ℕ} → r ≡ f v → r ≡ getD (tab (headerAt file .nodes) f) v 0
+    listed f e = e ∙ sym (getD-tab (headerAt file .nodes) f v (rw (laid-blocks .nodes) at h))
+
+    -- where no hours are held
+    module _ (z : l .hours ≡ 0) where
+      none : headerAt file .hours ≡ 0
+      none = sym (laid-blocks .hours) ∙ z
+
+      pub cell-in : EntryInFile 1 cellPer cellSize v file
+      cell-in = rw (← size-plain z, ← per-plain z) at node-in
+
+      pub cell-is : {r : ℕ} → r ≡ entry16 file 1 cellPer cellSize 0 v → r ≡ cell (decode file) v
+      cell-is e = node-is (rw (← size-plain z, ← per-plain z) e)
+
+      pub opens-all : {r : ℕ} → r ≡ 0 → r ≡ opensAt (decode file) v
+      unfolding decode
+      opens-all e = listed _ (e ∙ opens-plain (headerAt file .hours) file v none)
+
+      pub closes-all : {r : ℕ} → r ≡ l .period → r ≡ closesAt (decode file) v
+      unfolding decode
+      closes-all e =
+          listed _ (e ∙ (laid-sizes .period ∙ closes-plain (headerAt file .hours) _ file v none))
+
+    -- and where they are
+    module _ (z : l .hours ≡ 0 → ⊥) where
+      held : headerAt file .hours ≡ 0 → ⊥
+      held e = z (laid-blocks .hours ∙ e)
+
+      pub hours-in : EntryInFile 1 hoursPer hoursSize v file
+      hours-in = rw (← size-held (l .hours) z, ← per-held (l .hours) z) at node-in
+
+      pub cell-held : {r : ℕ} → r ≡ entry16 file 1 hoursPer hoursSize 0 v → r ≡ cell (decode file) v
+      cell-held e = node-is (rw (← size-held (l .hours) z, ← per-held (l .hours) z) e)
+
+      pub opens-held : {r : ℕ} → r ≡ entry16 file 1 hoursPer hoursSize 2 v → r ≡ opensAt (decode file) v
+      unfolding decode
+      opens-held e = listed _ (e ∙ opens-there (headerAt file .hours) file v held)
+
+      pub closes-held : {r : ℕ} → r ≡ entry16 file 1 hoursPer hoursSize 4 v → r ≡ closesAt (decode file) v
+      unfolding decode
+      closes-held e = listed _ (e ∙ closes-there (headerAt file .hours) _ file v held)
 
   module _ {a : ℕ} (h : a < l .arcs) where
     pub arc-in : EntryInFile (l .arcblock) arcPer arcSize a file
@@ -151,4 +261,4 @@ module _ {file : List ℕ} {l : Layout} (s : Laid file l) where
 
 -- for `search reads` where code reads a field
 pub ruleset reads =
-    (cell-in, arc-in, point-in, cell-is, tail-is, head-is, count-is, tick-is, travel-is)
+    (cell-in, cell-is, opens-all, closes-all, hours-in, cell-held, opens-held, closes-held, arc-in, point-in, tail-is, head-is, count-is, tick-is, travel-is)

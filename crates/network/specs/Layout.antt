@@ -1,5 +1,5 @@
--- Where the tables of a network stand in its file: the header in block 0, then the cells of the nodes (kind
--- 2), the arcs (kind 3) and the points (kind 4), each a run of blocks of its own.
+-- Where the tables of a network stand in its file: the header in block 0, then the nodes (kind 2, or 9 where
+-- hours are held), the arcs (kind 3) and the points (kind 4), each a run of blocks of its own.
 use mathlib.Core.Path.{_≡_, refl}
 use Prim.Native.Nat.{ℕ, _+_, _*_}
 use Rattle.file_fields.specs.Block.{blockSize}
@@ -7,11 +7,12 @@ use Rattle.file_blocks.specs.Place.{blocks}
 use Rattle.network.specs.Limits.{mostNodes, mostArcs, mostPoints}
 use Rattle.network.specs.declared.header.Header.{Header}
 use Rattle.network.specs.declared.header.Layout.{Layout}
-use Rattle.file_blocks.specs.Kind.{cellPer, arcPer, pointPer}
+use Rattle.file_blocks.specs.Kind.{hoursPer, arcPer, pointPer}
+use Rattle.network.specs.Node.{nodePer, nodeBlocks}
 
 -- the first block of the arcs and of the points, and how many blocks there are
 abbrev pub arcBlock : Header → ℕ
-arcBlock h = 1 + blocks cellPer (h .nodes)
+arcBlock h = 1 + nodeBlocks (h .hours) (h .nodes)
 
 abbrev pub pointBlock : Header → ℕ
 pointBlock h = arcBlock h + blocks arcPer (h .arcs)
@@ -21,13 +22,13 @@ allBlocks h = pointBlock h + blocks pointPer (h .points)
 
 -- the blocks and bytes of a file of a network within the limits, at most
 abbrev pub mostBlocks : ℕ
-mostBlocks = 1 + blocks cellPer mostNodes + blocks arcPer mostArcs + blocks pointPer mostPoints
+mostBlocks = 1 + blocks hoursPer mostNodes + blocks arcPer mostArcs + blocks pointPer mostPoints
 
 abbrev pub mostBytes : ℕ
 mostBytes = blockSize * mostBlocks
 
--- which is the number of document 01
-pub most-blocks : mostBlocks ≡ 554
+-- which is the number of document 02
+pub most-blocks : mostBlocks ≡ 558
 most-blocks = refl
 
 unfoldable pub layoutOf : Header → Layout
@@ -37,6 +38,7 @@ layoutOf h = record {
   arcs = h .arcs;
   cells = h .cells;
   points = h .points;
+  hours = h .hours;
   arcblock = arcBlock h;
   pointblock = pointBlock h;
   blocks = allBlocks h;
@@ -47,18 +49,26 @@ pub record LaidBlocks (h : Header) (l : Layout) : Type 0 where
   pub nodes : l .nodes ≡ h .nodes
   pub arcs : l .arcs ≡ h .arcs
   pub points : l .points ≡ h .points
+  pub hours : l .hours ≡ h .hours
   pub arcblock : l .arcblock ≡ arcBlock h
   pub pointblock : l .pointblock ≡ pointBlock h
   pub all : l .blocks ≡ allBlocks h
 
 pub layout-blocks : {h : Header} {l : Layout} → l ≡ layoutOf h → LaidBlocks h l
 unfolding layoutOf
-layout-blocks e = rw e (record
-    { nodes = refl; arcs = refl; points = refl; arcblock = refl; pointblock = refl; all = refl })
+layout-blocks e = rw e (record {
+  nodes = refl;
+  arcs = refl;
+  points = refl;
+  hours = refl;
+  arcblock = refl;
+  pointblock = refl;
+  all = refl;
+})
 
 -- FOR THE CODE, which has counted the blocks of each run
-pub layout-told : (h : Header) (a b c : ℕ) → a ≡ blocks cellPer (h .nodes) → b ≡ blocks arcPer (h .arcs)
-    → c ≡ blocks pointPer (h .points)
+pub layout-told : (h : Header) (per a b c : ℕ) → per ≡ nodePer (h .hours) → a ≡ blocks per (h .nodes)
+    → b ≡ blocks arcPer (h .arcs) → c ≡ blocks pointPer (h .points)
     → _≡_ {A = Layout}
     (record {
       period = h .period;
@@ -66,10 +76,11 @@ pub layout-told : (h : Header) (a b c : ℕ) → a ≡ blocks cellPer (h .nodes)
       arcs = h .arcs;
       cells = h .cells;
       points = h .points;
+      hours = h .hours;
       arcblock = 1 + a;
       pointblock = 1 + a + b;
       blocks = 1 + a + b + c;
     })
     (layoutOf h)
-unfolding layoutOf
-layout-told h a b c e f g = rw (e, f, g)
+unfolding layoutOf nodeBlocks
+layout-told h per a b c p e f g = rw (e, f, g, p)

@@ -1,6 +1,7 @@
 -- Network files.
 pub mod Answer
 pub mod Limits
+pub mod Node
 pub mod Layout
 pub mod Network
 pub mod Tables

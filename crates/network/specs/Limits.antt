@@ -24,13 +24,17 @@ mostCells = 64
 abbrev pub mostPoints : ℕ
 mostPoints = 65535
 
+-- whether hours are held
+abbrev pub mostHours : ℕ
+mostHours = 1
+
 -- the most arcs of a path that comes to no node twice
 abbrev pub mostRoads : ℕ
 mostRoads = mostNodes - 1
 
 -- a period, nodes and cells are 1 or more
-unfoldable pub made : ℕ → ℕ → ℕ → ℕ → ℕ → ℕ → Made
-made number period nodes arcs cells points =
+unfoldable pub made : ℕ → ℕ → ℕ → ℕ → ℕ → ℕ → ℕ → Made
+made number period nodes arcs cells points hours =
     cond (ltb period 1) Outside
     (cond (ltb mostPeriod period) Outside
     (cond (ltb nodes 1) Outside
@@ -39,6 +43,7 @@ made number period nodes arcs cells points =
     (cond (ltb cells 1) Outside
     (cond (ltb mostCells cells) Outside
     (cond (ltb mostPoints points) Outside
+    (cond (ltb mostHours hours) Outside
     (Inside (record {
       number = number;
       period = period;
@@ -46,7 +51,8 @@ made number period nodes arcs cells points =
       arcs = arcs;
       cells = cells;
       points = points;
-    })))))))))
+      hours = hours;
+    }))))))))))
 
 -- a header within the limits
 pub record WithinLimits (h : Header) : Type 0 where
@@ -58,6 +64,7 @@ pub record WithinLimits (h : Header) : Type 0 where
   pub cells-some : 1 ≤ h .cells
   pub cells-most : h .cells ≤ mostCells
   pub points-most : h .points ≤ mostPoints
+  pub hours-most : h .hours ≤ mostHours
 
 -- a limit that is passed where a header is made
 limit-passed : (t : Bool) (m : Made) (h : Header) → cond t Outside m ≡ Inside h → (t ≡ false) × (m ≡ Inside h)
@@ -68,7 +75,7 @@ one-header : (a b : Header) → Inside a ≡ Inside b → a ≡ b
 one-header a b e = cc
 
 -- a header that is made is within the limits, and holds the numbers
-module _ (number period nodes arcs cells points : ℕ) where
+module _ (number period nodes arcs cells points hours : ℕ) where
   abbrev these : Header
   these = record {
     number = number;
@@ -77,11 +84,19 @@ module _ (number period nodes arcs cells points : ℕ) where
     arcs = arcs;
     cells = cells;
     points = points;
+    hours = hours;
   }
 
-  pub made-within : (h : Header) → made number period nodes arcs cells points ≡ Inside h
-      → WithinLimits h × (h ≡ record
-      { number = number; period = period; nodes = nodes; arcs = arcs; cells = cells; points = points })
+  pub made-within : (h : Header) → made number period nodes arcs cells points hours ≡ Inside h
+      → WithinLimits h × (h ≡ record {
+        number = number;
+        period = period;
+        nodes = nodes;
+        arcs = arcs;
+        cells = cells;
+        points = points;
+        hours = hours;
+      })
   unfolding made
   made-within h e =
       let (p₁, e₁) = limit-passed _ _ h e in
@@ -92,6 +107,7 @@ module _ (number period nodes arcs cells points : ℕ) where
       let (c₁, e₆) = limit-passed _ _ h e₅ in
       let (c₂, e₇) = limit-passed _ _ h e₆ in
       let (q, e₈) = limit-passed _ _ h e₇ in
+      let (o, e₉) = limit-passed _ _ h e₈ in
       let w : WithinLimits these = record {
         period-some = ltb-false _ _ p₁;
         period-most = ltb-false _ _ p₂;
@@ -101,8 +117,9 @@ module _ (number period nodes arcs cells points : ℕ) where
         cells-some = ltb-false _ _ c₁;
         cells-most = ltb-false _ _ c₂;
         points-most = ltb-false _ _ q;
+        hours-most = ltb-false _ _ o;
       } in
-      let f : these ≡ h = one-header these h e₈ in
+      let f : these ≡ h = one-header these h e₉ in
       (rw f at w, sym f)
 
   -- and numbers within the limits make one
@@ -114,8 +131,9 @@ module _ (number period nodes arcs cells points : ℕ) where
         arcs = arcs;
         cells = cells;
         points = points;
+        hours = hours;
       })
-      → made number period nodes arcs cells points ≡ Inside
+      → made number period nodes arcs cells points hours ≡ Inside
       (record {
         number = number;
         period = period;
@@ -123,6 +141,7 @@ module _ (number period nodes arcs cells points : ℕ) where
         arcs = arcs;
         cells = cells;
         points = points;
+        hours = hours;
       })
   unfolding made
   within-made w = rw (
@@ -134,4 +153,5 @@ module _ (number period nodes arcs cells points : ℕ) where
     le-ltb _ _ (w .cells-some),
     le-ltb _ _ (w .cells-most),
     le-ltb _ _ (w .points-most),
+    le-ltb _ _ (w .hours-most),
   )

@@ -1,6 +1,6 @@
--- What a network is: a number, a period, a count of cells, and the six tables that Open fills and Pack reads.
--- A node is document 01's place, an arc its road; the points of all arcs stand one behind the other, in the
--- order of the arcs.
+-- What a network is: a number, a period, a count of cells, whether its file holds hours, and the eight tables
+-- that Open fills and Pack reads. A node is document 01's place, an arc its road; the points of all arcs
+-- stand one behind the other, in the order of the arcs.
 use mathlib.Core.List.{List}
 use Prim.Native.Nat.{ℕ}
 use lib.ListN.{length, getD}
@@ -10,8 +10,12 @@ pub record Network : Type 0 where
   pub number : ℕ
   pub period : ℕ
   pub cells : ℕ
-  -- for each node its cell
+  -- 1 where the file holds hours, 0 where it does not
+  pub hours : ℕ
+  -- for each node its cell, and the ticks at which it opens and closes
   pub cellOf : List ℕ
+  pub opens : List ℕ
+  pub closes : List ℕ
   -- for each arc its tail, its head and the count of its points
   pub tails : List ℕ
   pub heads : List ℕ
@@ -32,6 +36,12 @@ points n = length (n .ticks)
 -- the entries of node v, arc a and point q
 abbrev pub cell : Network → ℕ → ℕ
 cell n v = getD (n .cellOf) v 0
+
+abbrev pub opensAt : Network → ℕ → ℕ
+opensAt n v = getD (n .opens) v 0
+
+abbrev pub closesAt : Network → ℕ → ℕ
+closesAt n v = getD (n .closes) v 0
 
 abbrev pub tail : Network → ℕ → ℕ
 tail n a = getD (n .tails) a 0

@@ -1,6 +1,6 @@
--- The numbers of refusals: those of a network file lie between 1 and 10, and those of its rules between 7 and
--- 10.
+-- The numbers of refusals: those of a network file are 1 to 10 and 37, and those of its rules 7 to 10 and 37.
 use mathlib.Core.Path.{_≡_, refl}
+use mathlib.Core.Logic.{_⊎_, inl, inr, ⊎-elim}
 use mathlib.Core.List.{List}
 use Prim.Native.Nat.{ℕ, _+_, _*_, _≤_}
 use native.Mathlib.Omega.{arith}
@@ -20,9 +20,9 @@ use Rattle.network.specs.Layout.{allBlocks, mostBytes}
 use Rattle.network.specs.Network.{Network, arcs, points, start}
 use Rattle.network.specs.Decode.{decode}
 use Rattle.file_refusals.specs.Refusal.{refusal}
-use Rattle.file_refusals.specs.Numbered.{Numbered, numbered, same-faulty}
+use Rattle.file_refusals.specs.Numbered.{Between, Numbered, numbered, same-faulty}
 use Rattle.network.specs.Rules.{firstPoint, badPointOf, overtakenOf, judgedPoints, judgedSum}
-use Rattle.network.specs.Rules.{judgedArcs, judged}
+use Rattle.network.specs.Rules.{judgedArcs, judgedHours, judged}
 use Rattle.network.specs.Validate.{firstUnformed, madeAt, validatedRules, validatedForm}
 use Rattle.network.specs.Validate.{validatedLength, validatedHeader, validatedFirst, validated}
 use Rattle.file_fields.specs.Block.{blockSize, headSize}
@@ -31,18 +31,25 @@ use Rattle.file_blocks.specs.Kind.{networkKind, networkSize}
 pub same-refused : (q r : Refusal) → Refused q ≡ Refused r → q ≡ r
 same-refused q r e = cc
 
-abbrev Judges : Judged → Type 0
-Judges = Numbered Faulty 7 10
+abbrev pub RuleNumber : ℕ → Type 0
+RuleNumber number = Between 7 10 number ⊎ (number ≡ 37)
 
-pub judged-numbers : (n : Network) → Numbered Faulty 7 10 (judged n)
-unfolding judged judgedArcs judgedSum judgedPoints
+abbrev pub NetworkNumber : ℕ → Type 0
+NetworkNumber number = Between 1 10 number ⊎ (number ≡ 37)
+
+abbrev Judges : Judged → Type 0
+Judges = Numbered Faulty RuleNumber
+
+pub judged-numbers : (n : Network) → Numbered Faulty RuleNumber (judged n)
+unfolding judged judgedHours judgedArcs judgedSum judgedPoints
 judged-numbers n =
     rung-holds Judges _ _ _ _ (λ i. is 7 i (omega arith) (omega arith))
+    (rung-holds Judges _ _ _ _ (λ i. numbered Faulty RuleNumber same-faulty (refusal 37 i) (inr refl))
     (rung-holds Judges _ _ _ _ (λ i. is 8 i (omega arith) (omega arith))
     (cond-holds Judges (eqb (start n (arcs n)) (points n)) _ _
     (cond-holds Judges (ltb bad (points n)) _ _ (is 9 bad (omega arith) (omega arith))
     (cond-holds Judges (ltb overtaken (points n)) _ _ (is 10 overtaken (omega arith) (omega arith)) sound))
-    (is 8 (arcs n) (omega arith) (omega arith))))
+    (is 8 (arcs n) (omega arith) (omega arith)))))
   where
     bad : ℕ
     bad = firstPoint n (badPointOf n) (arcs n)
@@ -51,18 +58,18 @@ judged-numbers n =
     overtaken = firstPoint n (overtakenOf n) (arcs n)
 
     is : (number place : ℕ) → 7 ≤ number → number ≤ 10 → Judges (Faulty (refusal number place))
-    is number place l h = numbered Faulty 7 10 same-faulty (refusal number place) l h
+    is number place l h = numbered Faulty RuleNumber same-faulty (refusal number place) (inl (l, h))
 
     sound : Judges Sound
     sound r e = let z : _≡_ {A = ℕ} 0 1 = cc in absurd (omega arith)
 
 abbrev Opens : Opening → Type 0
-Opens = Numbered Refused 1 10
+Opens = Numbered Refused NetworkNumber
 
 is-numbered : (number place : ℕ) → 1 ≤ number → number ≤ 10 → Opens (Refused (refusal number place))
-is-numbered number place l h = numbered Refused 1 10 same-refused (refusal number place) l h
+is-numbered number place l h = numbered Refused NetworkNumber same-refused (refusal number place) (inl (l, h))
 
-pub validated-numbers : (file : List ℕ) → Numbered Refused 1 10 (validated file)
+pub validated-numbers : (file : List ℕ) → Numbered Refused NetworkNumber (validated file)
 unfolding validated validatedFirst validatedLength validatedForm
 validated-numbers file =
     cond-holds Opens (badLength mostBytes (length file)) _ _ (is-numbered 1 0 (omega arith) (omega arith))
@@ -72,9 +79,8 @@ validated-numbers file =
   where
     by-rules : (h : Header) (j : Judged) → Judges j → Opens (validatedRules h j)
     by-rules h Sound n = λ r e. let z : _≡_ {A = ℕ} 0 1 = cc in absurd (omega arith)
-    by-rules h (Faulty q) n =
-        let (x, y) = n q refl in
-        numbered Refused 1 10 same-refused q (omega arith) (omega arith)
+    by-rules h (Faulty q) n = numbered Refused NetworkNumber same-refused q
+        (⊎-elim (λ k. inl (omega (arith, k .0), k .1)) (λ k. inr k) (n q refl))
 
     by-header : (m : Made) → Opens (validatedHeader file m)
     by-header (Inside h) =

@@ -1,8 +1,8 @@
--- The rules 7 to 10 that a network's tables keep, as tests and as one ladder: the lowest number that fails
--- anywhere, then its lowest place. Points are numbered through all arcs, so the lowest point is the lowest of
+-- The rules 7 to 10 and 37 that a network's tables keep, as tests and as one ladder, in which 37 stands
+-- straight after 7: the first number that fails anywhere, then its lowest place. Points are numbered through all arcs, so the lowest point is the lowest of
 -- the first arc that has one.
 use mathlib.Core.Path.{_≡_}
-use mathlib.Core.Bool.{Bool, cond, _||_}
+use mathlib.Core.Bool.{Bool, false, cond, not, _||_}
 use mathlib.Core.List.{List}
 use Prim.Native.Nat.{ℕ, suc, _+_}
 use lib.Dec.{leb, ltb, eqb}
@@ -16,11 +16,26 @@ use Rattle.file_refusals.specs.declared.Judged.the-variants.{Sound}
 use Rattle.file_refusals.specs.Refusal.{faulty}
 use Rattle.network.specs.declared.header.Layout.{Layout}
 use Rattle.network.specs.Decode.{decode, Laid, laid-sizes}
-use Rattle.network.specs.Network.{Network, nodes, arcs, points, cell, tail, head, count, start}
+use Rattle.network.specs.Network.{Network, nodes, arcs, points, cell, opensAt, closesAt, tail, head}
+use Rattle.network.specs.Network.{count, start}
 
 -- 7: a cell that is not below the count of cells
 abbrev pub badCell : Network → ℕ → Bool
 badCell n v = leb (n .cells) (cell n v)
+
+-- where no hours are held: a node that is not open all day
+unfoldable pub partOfDay : ℕ → ℕ → ℕ → ℕ → Bool
+partOfDay hours period opens closes =
+    cond (eqb hours 0) (not (eqb opens 0) || not (eqb closes period)) false
+
+-- 37: a node that does not open before it closes, or closes after the period's end; or whose hours are not
+-- held
+unfoldable pub badHours : ℕ → ℕ → ℕ → ℕ → Bool
+badHours hours period opens closes =
+    leb closes opens || (ltb period closes || partOfDay hours period opens closes)
+
+abbrev pub badHoursOf : Network → ℕ → Bool
+badHoursOf n v = badHours (n .hours) (n .period) (opensAt n v) (closesAt n v)
 
 -- 8: an end that is no node, two ends that are one, no point, or more points than ticks
 unfoldable pub badEnds : ℕ → ℕ → ℕ → ℕ → ℕ → Bool
@@ -58,7 +73,8 @@ firstPoint n test k =
     let a = first k (λ a. any (count n a) (test a)) in
     cond (ltb a k) (start n a + first (count n a) (test a)) (points n)
 
--- The ladder, rung by rung from its end: the points, the counts' sum, the arcs, the nodes.
+-- The ladder, rung by rung from its end: the points, the counts' sum, the arcs, the nodes' hours, and their
+-- cells.
 unfoldable pub judgedPoints : Network → Judged
 judgedPoints n =
     cond (ltb (firstPoint n (badPointOf n) (arcs n)) (points n))
@@ -73,13 +89,20 @@ judgedSum n = cond (eqb (start n (arcs n)) (points n)) (judgedPoints n) (faulty 
 unfoldable pub judgedArcs : Network → Judged
 judgedArcs n = firstRung (faulty 8) (arcs n) (badArc n) (judgedSum n)
 
+unfoldable pub judgedHours : Network → Judged
+judgedHours n = firstRung (faulty 37) (nodes n) (badHoursOf n) (judgedArcs n)
+
 unfoldable pub judged : Network → Judged
-judged n = firstRung (faulty 7) (nodes n) (badCell n) (judgedArcs n)
+judged n = firstRung (faulty 7) (nodes n) (badCell n) (judgedHours n)
 
 -- FOR CODE that has read the file of a network
 module _ {file : List ℕ} {l : Layout} (s : Laid file l) where
   pub cell-judged : (v : ℕ) {r : ℕ} → r ≡ cell (decode file) v → leb (l .cells) r ≡ badCell (decode file) v
   cell-judged v e = rw (laid-sizes s .cells, e)
+
+  pub hours-judged : (v : ℕ) {o c : ℕ} {r : Bool} → o ≡ opensAt (decode file) v → c ≡ closesAt (decode file) v
+      → r ≡ badHours (l .hours) (l .period) o c → r ≡ badHoursOf (decode file) v
+  hours-judged v e f q = rw (laid-sizes s .hours, laid-sizes s .period, e, f) at q
 
   pub arc-judged : (a : ℕ) {t h c : ℕ} {r : Bool} → t ≡ tail (decode file) a → h ≡ head (decode file) a
       → c ≡ count (decode file) a
@@ -87,4 +110,4 @@ module _ {file : List ℕ} {l : Layout} (s : Laid file l) where
   arc-judged a e f g q = rw (laid-sizes s .nodes, laid-sizes s .period, e, f, g) at q
 
 -- for `search judges` where code judges an entry
-pub ruleset judges = (cell-judged, arc-judged)
+pub ruleset judges = (cell-judged, hours-judged, arc-judged)

@@ -1,22 +1,26 @@
--- What the rules 7 to 10 ask of a network, said of its nodes, arcs and points (`SoundNetwork`). The ladder of
+-- What the rules 7 to 10 and 37 ask of a network, said of its nodes, arcs and points (`SoundNetwork`). The ladder of
 -- tests judges a network sound exactly when this holds (`sound-exactly`).
 use mathlib.Core.Path.{_≡_, refl, _∙_}
 use mathlib.Core.Logic.{_≢_, _↔_}
 use mathlib.Core.Bool.{Bool, false}
-use Prim.Native.Nat.{ℕ, _≤_, _<_}
+use Prim.Native.Nat.{ℕ, zero, suc, _≤_, _<_}
 use native.Mathlib.Omega.{arith}
 use native.Mathlib.Decide.{decLt}
-use borrow.Author.Tests.{ltb-true, ltb-false, leb-false, eqb-true, eqb-false, lt-leb, le-ltb, eq-eqb, ne-eqb}
+use borrow.Author.Tests.{ltb-true, ltb-false, leb-false, eqb-true, eqb-false, not-false, lt-leb, le-ltb, eq-eqb, ne-eqb}
 use Rattle.theory_loops.specs.First.{first, first-le, clear, all-clear, found}
 use Rattle.theory_loops.specs.Pick.{or-passed, passed-by, reached-by, rung-passed, rung-clear}
 use Rattle.theory_travel.specs.Points.{Fifo}
 use Rattle.theory_travel.specs.Day.{Day, closed, closed-in}
 use Rattle.theory_travel.specs.Ticks.{badTick, ticks-day}
 use Rattle.file_refusals.specs.declared.Judged.the-variants.{Sound}
-use Rattle.network.specs.Network.{Network, nodes, arcs, points, cell, tail, head, count, start}
+use Rattle.network.specs.Network.{Network, nodes, arcs, points, cell, opensAt, closesAt, tail, head}
+use Rattle.network.specs.Network.{count, start}
 use Rattle.file_refusals.specs.Refusal.{faulty}
 use Rattle.network.specs.Rules.{
   badCell,
+  partOfDay,
+  badHours,
+  badHoursOf,
   badEnds,
   badArc,
   badPoint,
@@ -29,6 +33,7 @@ use Rattle.network.specs.Rules.{
   judgedPoints,
   judgedSum,
   judgedArcs,
+  judgedHours,
   judged,
 }
 use Rattle.network.specs.FirstPoint.{Counted, anyOf, points-in, none-first, at-first}
@@ -49,8 +54,16 @@ pub record SoundPoints (n : Network) (a : ℕ) : Type 0 where
   pub fifo : Fifo (closed (count n a) (ticksOf n a) (n .period))
       (closed (count n a) (travelsOf n a) (travelsOf n a 0)) (count n a)
 
+-- 37, of node v: it opens before it closes, by the end of the period; where no hours are held it is open all
+-- day
+pub record SoundHours (n : Network) (v : ℕ) : Type 0 where
+  pub some : opensAt n v < closesAt n v
+  pub within : closesAt n v ≤ n .period
+  pub all-day : n .hours ≡ 0 → (opensAt n v ≡ 0) × (closesAt n v ≡ n .period)
+
 pub record SoundNetwork (n : Network) : Type 0 where
   pub cells-below : (v : ℕ) → v < nodes n → cell n v < n .cells
+  pub hours : (v : ℕ) → v < nodes n → SoundHours n v
   pub arc : (a : ℕ) → a < arcs n → SoundArc n a
   pub sum : start n (arcs n) ≡ points n
   pub points-of : (a : ℕ) → a < arcs n → SoundPoints n a
@@ -80,6 +93,41 @@ module _ (n : Network) (a : ℕ) where
     ne-eqb _ _ (s .apart),
     le-ltb _ _ (s .some),
     le-ltb _ _ (s .most),
+  )
+
+-- 37 is kept by hours that are sound
+part-sound : (hours period opens closes : ℕ) → partOfDay hours period opens closes ≡ false → hours ≡ 0
+    → (opens ≡ 0) × (closes ≡ period)
+unfolding partOfDay
+part-sound hours period opens closes e z =
+    let (a, b) = or-passed _ _ (rw (eq-eqb hours 0 z) at e) in
+    (eqb-true _ _ (not-false _ a), eqb-true _ _ (not-false _ b))
+
+sound-part : (hours period opens closes : ℕ) → (hours ≡ 0 → (opens ≡ 0) × (closes ≡ period))
+    → partOfDay hours period opens closes ≡ false
+unfolding partOfDay
+sound-part zero period opens closes f =
+    rw (eq-eqb opens 0 (f refl .0), eq-eqb closes period (f refl .1))
+sound-part (suc hours) period opens closes f = rw (ne-eqb (suc hours) 0 (λ e. omega arith))
+
+module _ (n : Network) (v : ℕ) where
+  pub hours-sound : badHoursOf n v ≡ false → SoundHours n v
+  unfolding badHours
+  hours-sound e =
+      let (a, e₁) = or-passed _ _ e in
+      let (b, e₂) = or-passed _ _ e₁ in
+      record {
+        some = leb-false _ _ a;
+        within = ltb-false _ _ b;
+        all-day = part-sound (n .hours) (n .period) (opensAt n v) (closesAt n v) e₂;
+      }
+
+  pub sound-hours : SoundHours n v → badHoursOf n v ≡ false
+  unfolding badHours
+  sound-hours s = rw (
+    lt-leb _ _ (s .some),
+    le-ltb _ _ (s .within),
+    sound-part (n .hours) (n .period) (opensAt n v) (closesAt n v) (s .all-day),
   )
 
 -- a test that holds at no point of any arc
@@ -162,9 +210,10 @@ not-sound number place e = let z : _≡_ {A = ℕ} 0 1 = cc in omega arith
 
 -- THE LADDER judges sound exactly where the rules hold
 judged-sound : (n : Network) → judged n ≡ Sound → SoundNetwork n
-unfolding judged judgedArcs judgedSum judgedPoints
+unfolding judged judgedHours judgedArcs judgedSum judgedPoints
 judged-sound n e =
-    let (c, e₁) = rung-passed (faulty 7) (nodes n) (badCell n) _ Sound (λ i _. not-sound 7 i) e in
+    let (c, e₀) = rung-passed (faulty 7) (nodes n) (badCell n) _ Sound (λ i _. not-sound 7 i) e in
+    let (o, e₁) = rung-passed (faulty 37) (nodes n) (badHoursOf n) _ Sound (λ i _. not-sound 37 i) e₀ in
     let (r, e₂) = rung-passed (faulty 8) (arcs n) (badArc n) _ Sound (λ i _. not-sound 8 i) e₁ in
     let (s, e₃) = reached-by _ _ _ Sound (not-sound 8 (arcs n)) e₂ in
     let (p, e₄) = passed-by _ _ _ Sound (not-sound 9 _) e₃ in
@@ -173,6 +222,7 @@ judged-sound n e =
     let counted : Counted n = record { some = λ a l. arc-sound n a (r a l) .some; sum = sum } in
     record {
       cells-below = λ v l. leb-false _ _ (c v l);
+      hours = λ v l. hours-sound n v (o v l);
       arc = λ a l. arc-sound n a (r a l);
       sum = sum;
       points-of = λ a l. points-sound n a (counted .some a l)
@@ -181,9 +231,10 @@ judged-sound n e =
     }
 
 sound-judged : (n : Network) → SoundNetwork n → judged n ≡ Sound
-unfolding judged judgedArcs judgedSum judgedPoints
+unfolding judged judgedHours judgedArcs judgedSum judgedPoints
 sound-judged n s =
     rung-clear (faulty 7) (nodes n) (badCell n) _ (λ v l. lt-leb _ _ (s .cells-below v l))
+    ∙ rung-clear (faulty 37) (nodes n) (badHoursOf n) _ (λ v l. sound-hours n v (s .hours v l))
     ∙ rung-clear (faulty 8) (arcs n) (badArc n) _ (λ a l. sound-arc n a (s .arc a l))
     ∙ rw (
       eq-eqb (start n (arcs n)) (points n) (s .sum),

@@ -30,8 +30,9 @@ use Rattle.network.specs.Validate.{unopened, firstUnformed}
 use Rattle.network.specs.Validate.{validatedRules, validatedForm, validatedLength, validatedHeader}
 use Rattle.network.specs.Validate.{madeAt, validatedFirst, validated, header-within, header-is}
 use Rattle.file_fields.specs.Block.{blockSize, headSize}
-use Rattle.file_blocks.specs.Kind.{networkKind, networkSize, cellKind, cellSize, cellPer, arcKind, arcSize}
-use Rattle.file_blocks.specs.Kind.{arcPer, pointKind, pointSize, pointPer}
+use Rattle.file_blocks.specs.Kind.{networkKind, networkSize, arcKind, arcSize, arcPer, pointKind, pointSize}
+use Rattle.file_blocks.specs.Kind.{pointPer}
+use Rattle.network.specs.Node.{nodeKind, nodeSize, nodePer, nodeBlocks, node-blocks-most}
 
 pub record ValidFile (file : List ℕ) (h : Header) : Type 0 where
   pub is : h ≡ headerAt file
@@ -39,7 +40,8 @@ pub record ValidFile (file : List ℕ) (h : Header) : Type 0 where
   pub long : length file ≡ blockSize * allBlocks h
   pub sums : (b : ℕ) → b < allBlocks h → good file b ≡ true
   pub first-formed : formed file 0 networkKind 1 (headSize + networkSize) ≡ true
-  pub nodes-formed : RunFormed file 1 cellKind cellPer cellSize (h .nodes)
+  pub nodes-formed : RunFormed file 1 (nodeKind (h .hours)) (nodePer (h .hours)) (nodeSize (h .hours))
+      (h .nodes)
   pub arcs-formed : RunFormed file (arcBlock h) arcKind arcPer arcSize (h .arcs)
   pub points-formed : RunFormed file (pointBlock h) pointKind pointPer pointSize (h .points)
   pub sound : SoundNetwork (decode file)
@@ -64,24 +66,27 @@ header-passed file h Outside e = absurd (not-opened 4 0 h e)
 -- the runs are in their form where no block out of it is found before the end
 module _ (file : List ℕ) (h : Header) where
   record RunsFormed : Type 0 where
-    nodes-formed : RunFormed file 1 cellKind cellPer cellSize (h .nodes)
+    nodes-formed : RunFormed file 1 (nodeKind (h .hours)) (nodePer (h .hours)) (nodeSize (h .hours))
+        (h .nodes)
     arcs-formed : RunFormed file (arcBlock h) arcKind arcPer arcSize (h .arcs)
     points-formed : RunFormed file (pointBlock h) pointKind pointPer pointSize (h .points)
 
   all-formed : allBlocks h ≤ firstUnformed file h → RunsFormed
-  unfolding firstUnformed
+  unfolding firstUnformed nodeBlocks
   all-formed l =
       let x = firstUnformed file h in
-      let (n, e) = formed-past file 1 cellKind cellPer cellSize (h .nodes) _ x (omega arith) refl in
+      let (n, e) = formed-past file 1 (nodeKind (h .hours)) (nodePer (h .hours)) (nodeSize (h .hours)) (h .nodes)
+      _ x (omega arith) refl in
       let (a, f) = formed-past file (arcBlock h) arcKind arcPer arcSize (h .arcs) _ x (omega arith) e in
       let (p, g) = formed-past file (pointBlock h) pointKind pointPer pointSize (h .points) _ x (omega arith)
       f in
       record { nodes-formed = n; arcs-formed = a; points-formed = p }
 
   formed-all : RunsFormed → firstUnformed file h ≡ allBlocks h
-  unfolding firstUnformed
+  unfolding firstUnformed nodeBlocks
   formed-all f =
-      past-formed file 1 cellKind cellPer cellSize (h .nodes) _ (f .nodes-formed)
+      past-formed file 1 (nodeKind (h .hours)) (nodePer (h .hours)) (nodeSize (h .hours)) (h .nodes) _
+      (f .nodes-formed)
       ∙ past-formed file (arcBlock h) arcKind arcPer arcSize (h .arcs) _ (f .arcs-formed)
       ∙ past-formed file (pointBlock h) pointKind pointPer pointSize (h .points) _ (f .points-formed)
 
@@ -123,10 +128,11 @@ module _ (file : List ℕ) (h : Header) where
 
   module _ (v : ValidFile file h) where
     length-passed : badLength mostBytes (length file) ≡ false
-    length-passed = fine-length _ _ _ (v .long) (omega arith) (omega (arith, v .within))
+    length-passed = fine-length _ _ _ (v .long) (omega arith)
+        (omega (arith, v .within, node-blocks-most (h .hours) (v .within .nodes-most)))
 
     made-inside : madeAt file ≡ Inside h
-    made-inside = rw (v .is) (within-made _ _ _ _ _ _ (rw (v .is) at (v .within)))
+    made-inside = rw (v .is) (within-made _ _ _ _ _ _ _ (rw (v .is) at (v .within)))
 
     form-passed : validatedForm file h ≡ Opened h
     unfolding validatedForm

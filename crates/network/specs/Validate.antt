@@ -1,6 +1,6 @@
--- Validation of a network file, refusals 1 to 10 in the order of document 01: the length, every block's
--- check, the first block's form, the header's limits, the length again, the later blocks' forms, and the
--- rules of the tables. Every whole block is summed before the header is looked at.
+-- Validation of a network file, refusals 1 to 10 in the order of document 01, and 37 straight after 7: the
+-- length, every block's check, the first block's form, the header's limits, the length again, the later
+-- blocks' forms, and the rules of the tables. Every whole block is summed before the header is looked at.
 use mathlib.Core.Path.{_≡_, sym, _∙_}
 use mathlib.Core.Bool.{cond}
 use mathlib.Core.List.{List}
@@ -10,7 +10,7 @@ use lib.ListN.{length}
 use lib.Dec.{ltb, eqb}
 use borrow.Author.Tests.{lt-ltb, le-ltb, eq-eqb, ne-eqb}
 use Rattle.theory_loops.specs.Pick.{firstRung}
-use Rattle.file_fields.specs.Fields.{le16, le32}
+use Rattle.file_fields.specs.Fields.{le8, le16, le32}
 use Rattle.file_blocks.specs.Place.{blocks}
 use Rattle.file_blocks.specs.Laid.{laid-by}
 use Rattle.file_blocks.specs.Form.{formed, unformedOr, badLength, run-taken, run-passed, run-last}
@@ -31,13 +31,14 @@ use Rattle.network.specs.Decode.{points-stored}
 use Rattle.file_refusals.specs.Refusal.{refusal}
 use Rattle.network.specs.Rules.{judged}
 use Rattle.file_fields.specs.Block.{blockSize, headSize}
-use Rattle.file_blocks.specs.Kind.{networkKind, networkSize, cellKind, cellSize, cellPer, arcKind, arcSize}
-use Rattle.file_blocks.specs.Kind.{arcPer, pointKind, pointSize, pointPer}
+use Rattle.file_blocks.specs.Kind.{networkKind, networkSize, arcKind, arcSize, arcPer, pointKind, pointSize}
+use Rattle.file_blocks.specs.Kind.{pointPer}
+use Rattle.network.specs.Node.{nodeKind, nodeSize, nodePer, nodeBlocks, node-blocks-most}
 
 abbrev pub unopened : ℕ → ℕ → Opening
 unopened number place = Refused (refusal number place)
 
--- 7 to 10
+-- 7, 37, 8 to 10
 abbrev pub validatedRules : Header → Judged → Opening
 validatedRules h Sound = Opened h
 validatedRules h (Faulty r) = Refused r
@@ -45,7 +46,7 @@ validatedRules h (Faulty r) = Refused r
 -- the first block after the header that is out of its form, by its number, or the count of blocks
 unfoldable pub firstUnformed : List ℕ → Header → ℕ
 firstUnformed file h =
-    unformedOr file 1 cellKind cellPer cellSize (h .nodes)
+    unformedOr file 1 (nodeKind (h .hours)) (nodePer (h .hours)) (nodeSize (h .hours)) (h .nodes)
     (unformedOr file (arcBlock h) arcKind arcPer arcSize (h .arcs)
     (unformedOr file (pointBlock h) pointKind pointPer pointSize (h .points) (allBlocks h)))
 
@@ -66,9 +67,11 @@ validatedHeader file (Inside h) = validatedLength file h
 validatedHeader file Outside = unopened 4 0
 
 abbrev pub madeAt : List ℕ → Made
-madeAt file = made (le32 file 8) (le16 file 12) (le16 file 14) (le16 file 16) (le16 file 18) (le32 file 20)
+madeAt file =
+    made (le32 file 8) (le16 file 12) (le16 file 14) (le16 file 16) (le16 file 18) (le32 file 20)
+    (le8 file 24)
 
--- 3: the first block is of kind 1, with one entry of 16 bytes
+-- 3: the first block is of kind 1, with one entry of 17 bytes
 unfoldable pub validatedFirst : List ℕ → Opening
 validatedFirst file =
     cond (formed file 0 networkKind 1 (headSize + networkSize)) (validatedHeader file (madeAt file))
@@ -84,8 +87,9 @@ validated file =
 -- FOR CODE on a file that is laid out as its header says: where each run ends, and the first block out of
 -- its form
 module _ {file : List ℕ} {l : Layout} (s : Laid file l) where
-  pub nodes-end : l .arcblock ≡ 1 + blocks cellPer (l .nodes)
-  nodes-end = omega (arith, laid-blocks s)
+  pub nodes-end : l .arcblock ≡ 1 + blocks (nodePer (l .hours)) (l .nodes)
+  unfolding nodeBlocks
+  nodes-end = rw (laid-blocks s .hours, laid-blocks s .nodes) (laid-blocks s .arcblock)
 
   pub arcs-end : l .pointblock ≡ l .arcblock + blocks arcPer (l .arcs)
   arcs-end = omega (arith, laid-blocks s)
@@ -93,7 +97,8 @@ module _ {file : List ℕ} {l : Layout} (s : Laid file l) where
   pub points-end : l .blocks ≡ l .pointblock + blocks pointPer (l .points)
   points-end = omega (arith, laid-blocks s)
 
-  pub unformed-told : (r : ℕ) → r ≡ unformedOr file 1 cellKind cellPer cellSize (l .nodes)
+  pub unformed-told : (r : ℕ) → r
+      ≡ unformedOr file 1 (nodeKind (l .hours)) (nodePer (l .hours)) (nodeSize (l .hours)) (l .nodes)
       (unformedOr file (l .arcblock) arcKind arcPer arcSize (l .arcs)
       (unformedOr file (l .pointblock) pointKind pointPer pointSize (l .points) (l .blocks)))
       → r ≡ firstUnformed file (headerAt file)
@@ -153,10 +158,10 @@ now-laid file h l w d e f = laid-by d e w (rw e at f)
 
 -- the header that is made of the first block's numbers
 pub header-within : (file : List ℕ) (m : Made) (h : Header) → m ≡ madeAt file → m ≡ Inside h → WithinLimits h
-header-within file m h e f = made-within _ _ _ _ _ _ h (sym e ∙ f) .0
+header-within file m h e f = made-within _ _ _ _ _ _ _ h (sym e ∙ f) .0
 
 pub header-is : (file : List ℕ) (m : Made) (h : Header) → m ≡ madeAt file → m ≡ Inside h → h ≡ headerAt file
-header-is file m h e f = made-within _ _ _ _ _ _ h (sym e ∙ f) .1
+header-is file m h e f = made-within _ _ _ _ _ _ _ h (sym e ∙ f) .1
 
 pub header-inside : (file : List ℕ) (m k : Made) (h : Header) (r : Opening) → m ≡ k → m ≡ Inside h
     → r ≡ validatedLength file h → r ≡ validatedHeader file k
@@ -168,4 +173,4 @@ header-outside file m k r e f g = rw (← e, f) g
 
 pub blocks-few : (h : Header) (l : Layout) → WithinLimits h → l ≡ layoutOf h → l .blocks ≤ mostBlocks
 unfolding layoutOf
-blocks-few h l w e = rw e (omega (arith, w))
+blocks-few h l w e = rw e (omega (arith, w, node-blocks-most (h .hours) (w .nodes-most)))

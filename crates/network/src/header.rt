@@ -1,5 +1,6 @@
 // The header of a network with its limits, and where the tables of such a network stand in its file.
 use crate::limits;
+use crate::node::node_per;
 use file_blocks::kind;
 use file_blocks::place::blocks;
 ghost use mathlib.Core.Path.{_≡_};
@@ -13,6 +14,7 @@ pub struct Header {
     pub arcs: u16,
     pub cells: u16,
     pub points: u32,
+    pub hours: u16,
 }
 
 // The header that some numbers make, or none.
@@ -21,13 +23,15 @@ pub enum Made {
     Outside,
 }
 
-// The counts of a network as sizes, and the first block of its arcs, of its points, and after its last.
+// The counts of a network as sizes, whether it holds hours (1) or not (0), and the first block of its arcs,
+// of its points, and after its last.
 pub struct Layout {
     pub period: usize,
     pub nodes: usize,
     pub arcs: usize,
     pub cells: usize,
     pub points: usize,
+    pub hours: usize,
     pub arcblock: usize,
     pub pointblock: usize,
     pub blocks: usize,
@@ -44,9 +48,19 @@ impl Header {
 
     pub const MOST_POINTS: u32 = limits::MOST_POINTS as u32;
 
+    pub const MOST_HOURS: u32 = limits::MOST_HOURS as u32;
+
     // A header of numbers within the limits.
-    pub fn new(number: u32, period: u32, nodes: u32, arcs: u32, cells: u32, points: u32) -> Made
-        ensures { λ r. ⌜ r ≡ made number period nodes arcs cells points ⌝ }
+    pub fn new(
+        number: u32,
+        period: u32,
+        nodes: u32,
+        arcs: u32,
+        cells: u32,
+        points: u32,
+        hours: u32,
+    ) -> Made
+        ensures { λ r. ⌜ r ≡ made number period nodes arcs cells points hours ⌝ }
     {
         if period < 1 {
             return Made::Outside;
@@ -72,6 +86,9 @@ impl Header {
         if Header::MOST_POINTS < points {
             return Made::Outside;
         }
+        if Header::MOST_HOURS < hours {
+            return Made::Outside;
+        }
         Made::Inside(Header {
             number,
             period: period as u16,
@@ -79,6 +96,7 @@ impl Header {
             arcs: arcs as u16,
             cells: cells as u16,
             points,
+            hours: hours as u16,
         })
     }
 
@@ -90,7 +108,8 @@ impl Header {
         let nodes = self.nodes as usize;
         let arcs = self.arcs as usize;
         let points = self.points as usize;
-        let arcblock = 1 + blocks(kind::CELL_PER, nodes);
+        let hours = self.hours as usize;
+        let arcblock = 1 + blocks(node_per(hours), nodes);
         let pointblock = arcblock + blocks(kind::ARC_PER, arcs);
         Layout {
             period: self.period as usize,
@@ -98,6 +117,7 @@ impl Header {
             arcs,
             cells: self.cells as usize,
             points,
+            hours,
             arcblock,
             pointblock,
             blocks: pointblock + blocks(kind::POINT_PER, points),

@@ -14,9 +14,12 @@ pub const MOST_CELLS: usize = 64;
 
 pub const MOST_POINTS: usize = 65535;
 
-// A header, and the blocks of so many cells, arcs and points.
+// Whether hours are held: 1, or 0 where they are not.
+pub const MOST_HOURS: usize = 1;
+
+// A header, and the blocks of so many nodes with their hours, arcs and points.
 pub const MOST_BLOCKS: usize = 1
-    + (MOST_NODES + kind::CELL_PER - 1) / kind::CELL_PER
+    + (MOST_NODES + kind::HOURS_PER - 1) / kind::HOURS_PER
     + (MOST_ARCS + kind::ARC_PER - 1) / kind::ARC_PER
     + (MOST_POINTS + kind::POINT_PER - 1) / kind::POINT_PER;
 

@@ -1,4 +1,4 @@
-// The entries of a network file, read in place: one function for each of the six tables.
+// The entries of a network file, read in place: one function for each of the eight tables.
 // Each contract equates the answer with the entry of the network that the file decodes to; callers see no
 // bytes.
 use crate::header::Layout;
@@ -9,13 +9,41 @@ ghost use Prim.Native.Nat.{_<_};
 ghost use Rattle.network.specs.Network;
 ghost use Rattle.network.specs.Decode.{decode, Laid};
 
-// The cell of node v.
+// The cell of node v. The places of both kinds are told apart before they are counted, so that each is
+// counted with numbers that are constant.
 pub fn cell(file: &[u8], l: Layout, v: usize) -> usize
     requires { ⌜ Laid (now file) l ⌝ }
     requires { ⌜ v < l .nodes ⌝ }
     ensures { λ r. ⌜ (r ≡ Network.cell (decode (now (file .entry))) v) × (r < 65536) ⌝ }
 {
-    field16(file, 1, kind::CELL_PER, kind::CELL_SIZE, 0, v)
+    if l.hours == 0 {
+        return field16(file, 1, kind::CELL_PER, kind::CELL_SIZE, 0, v);
+    }
+    field16(file, 1, kind::HOURS_PER, kind::HOURS_SIZE, 0, v)
+}
+
+// The tick at which node v opens.
+pub fn opens_at(file: &[u8], l: Layout, v: usize) -> usize
+    requires { ⌜ Laid (now file) l ⌝ }
+    requires { ⌜ v < l .nodes ⌝ }
+    ensures { λ r. ⌜ (r ≡ Network.opensAt (decode (now (file .entry))) v) × (r < 65536) ⌝ }
+{
+    if l.hours == 0 {
+        return 0;
+    }
+    field16(file, 1, kind::HOURS_PER, kind::HOURS_SIZE, 2, v)
+}
+
+// The tick at which node v closes.
+pub fn closes_at(file: &[u8], l: Layout, v: usize) -> usize
+    requires { ⌜ Laid (now file) l ⌝ }
+    requires { ⌜ v < l .nodes ⌝ }
+    ensures { λ r. ⌜ (r ≡ Network.closesAt (decode (now (file .entry))) v) × (r < 65536) ⌝ }
+{
+    if l.hours == 0 {
+        return l.period;
+    }
+    field16(file, 1, kind::HOURS_PER, kind::HOURS_SIZE, 4, v)
 }
 
 // The tail of arc a.

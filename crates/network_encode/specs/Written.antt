@@ -3,7 +3,7 @@
 -- file is that of their first entries.
 use mathlib.Core.Path.{_≡_, refl, sym, _∙_, ap, subst⁻¹}
 use mathlib.Core.List.{List}
-use Prim.Native.Nat.{ℕ, _+_, _*_, _^_, _≤_, _<_}
+use Prim.Native.Nat.{ℕ, zero, suc, _+_, _*_, _^_, _≤_, _<_}
 use native.Mathlib.Omega.{arith}
 use lib.ListN.{length, getD, take}
 use lib.Seq.{getD-take, length-take-le}
@@ -20,14 +20,18 @@ use Rattle.network.specs.Layout.{arcBlock, pointBlock, allBlocks, mostBlocks, L
 use Rattle.network.specs.Network.{Network}
 use Rattle.network.specs.Tables.{Tables, networkOf}
 use Rattle.network_encode.specs.Encode.{headerOf, encodeBy, encode, headerNumber, headerByte, cellByte}
-use Rattle.network_encode.specs.Encode.{arcByte, pointByte, bodyBy, header-body, cells-body, arcs-body}
+use Rattle.network_encode.specs.Encode.{nodeByte}
+use Rattle.network_encode.specs.Encode.{tripleByte, pointByte, bodyBy, header-body, nodes-body, arcs-body}
 use Rattle.network_encode.specs.Encode.{points-body}
 use Rattle.network_encode.specs.Entries.{partByte, InRun, entry-none, entry-put}
 use Rattle.network_encode.specs.BlockWritten.{same-block}
 use Rattle.network_encode.specs.Packable.{Packable}
 use Rattle.file_fields.specs.Block.{blockSize, headSize}
+use Rattle.network.specs.Node.{nodeKind, nodeSize, nodePer, nodeBlocks, node-fits, node-blocks-most, per-plain}
+use Rattle.network.specs.Node.{per-held}
+use Rattle.file_blocks.specs.Place.{blocks}
 use Rattle.file_blocks.specs.Kind.{networkKind, networkSize, cellKind, cellSize, cellPer, arcKind, arcSize}
-use Rattle.file_blocks.specs.Kind.{arcPer, pointKind, pointSize, pointPer}
+use Rattle.file_blocks.specs.Kind.{arcPer, pointKind, pointSize, pointPer, hoursKind}
 
 -- AN ENTRY is put as one number
 module _ (base first m e : ℕ) (old s₀ s₁ : List ℕ) (l : e < m) where
@@ -39,14 +43,14 @@ module _ (base first m e : ℕ) (old s₀ s₁ : List ℕ) (l : e < m) where
   unfolding cellByte
   cell-put c h r p = entry-put cellSize (cellByte c) base first m e _ old s₀ s₁ h l r (λ k. refl) p
 
-  pub arc-put : (t h k : List ℕ)
-      → Filled base (base + arcSize * e) (partByte arcSize (arcByte t h k) base first) old s₀
+  pub triple-put : (t h k : List ℕ)
+      → Filled base (base + arcSize * e) (partByte arcSize (tripleByte t h k) base first) old s₀
       → base + arcSize * m ≤ length old
       → s₁ ≡ put 6 s₀ (base + arcSize * e)
       (getD t (first + e) 0 + 65536 * (getD h (first + e) 0 + 65536 * getD k (first + e) 0))
-      → Filled base (base + arcSize * (e + 1)) (partByte arcSize (arcByte t h k) base first) old s₁
-  unfolding arcByte
-  arc-put t h k d r p = entry-put arcSize (arcByte t h k) base first m e _ old s₀ s₁ d l r (λ i. refl) p
+      → Filled base (base + arcSize * (e + 1)) (partByte arcSize (tripleByte t h k) base first) old s₁
+  unfolding tripleByte
+  triple-put t h k d r p = entry-put arcSize (tripleByte t h k) base first m e _ old s₀ s₁ d l r (λ i. refl) p
 
   pub point-put : (t v : List ℕ)
       → Filled base (base + pointSize * e) (partByte pointSize (pointByte t v) base first) old s₀
@@ -57,16 +61,17 @@ module _ (base first m e : ℕ) (old s₀ s₁ : List ℕ) (l : e < m) where
   point-put t v h r p = entry-put pointSize (pointByte t v) base first m e _ old s₀ s₁ h l r (λ k. refl) p
 
 -- the header's fields, put one behind the other, are one number, and that is its one entry
-pub header-put : (h : Header) → WithinLimits h → h .number < 2 ^ 32 → (old s₁ s₂ s₃ s₄ s₅ s₆ : List ℕ)
+pub header-put : (h : Header) → WithinLimits h → h .number < 2 ^ 32 → (old s₁ s₂ s₃ s₄ s₅ s₆ s₇ : List ℕ)
     → s₁ ≡ put 4 old 8 (h .number) → s₂ ≡ put 2 s₁ 12 (h .period) → s₃ ≡ put 2 s₂ 14 (h .nodes)
     → s₄ ≡ put 2 s₃ 16 (h .arcs) → s₅ ≡ put 2 s₄ 18 (h .cells) → s₆ ≡ put 4 s₅ 20 (h .points)
-    → s₆ ≡ put networkSize old 8 (headerNumber h)
-header-put h w l old s₁ s₂ s₃ s₄ s₅ s₆ e₁ e₂ e₃ e₄ e₅ e₆ =
-    put-join 4 12 old s₁ s₆ 8 (h .number) _ l e₁
-    (put-join 2 10 s₁ s₂ s₆ 12 (h .period) _ (omega (arith, w)) e₂
-    (put-join 2 8 s₂ s₃ s₆ 14 (h .nodes) _ (omega (arith, w)) e₃
-    (put-join 2 6 s₃ s₄ s₆ 16 (h .arcs) _ (omega (arith, w)) e₄
-    (put-join 2 4 s₄ s₅ s₆ 18 (h .cells) (h .points) (omega (arith, w)) e₅ e₆))))
+    → s₇ ≡ put 1 s₆ 24 (h .hours) → s₇ ≡ put networkSize old 8 (headerNumber h)
+header-put h w l old s₁ s₂ s₃ s₄ s₅ s₆ s₇ e₁ e₂ e₃ e₄ e₅ e₆ e₇ =
+    put-join 4 13 old s₁ s₇ 8 (h .number) _ l e₁
+    (put-join 2 11 s₁ s₂ s₇ 12 (h .period) _ (omega (arith, w)) e₂
+    (put-join 2 9 s₂ s₃ s₇ 14 (h .nodes) _ (omega (arith, w)) e₃
+    (put-join 2 7 s₃ s₄ s₇ 16 (h .arcs) _ (omega (arith, w)) e₄
+    (put-join 2 5 s₄ s₅ s₇ 18 (h .cells) _ (omega (arith, w)) e₅
+    (put-join 4 1 s₅ s₆ s₇ 20 (h .points) (h .hours) (omega (arith, w)) e₆ e₇)))))
 
 pub header-entry : (h : Header) (old new : List ℕ) → headSize + networkSize ≤ length old
     → new ≡ put networkSize old 8 (headerNumber h)
@@ -76,6 +81,39 @@ header-entry h old new r p =
     entry-put networkSize (λ _. headerByte h) headSize 0 1 0 (headerNumber h) old old new
     (entry-none networkSize (λ _. headerByte h) headSize 0 old) (lit< tt) r (λ k. refl) p
 
+-- A BLOCK OF NODES is one of cells alone, or of cells with their hours
+module _ (b nodes : ℕ) where
+  pub plain-in : (hours : ℕ) → hours ≡ 0 → {room : ℕ} → InRun 1 (nodePer hours) nodes b room
+      → InRun 1 cellPer nodes b room
+  plain-in hours z r = rw (← per-plain z) at r
+
+  pub held-in : (hours : ℕ) → (hours ≡ 0 → ⊥) → {room : ℕ} → InRun 1 (nodePer hours) nodes b room
+      → InRun 1 arcPer nodes b room
+  held-in hours z r = rw (← per-held hours z) at r
+
+module _ (b nodes : ℕ) (cells opens closes old new : List ℕ) where
+  pub plain-block : (hours : ℕ) → hours ≡ 0
+      → Filled (blockSize * b) (blockSize * (b + 1))
+      (fileByte (runBody cellKind cellPer cellSize nodes (cellByte cells) 1)) old new
+      → Filled (blockSize * b) (blockSize * (b + 1))
+      (fileByte (runBody (nodeKind hours) (nodePer hours) (nodeSize hours) nodes
+      (nodeByte hours cells opens closes) 1)) old new
+  unfolding nodeKind nodePer nodeSize nodeByte
+  plain-block hours z w = rw z w
+
+  pub held-block : (hours : ℕ) → (hours ≡ 0 → ⊥)
+      → Filled (blockSize * b) (blockSize * (b + 1))
+      (fileByte (runBody hoursKind arcPer arcSize nodes (tripleByte cells opens closes) 1)) old new
+      → Filled (blockSize * b) (blockSize * (b + 1))
+      (fileByte (runBody (nodeKind hours) (nodePer hours) (nodeSize hours) nodes
+      (nodeByte hours cells opens closes) 1)) old new
+  unfolding nodeKind nodePer nodeSize nodeByte
+  held-block zero z w = absurd (z refl)
+  held-block (suc hours) z w = w
+
+-- for `search node-blocks`
+pub ruleset node-blocks = (plain-in, held-in, plain-block, held-block)
+
 -- A BLOCK stands in its run
 module _ {h : Header} {l : Layout} {t : Tables} (p : Packable h l t) (b room : ℕ)
     (m : b < l .blocks) (r : blockSize * l .blocks ≤ room) where
@@ -83,10 +121,14 @@ module _ {h : Header} {l : Layout} {t : Tables} (p : Packable h l t) (b room : �
   at = layout-blocks (p .is)
 
   near : b < mostBlocks
-  near = omega (arith, at, p .within)
+  near = omega (arith, at, p .within, node-blocks-most (h .hours) (p .within .nodes-most))
 
-  pub cells-in : 1 ≤ b → b < l .arcblock → InRun 1 cellPer (l .nodes) b room
-  cells-in y z = record { after = y; before = omega (arith, at); near = near; whole = omega arith }
+  within-nodes : b < l .arcblock → b < 1 + blocks (nodePer (l .hours)) (l .nodes)
+  unfolding nodeBlocks
+  within-nodes z = rw (at .hours, at .nodes) (omega (arith, at .arcblock))
+
+  pub nodes-in : 1 ≤ b → b < l .arcblock → InRun 1 (nodePer (l .hours)) (l .nodes) b room
+  nodes-in y z = record { after = y; before = within-nodes z; near = near; whole = omega arith }
 
   pub arcs-in : l .arcblock ≤ b → b < l .pointblock → InRun (l .arcblock) arcPer (l .arcs) b room
   arcs-in y z = record { after = y; before = omega (arith, at); near = near; whole = omega arith }
@@ -120,27 +162,40 @@ module _ {h : Header} {l : Layout} (t : Tables) (p : Packable h l t) (b : ℕ)
       told networkKind 1 networkSize 1 (λ _. headerByte h) (λ _. headerByte h) 0 (lit< tt) (λ i r a. refl)
       (header-body h n b m) (rw z w)
 
-  pub cells-told : 1 ≤ b → b < l .arcblock
+  -- the entries of nodes from whole tables are those of their first entries
+  node-bytes : (hours v r : ℕ) → v < h .nodes
+      → nodeByte hours (t .cells) (t .opens) (t .closes) v r
+      ≡ nodeByte hours (n .cellOf) (n .opens) (n .closes) v r
+  unfolding nodeByte cellByte tripleByte
+  node-bytes zero v r o = rw (getD-take (h .nodes) (t .cells) v 0 o)
+  node-bytes (suc hours) v r o = rw (
+    getD-take (h .nodes) (t .cells) v 0 o,
+    getD-take (h .nodes) (t .opens) v 0 o,
+    getD-take (h .nodes) (t .closes) v 0 o,
+  )
+
+  pub nodes-told : 1 ≤ b → b < l .arcblock
       → Filled (blockSize * b) (blockSize * (b + 1))
-      (fileByte (runBody cellKind cellPer cellSize (l .nodes) (cellByte (t .cells)) 1)) old new
+      (fileByte (runBody (nodeKind (l .hours)) (nodePer (l .hours)) (nodeSize (l .hours)) (l .nodes)
+      (nodeByte (l .hours) (t .cells) (t .opens) (t .closes)) 1)) old new
       → Filled (blockSize * b) (blockSize * (b + 1)) (fileByte (bodyBy h (networkOf h t))) old new
-  unfolding cellByte
-  cells-told m a w =
-      told cellKind cellPer cellSize (h .nodes) (cellByte (t .cells)) (cellByte (take (h .nodes) (t .cells)))
-      1 (lit< tt)
-      (λ i r o. rw (getD-take (h .nodes) (t .cells) i 0 o))
-      (cells-body h n b m (rw (q .arcblock) at a))
-      (rw (q .nodes) at w)
+  nodes-told m a w =
+      told (nodeKind (h .hours)) (nodePer (h .hours)) (nodeSize (h .hours)) (h .nodes)
+      (nodeByte (h .hours) (t .cells) (t .opens) (t .closes))
+      (nodeByte (h .hours) (n .cellOf) (n .opens) (n .closes)) 1 (node-fits (h .hours) .some)
+      (node-bytes (h .hours))
+      (nodes-body h n b m (rw (q .arcblock) at a))
+      (rw (q .nodes, q .hours) at w)
 
   pub arcs-told : l .arcblock ≤ b → b < l .pointblock
       → Filled (blockSize * b) (blockSize * (b + 1))
-      (fileByte (runBody arcKind arcPer arcSize (l .arcs) (arcByte (t .tails) (t .heads) (t .counts))
+      (fileByte (runBody arcKind arcPer arcSize (l .arcs) (tripleByte (t .tails) (t .heads) (t .counts))
       (l .arcblock))) old new
       → Filled (blockSize * b) (blockSize * (b + 1)) (fileByte (bodyBy h (networkOf h t))) old new
-  unfolding arcByte
+  unfolding tripleByte
   arcs-told m a w =
-      told arcKind arcPer arcSize (h .arcs) (arcByte (t .tails) (t .heads) (t .counts))
-      (arcByte (take (h .arcs) (t .tails)) (take (h .arcs) (t .heads)) (take (h .arcs) (t .counts)))
+      told arcKind arcPer arcSize (h .arcs) (tripleByte (t .tails) (t .heads) (t .counts))
+      (tripleByte (take (h .arcs) (t .tails)) (take (h .arcs) (t .heads)) (take (h .arcs) (t .counts)))
       (arcBlock h) (lit< tt)
       (λ i r o. rw (
         getD-take (h .arcs) (t .tails) i 0 o,
@@ -180,6 +235,7 @@ module _ {h : Header} {l : Layout} (t : Tables) (p : Packable h l t) where
         arcs = length-take-le (h .arcs) (t .tails) (rw (q .arcs) at (p .room .tails-room)) i;
         cells = h .cells;
         points = length-take-le (h .points) (t .ticks) (rw (q .points) at (p .room .ticks-room)) i;
+        hours = h .hours;
       }
 
   pub file-whole : (b : ℕ) (old new : List ℕ) → blockSize * l .blocks ≤ length old
@@ -195,4 +251,4 @@ module _ {h : Header} {l : Layout} (t : Tables) (p : Packable h l t) where
       subst⁻¹ (λ (y : Header). new ≡ overwritten (encodeBy y n) old) packed-header f
 
 -- for `search blockwise` where a block is written
-pub ruleset blockwise = (cells-in, arcs-in, points-in, header-told, cells-told, arcs-told, points-told)
+pub ruleset blockwise = (nodes-in, arcs-in, points-in, header-told, nodes-told, arcs-told, points-told)

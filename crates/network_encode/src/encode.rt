@@ -9,6 +9,7 @@ use file_fields::BLOCK;
 use file_fields::ENTRIES;
 use file_fields::HEAD;
 use file_fields::SUMMED;
+use file_fields::fields::put8;
 use file_fields::fields::put16;
 use file_fields::fields::put32;
 use network::header::Header;
@@ -19,14 +20,15 @@ ghost use lib.ListN.{length};
 ghost use Rattle.theory_loops.specs.Fill.{Filled, overwritten};
 ghost use Rattle.file_fields.specs.Block.{blockSize, headSize};
 ghost use Rattle.file_blocks.specs.Kind.{networkKind, networkSize, cellKind, cellSize, cellPer};
-ghost use Rattle.file_blocks.specs.Kind.{arcKind, arcSize, arcPer, pointKind, pointSize, pointPer};
+ghost use Rattle.file_blocks.specs.Kind.{arcSize, arcPer, pointKind, pointSize, pointPer};
 ghost use Rattle.file_blocks.specs.Bytes.{fileByte};
 ghost use Rattle.file_fields.specs.Put.{put};
 ghost use Rattle.file_blocks.specs.Run.{runBody, headerBody};
 ghost use Rattle.network.specs.Limits.{WithinLimits};
 ghost use Rattle.network.specs.Tables.{tables, networkOf};
-ghost use Rattle.network_encode.specs.Encode.{headerNumber, headerByte, cellByte, arcByte};
-ghost use Rattle.network_encode.specs.Encode.{pointByte, bodyBy, encode};
+ghost use Rattle.network_encode.specs.Encode.{headerNumber, headerByte, cellByte, tripleByte};
+ghost use Rattle.network_encode.specs.Encode.{pointByte, nodeByte, bodyBy, encode};
+ghost use Rattle.network.specs.Node.{nodeKind, nodeSize, nodePer};
 ghost use Rattle.network_encode.specs.Entries.{partByte, InRun};
 ghost use Rattle.network_encode.specs.Packable.{Packable};
 
@@ -63,6 +65,7 @@ pub fn put_header(out: &mut [u8], h: Header)
     put16(out, 16, h.arcs);
     put16(out, 18, h.cells);
     put32(out, 20, h.points);
+    put8(out, 24, h.hours as u8);
 }
 
 // The m cells from node `first` on, written from byte `base` on.
@@ -77,32 +80,26 @@ fn put_cells(out: &mut [u8], base: usize, first: usize, m: usize, cells: &[u16])
     }
 }
 
-// The m arcs from arc `first` on.
-fn put_arcs(
+// The m entries of three fields from entry `first` on.
+fn put_triples(
     out: &mut [u8],
     base: usize,
     first: usize,
     m: usize,
-    tails: &[u16],
-    heads: &[u16],
-    counts: &[u16],
+    xs: &[u16],
+    ys: &[u16],
+    zs: &[u16],
 )
     requires { ⌜ base + arcSize * m ≤ length (now out) ⌝ }
-    requires { ⌜ (first + m ≤ length (now tails)) × (first + m ≤ length (now heads))
-        × (first + m ≤ length (now counts)) ⌝ }
+    requires { ⌜ (first + m ≤ length (now xs)) × (first + m ≤ length (now ys))
+        × (first + m ≤ length (now zs)) ⌝ }
     ensures { λ _. ⌜ Filled base (base + arcSize * m)
-        (partByte arcSize (arcByte (now (tails .entry)) (now (heads .entry)) (now (counts .entry))) base
+        (partByte arcSize (tripleByte (now (xs .entry)) (now (ys .entry)) (now (zs .entry))) base
         first) (now (out .entry)) (now (out .exit)) ⌝ }
 {
     for e in 0..m {
         let a = first + e;
-        put_three(
-            out,
-            base + kind::ARC_SIZE * e,
-            tails[a],
-            heads[a],
-            counts[a],
-        );
+        put_three(out, base + kind::ARC_SIZE * e, xs[a], ys[a], zs[a]);
     }
 }
 
@@ -149,29 +146,55 @@ fn cells_block(out: &mut [u8], b: usize, nodes: usize, cells: &[u16])
     write_check(out, b);
 }
 
-// Block b, one of the arcs' run, which starts at block `from`.
-fn arcs_block(
+// Block b, one of a run of entries of three fields, which starts at block `from`.
+fn triples_block(
     out: &mut [u8],
     b: usize,
+    kind: u8,
     from: usize,
-    arcs: usize,
-    tails: &[u16],
-    heads: &[u16],
-    counts: &[u16],
+    n: usize,
+    xs: &[u16],
+    ys: &[u16],
+    zs: &[u16],
 )
-    requires { ⌜ InRun from arcPer arcs b (length (now out)) ⌝ }
-    requires { ⌜ (arcs ≤ length (now tails)) × (arcs ≤ length (now heads)) × (arcs ≤ length (now counts)) ⌝ }
+    requires { ⌜ InRun from arcPer n b (length (now out)) ⌝ }
+    requires { ⌜ (n ≤ length (now xs)) × (n ≤ length (now ys)) × (n ≤ length (now zs)) × (kind < 256) ⌝ }
     ensures { λ _. ⌜ Filled (blockSize * b) (blockSize * (b + 1))
-        (fileByte (runBody arcKind arcPer arcSize arcs
-        (arcByte (now (tails .entry)) (now (heads .entry)) (now (counts .entry))) from))
+        (fileByte (runBody kind arcPer arcSize n
+        (tripleByte (now (xs .entry)) (now (ys .entry)) (now (zs .entry))) from))
         (now (out .entry)) (now (out .exit)) ⌝ }
 {
     let at = BLOCK * b + HEAD;
-    let m = entries_in(kind::ARC_PER, arcs, b - from);
-    write_head(out, b, kind::ARC, m);
-    put_arcs(out, at, kind::ARC_PER * (b - from), m, tails, heads, counts);
+    let m = entries_in(kind::ARC_PER, n, b - from);
+    write_head(out, b, kind, m);
+    put_triples(out, at, kind::ARC_PER * (b - from), m, xs, ys, zs);
     write_zeros(out, at + kind::ARC_SIZE * m, at + ENTRIES);
     write_check(out, b);
+}
+
+// Block b, one of the nodes' run.
+fn nodes_block(
+    out: &mut [u8],
+    b: usize,
+    hours: usize,
+    nodes: usize,
+    cells: &[u16],
+    opens: &[u16],
+    closes: &[u16],
+)
+    requires { ⌜ InRun 1 (nodePer hours) nodes b (length (now out)) ⌝ }
+    requires { ⌜ (nodes ≤ length (now cells)) × (nodes ≤ length (now opens))
+        × (nodes ≤ length (now closes)) ⌝ }
+    ensures { λ _. ⌜ Filled (blockSize * b) (blockSize * (b + 1))
+        (fileByte (runBody (nodeKind hours) (nodePer hours) (nodeSize hours) nodes
+        (nodeByte hours (now (cells .entry)) (now (opens .entry)) (now (closes .entry))) 1))
+        (now (out .entry)) (now (out .exit)) ⌝ }
+{
+    if hours == 0 {
+        cells_block(out, b, nodes, cells);
+        return;
+    }
+    triples_block(out, b, kind::HOURS, 1, nodes, cells, opens, closes);
 }
 
 // Block b, one of the points' run, which starts at block `from`.
@@ -205,6 +228,8 @@ fn write_block(
     l: Layout,
     b: usize,
     cells: &[u16],
+    opens: &[u16],
+    closes: &[u16],
     tails: &[u16],
     heads: &[u16],
     counts: &[u16],
@@ -212,12 +237,13 @@ fn write_block(
     travels: &[u16],
 )
     requires { ⌜ Packable h l
-        (tables (now cells) (now tails) (now heads) (now counts) (now ticks) (now travels)) ⌝ }
+        (tables (now cells) (now opens) (now closes) (now tails) (now heads) (now counts) (now ticks)
+        (now travels)) ⌝ }
     requires { ⌜ (b < l .blocks) × (blockSize * l .blocks ≤ length (now out)) ⌝ }
     ensures { λ _. ⌜ Filled (blockSize * b) (blockSize * (b + 1))
         (fileByte (bodyBy h (networkOf h
-        (tables (now (cells .entry)) (now (tails .entry)) (now (heads .entry)) (now (counts .entry))
-        (now (ticks .entry)) (now (travels .entry)))))) (now (out .entry))
+        (tables (now (cells .entry)) (now (opens .entry)) (now (closes .entry)) (now (tails .entry))
+        (now (heads .entry)) (now (counts .entry)) (now (ticks .entry)) (now (travels .entry)))))) (now (out .entry))
         (now (out .exit)) ⌝ }
 {
     if b < 1 {
@@ -225,11 +251,11 @@ fn write_block(
         return;
     }
     if b < l.arcblock {
-        cells_block(out, b, l.nodes, cells);
+        nodes_block(out, b, l.hours, l.nodes, cells, opens, closes);
         return;
     }
     if b < l.pointblock {
-        arcs_block(out, b, l.arcblock, l.arcs, tails, heads, counts);
+        triples_block(out, b, kind::ARC, l.arcblock, l.arcs, tails, heads, counts);
         return;
     }
     points_block(out, b, l.pointblock, l.points, ticks, travels);
@@ -241,6 +267,8 @@ pub fn encode_network(
     h: Header,
     l: Layout,
     cells: &[u16],
+    opens: &[u16],
+    closes: &[u16],
     tails: &[u16],
     heads: &[u16],
     counts: &[u16],
@@ -248,14 +276,28 @@ pub fn encode_network(
     travels: &[u16],
 )
     requires { ⌜ Packable h l
-        (tables (now cells) (now tails) (now heads) (now counts) (now ticks) (now travels)) ⌝ }
+        (tables (now cells) (now opens) (now closes) (now tails) (now heads) (now counts) (now ticks)
+        (now travels)) ⌝ }
     requires { ⌜ blockSize * l .blocks ≤ length (now out) ⌝ }
     ensures { λ _. ⌜ now (out .exit) ≡ overwritten
         (encode (networkOf h
-        (tables (now (cells .entry)) (now (tails .entry)) (now (heads .entry)) (now (counts .entry))
-        (now (ticks .entry)) (now (travels .entry))))) (now (out .entry)) ⌝ }
+        (tables (now (cells .entry)) (now (opens .entry)) (now (closes .entry)) (now (tails .entry))
+        (now (heads .entry)) (now (counts .entry)) (now (ticks .entry)) (now (travels .entry))))) (now (out .entry)) ⌝ }
 {
     for b in 0..l.blocks {
-        write_block(out, h, l, b, cells, tails, heads, counts, ticks, travels);
+        write_block(
+            out,
+            h,
+            l,
+            b,
+            cells,
+            opens,
+            closes,
+            tails,
+            heads,
+            counts,
+            ticks,
+            travels,
+        );
     }
 }

@@ -1,6 +1,6 @@
 -- What the writing of a network in place leaves: frames, then each arc and each point in its order, the two
--- streams interleaved in any way (`Entered`), then the checks. It is the file of a network whose cells are
--- all 0 (`network-written`).
+-- streams interleaved in any way (`Entered`), then the checks. It is the file of a network without
+-- hours whose cells are all 0 (`network-written`).
 use mathlib.Core.Path.{_≡_, subst}
 use mathlib.Core.List.{List}
 use Prim.Native.Nat.{ℕ, _+_, _*_, _<_}
@@ -41,11 +41,11 @@ module _ {h : Header} {l : Layout} (n : Network) (C : ℕ → ℕ → ℕ) (a₀
 
 -- frames, all arcs and points, the checks
 pub network-written : {h : Header} {l : Layout} (n : Network) (old frames entered new : List ℕ)
-    → NetworkWritable h l (length old) → h ≡ headerOf n → ((v : ℕ) → cell n v ≡ 0)
+    → NetworkWritable h l (length old) → h ≡ headerOf n → n .hours ≡ 0 → ((v : ℕ) → cell n v ≡ 0)
     → Laying h none none none old frames
     → Entered l n 0 0 frames (l .arcs) (l .points) entered
     → new ≡ sealedTo (l .blocks) entered → new ≡ overwritten (encode n) old
-network-written {h} {l} n old frames entered new w e z f g k =
+network-written {h} {l} n old frames entered new w e o z f g k =
     let x : Laying h none (upTo (l .arcs) (arcsOf n)) (upTo (l .points) (pointsOf n)) old entered =
     entered-laying n none 0 0 old frames w (framed-laying h (arcsOf n) (pointsOf n) old frames f) (l .arcs)
     (l .points) entered g in
@@ -53,4 +53,4 @@ network-written {h} {l} n old frames entered new w e z f g k =
     (laid-by w .arcs) x in
     let v = subst (λ (q : ℕ). Laying h none (upTo (h .arcs) (arcsOf n)) (upTo q (pointsOf n)) old entered)
     (laid-by w .points) y in
-    laying-whole n old entered new w e z v k
+    laying-whole n old entered new w e o z v k

@@ -4,17 +4,18 @@ use Prim.Native.Nat.{ℕ, _+_, _*_, _^_, _≤_, _<_}
 use native.Mathlib.Omega.{arith}
 use lib.Dec.{lit<, lit≤}
 use Rattle.file_fields.specs.Block.{blockSize}
-use Rattle.file_blocks.specs.Kind.{cellPer, arcPer, arcSize, pointPer, pointSize}
+use Rattle.file_blocks.specs.Kind.{arcPer, arcSize, pointPer, pointSize}
 use Rattle.file_blocks.specs.Place.{offset, blocks, entry-in}
 use Rattle.file_frames.specs.Framed.{FrameRoom}
 use Rattle.network.specs.declared.header.Header.{Header}
 use Rattle.network.specs.declared.header.Layout.{Layout}
 use Rattle.network.specs.Limits.{WithinLimits}
+use Rattle.network.specs.Node.{nodePer, nodeBlocks, node-fits, node-blocks-most}
 use Rattle.network.specs.Layout.{layoutOf, allBlocks, mostBlocks, LaidBlocks, layout-blocks}
 
 -- for entries: the runs one behind the other, few blocks, and room for them
 pub record NetworkRoom (l : Layout) (room : ℕ) : Type 0 where
-  pub arcs-at : l .arcblock ≡ 1 + blocks cellPer (l .nodes)
+  pub arcs-at : l .arcblock ≡ 1 + nodeBlocks (l .hours) (l .nodes)
   pub points-at : l .pointblock ≡ l .arcblock + blocks arcPer (l .arcs)
   pub all : l .blocks ≡ l .pointblock + blocks pointPer (l .points)
   pub few : l .blocks ≤ mostBlocks
@@ -37,10 +38,10 @@ module _ {h : Header} {l : Layout} {room : ℕ} (w : NetworkWritable h l room) w
 
   pub network-room : NetworkRoom l room
   network-room = record {
-    arcs-at = omega (arith, laid-by);
+    arcs-at = rw (laid-by .hours, laid-by .nodes) (laid-by .arcblock);
     points-at = omega (arith, laid-by);
     all = omega (arith, laid-by);
-    few = omega (arith, laid-by, w .within);
+    few = omega (arith, laid-by, w .within, node-blocks-most (h .hours) (w .within .nodes-most));
     whole = w .whole;
   }
 
@@ -62,14 +63,18 @@ module _ {h : Header} {l : Layout} {long room : ℕ} (w : NetworkWritable h l lo
   header-room =
       record { pos = lit< tt; most = lit≤ tt; few = lit< tt; near = lit≤ tt; whole = omega (arith, p) }
 
-  pub cells-room : FrameRoom 1 cellPer (l .nodes) room
-  cells-room = record {
-    pos = lit< tt;
-    most = lit≤ tt;
-    few = omega (arith, p);
-    near = omega (arith, p);
-    whole = omega (arith, p);
-  }
+  pub nodes-room : (per : ℕ) → per ≡ nodePer (l .hours) → FrameRoom 1 per (l .nodes) room
+  unfolding nodeBlocks
+  nodes-room per e =
+      let f = node-fits (l .hours) in
+      let b : blocks per (l .nodes) ≡ nodeBlocks (l .hours) (l .nodes) = rw e in
+      record {
+        pos = omega (arith, f .some);
+        most = omega (arith, f .most);
+        few = omega (arith, w .within, laid-by w);
+        near = omega (arith, p);
+        whole = omega (arith, p);
+      }
 
   pub arcs-room : FrameRoom (l .arcblock) arcPer (l .arcs) room
   arcs-room = record {

@@ -1,4 +1,4 @@
-// Validation of a network file: refusals 1 to 10, in place, each fault found as the first in its order.
+// Validation of a network file: refusals 1 to 10 and 37, in place, each fault found as the first in its order.
 // Nothing is copied, and every call ends at the first refusal.
 use file_blocks::form::first_unformed;
 use file_blocks::form::is_bad_length;
@@ -7,6 +7,7 @@ use file_blocks::kind;
 use file_blocks::reader::first_bad_sum;
 use file_fields::BLOCK;
 use file_fields::HEAD;
+use file_fields::fields::le8;
 use file_fields::fields::le16;
 use file_fields::fields::le32;
 use file_refusals::Judged;
@@ -17,11 +18,18 @@ use network::header::Header;
 use network::header::Layout;
 use network::header::Made;
 use network::limits::MOST_BYTES;
+use network::node::node_kind;
+use network::node::node_per;
+use network::node::node_size;
 use network_rules::rules::judge;
 ghost use mathlib.Core.Path.{_≡_};
 ghost use Prim.Native.Nat.{_+_, _*_, _≤_};
 ghost use lib.ListN.{length};
+ghost use Rattle.theory_loops.specs.First.{first};
 ghost use Rattle.file_fields.specs.Block.{blockSize};
+ghost use Rattle.file_blocks.specs.Place.{blocks};
+ghost use Rattle.file_blocks.specs.Form.{unformed};
+ghost use Rattle.network.specs.Node.{nodeKind, nodeSize, nodePer};
 ghost use Rattle.network.specs.Limits.{WithinLimits};
 ghost use Rattle.network.specs.Decode.{headerAt, decode, Laid};
 ghost use Rattle.network.specs.Validate.{madeAt, firstUnformed, validatedRules, validatedForm};
@@ -43,6 +51,25 @@ fn header_at(file: &[u8]) -> Made
         le16(file, 16) as u32,
         le16(file, 18) as u32,
         le32(file, 20),
+        le8(file, 24) as u32,
+    )
+}
+
+// The first block of the nodes that is out of its form, or the block after them.
+fn first_bad_nodes(file: &[u8], l: Layout) -> usize
+    requires { ⌜ Laid (now file) l ⌝ }
+    ensures { λ r. ⌜ r ≡ 1 + first (blocks (nodePer (l .hours)) (l .nodes))
+        (unformed (now (file .entry)) 1 (nodeKind (l .hours)) (nodePer (l .hours)) (nodeSize (l .hours))
+        (l .nodes)) ⌝ }
+{
+    let hours = l.hours;
+    first_unformed(
+        file,
+        1,
+        node_kind(hours),
+        node_per(hours),
+        node_size(hours),
+        l.nodes,
     )
 }
 
@@ -51,14 +78,7 @@ fn first_bad_form(file: &[u8], l: Layout) -> usize
     requires { ⌜ Laid (now file) l ⌝ }
     ensures { λ r. ⌜ r ≡ firstUnformed (now (file .entry)) (headerAt (now (file .entry))) ⌝ }
 {
-    let i = first_unformed(
-        file,
-        1,
-        kind::CELL,
-        kind::CELL_PER,
-        kind::CELL_SIZE,
-        l.nodes,
-    );
+    let i = first_bad_nodes(file, l);
     if i < l.arcblock {
         return i;
     }
@@ -83,7 +103,7 @@ fn first_bad_form(file: &[u8], l: Layout) -> usize
     )
 }
 
-// Refusals 7 to 10.
+// Refusals 7 to 10 and 37.
 fn validate_rules(file: &[u8], h: Header, l: Layout) -> Opening
     requires { ⌜ Laid (now file) l ⌝ }
     ensures { λ r. ⌜ r ≡ validatedRules h (judged (decode (now (file .entry)))) ⌝ }
@@ -94,7 +114,7 @@ fn validate_rules(file: &[u8], h: Header, l: Layout) -> Opening
     }
 }
 
-// Refusals 6 to 10.
+// Refusals 6 to 10 and 37.
 fn validate_form(file: &[u8], h: Header, l: Layout) -> Opening
     requires { ⌜ Laid (now file) l ⌝ }
     requires { ⌜ h ≡ headerAt (now file) ⌝ }
@@ -107,7 +127,7 @@ fn validate_form(file: &[u8], h: Header, l: Layout) -> Opening
     validate_rules(file, h, l)
 }
 
-// Refusals 5 to 10.
+// Refusals 5 to 10 and 37.
 fn validate_length(file: &[u8], h: Header) -> Opening
     requires { ⌜ WithinLimits h ⌝ }
     requires { ⌜ h ≡ headerAt (now file) ⌝ }
@@ -120,7 +140,7 @@ fn validate_length(file: &[u8], h: Header) -> Opening
     validate_form(file, h, l)
 }
 
-// Refusals 4 to 10.
+// Refusals 4 to 10 and 37.
 fn validate_header(file: &[u8]) -> Opening
     requires { ⌜ blockSize ≤ length (now file) ⌝ }
     ensures { λ r. ⌜ r ≡ validatedHeader (now (file .entry)) (madeAt (now (file .entry))) ⌝ }
@@ -131,7 +151,7 @@ fn validate_header(file: &[u8]) -> Opening
     }
 }
 
-// Refusals 3 to 10.
+// Refusals 3 to 10 and 37.
 fn validate_first(file: &[u8]) -> Opening
     requires { ⌜ blockSize ≤ length (now file) ⌝ }
     ensures { λ r. ⌜ r ≡ validatedFirst (now (file .entry)) ⌝ }
@@ -142,7 +162,7 @@ fn validate_first(file: &[u8]) -> Opening
     refused(number::NETWORK_FIRST, 0)
 }
 
-// The header of a network file, or the lowest of the refusals 1 to 10 and its lowest place.
+// The header of a network file, or the first of the refusals 1 to 7, 37 and 8 to 10, and its lowest place.
 pub fn validate(file: &[u8]) -> Opening
     ensures { λ r. ⌜ r ≡ validated (now (file .entry)) ⌝ }
 {

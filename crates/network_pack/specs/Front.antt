@@ -15,12 +15,13 @@ use Rattle.network.specs.declared.header.Layout.{Layout}
 use Rattle.file_refusals.specs.declared.writing.Writing.{Writing}
 use Rattle.network.specs.Limits.{WithinLimits}
 use Rattle.network.specs.Layout.{allBlocks, LaidBlocks, layout-blocks}
-use Rattle.network.specs.Network.{Network}
+use Rattle.network.specs.Network.{Network, nodes}
 use Rattle.network.specs.Tables.{Tables, networkOf}
 use Rattle.network.specs.Decode.{headerAt, decode, Laid}
 use Rattle.network.specs.Rules.{judged}
+use Rattle.network_rules.specs.Hours.{withHours}
 use Rattle.network_encode.specs.Encode.{encode, Words, Proper}
-use Rattle.network_pack.specs.RoundTrip.{encode-long, header-encode, decode-encode}
+use Rattle.network_pack.specs.RoundTrip.{encode-long, header-encode, decode-held}
 use Rattle.network_encode.specs.Packable.{Packable}
 use Rattle.file_refusals.specs.Writing.{Writes}
 use Rattle.network_pack.specs.Pack.{packedRules}
@@ -40,6 +41,8 @@ copied file old new i r h l m =
 -- the entries of the tables have two bytes each
 pub record Fields (t : Tables) : Type 0 where
   pub cells-fit : Words (t .cells)
+  pub opens-fit : Words (t .opens)
+  pub closes-fit : Words (t .closes)
   pub tails-fit : Words (t .tails)
   pub heads-fit : Words (t .heads)
   pub counts-fit : Words (t .counts)
@@ -72,6 +75,10 @@ module _ {h : Header} {l : Layout} (t : Tables) (p : Packable h l t) where
     packed-proper = record {
       within = subst⁻¹ (λ (y : Header). WithinLimits y) (packed-header t p) (p .within);
       number-fits = p .number-fits;
+      opens-long = length-take-le (h .nodes) (t .opens) (rw (q .nodes) at (p .room .opens-room))
+          ∙ sym (length-take-le (h .nodes) (t .cells) (rw (q .nodes) at (p .room .cells-room)));
+      closes-long = length-take-le (h .nodes) (t .closes) (rw (q .nodes) at (p .room .closes-room))
+          ∙ sym (length-take-le (h .nodes) (t .cells) (rw (q .nodes) at (p .room .cells-room)));
       heads-long = length-take-le (h .arcs) (t .heads) (rw (q .arcs) at (p .room .heads-room))
           ∙ sym (length-take-le (h .arcs) (t .tails) (rw (q .arcs) at (p .room .tails-room)));
       counts-long = length-take-le (h .arcs) (t .counts) (rw (q .arcs) at (p .room .counts-room))
@@ -79,6 +86,8 @@ module _ {h : Header} {l : Layout} (t : Tables) (p : Packable h l t) where
       travels-long = length-take-le (h .points) (t .travels) (rw (q .points) at (p .room .travels-room))
           ∙ sym (length-take-le (h .points) (t .ticks) (rw (q .points) at (p .room .ticks-room)));
       cells-fit = take-words (h .nodes) (t .cells) (f .cells-fit);
+      opens-fit = take-words (h .nodes) (t .opens) (f .opens-fit);
+      closes-fit = take-words (h .nodes) (t .closes) (f .closes-fit);
       tails-fit = take-words (h .arcs) (t .tails) (f .tails-fit);
       heads-fit = take-words (h .arcs) (t .heads) (f .heads-fit);
       counts-fit = take-words (h .arcs) (t .counts) (f .counts-fit);
@@ -92,6 +101,28 @@ module _ {h : Header} {l : Layout} (t : Tables) (p : Packable h l t) where
     packed-laid : Laid (encode (networkOf h t)) l
     packed-laid = laid-by (sym packed-read) (p .is) (p .within) (packed-long ∙ rw (q .all))
 
+    -- with the hours in the tables, which the file may not hold, it is that network
+    again : withHours (t .opens) (t .closes) (decode (encode n)) ≡ networkOf h t
+    again =
+        ap (withHours (t .opens) (t .closes)) (decode-held packed-proper)
+        ∙ (λ i. record {
+          number = n .number;
+          period = n .period;
+          cells = n .cells;
+          hours = n .hours;
+          cellOf = n .cellOf;
+          opens = take (nodes-are i) (t .opens);
+          closes = take (nodes-are i) (t .closes);
+          tails = n .tails;
+          heads = n .heads;
+          counts = n .counts;
+          ticks = n .ticks;
+          travels = n .travels;
+        })
+      where
+        nodes-are : nodes n ≡ h .nodes
+        nodes-are = length-take-le (h .nodes) (t .cells) (rw (q .nodes) at (p .room .cells-room))
+
   -- FOR THE CODE, which has written the file into the first bytes of a longer list
   module _ (old new : List ℕ) (e : new ≡ overwritten (encode (networkOf h t)) old) where
     pub front-is : take (blockSize * l .blocks) new ≡ encode (networkOf h t)
@@ -101,15 +132,16 @@ module _ {h : Header} {l : Layout} (t : Tables) (p : Packable h l t) where
     front-laid f = subst⁻¹ (λ (s : List ℕ). Laid s l) front-is (packed-laid f)
 
     pub front-packs : Fields t → (lent after : List ℕ) (r : Writing)
-        → Writes (packedRules (judged (decode (take (blockSize * l .blocks) new)))
+        → Writes (packedRules
+        (judged (withHours (t .opens) (t .closes) (decode (take (blockSize * l .blocks) new))))
         (length (take (blockSize * l .blocks) new)) (length lent)) (take (blockSize * l .blocks) new) lent
         after r
         → Writes (packedRules (judged (networkOf h t)) (length (encode (networkOf h t))) (length lent))
         (encode (networkOf h t)) lent after r
     front-packs f lent after r g =
-        let a : Writes (packedRules (judged (decode (encode n))) (length (encode n)) (length lent)) (encode n)
-        lent after r =
-        subst (λ (s : List ℕ). Writes (packedRules (judged (decode s)) (length s) (length lent)) s lent after
-        r) front-is g in
+        let a : Writes (packedRules (judged (withHours (t .opens) (t .closes) (decode (encode n))))
+        (length (encode n)) (length lent)) (encode n) lent after r =
+        subst (λ (s : List ℕ). Writes (packedRules (judged (withHours (t .opens) (t .closes) (decode s)))
+        (length s) (length lent)) s lent after r) front-is g in
         subst (λ (m : Network). Writes (packedRules (judged m) (length (encode n)) (length lent)) (encode n)
-        lent after r) (decode-encode (packed-proper f)) a
+        lent after r) (again f) a

@@ -16,20 +16,22 @@ use Rattle.file_blocks.specs.Run.{runBody, RunLaid}
 use Rattle.file_blocks.specs.RunLaws.{laid-run, file-run}
 use Rattle.network.specs.declared.header.Header.{Header}
 use Rattle.network.specs.Layout.{arcBlock, pointBlock, allBlocks}
-use Rattle.network.specs.Network.{Network, nodes, arcs, points}
-use Rattle.network_encode.specs.Encode.{headerByte, cellByte, arcByte, pointByte, bodyBy, encodeBy}
-use Rattle.network_encode.specs.Encode.{header-body, cells-body, arcs-body, points-body}
+use Rattle.network.specs.Network.{Network}
+use Rattle.network.specs.Node.{nodeKind, nodeSize, nodePer, nodeBlocks, NodeFits, node-fits}
+use Rattle.network_encode.specs.Encode.{headerByte, nodeByte, tripleByte, pointByte, bodyBy, encodeBy}
+use Rattle.network_encode.specs.Encode.{header-body, nodes-body, arcs-body, points-body}
 use Rattle.file_fields.specs.Block.{blockSize, summedSize, entriesSize}
-use Rattle.file_blocks.specs.Kind.{networkKind, networkSize, cellKind, cellSize, cellPer, arcKind, arcSize}
-use Rattle.file_blocks.specs.Kind.{arcPer, pointKind, pointSize, pointPer}
+use Rattle.file_blocks.specs.Kind.{networkKind, networkSize, arcKind, arcSize, arcPer, pointKind, pointSize}
+use Rattle.file_blocks.specs.Kind.{pointPer}
 
 pub record Holds (file : List ℕ) (h : Header) (n : Network) : Type 0 where
   pub header : RunLaid file 0 networkKind 1 networkSize 1 (λ _. headerByte h) 0
-  pub cells : (j : ℕ) → j < blocks cellPer (h .nodes)
-      → RunLaid file 1 cellKind cellPer cellSize (h .nodes) (cellByte (n .cellOf)) j
+  pub nodes : (j : ℕ) → j < blocks (nodePer (h .hours)) (h .nodes)
+      → RunLaid file 1 (nodeKind (h .hours)) (nodePer (h .hours)) (nodeSize (h .hours)) (h .nodes)
+      (nodeByte (h .hours) (n .cellOf) (n .opens) (n .closes)) j
   pub arcs : (j : ℕ) → j < blocks arcPer (h .arcs)
-      → RunLaid file (arcBlock h) arcKind arcPer arcSize (h .arcs) (arcByte (n .tails) (n .heads) (n .counts))
-      j
+      → RunLaid file (arcBlock h) arcKind arcPer arcSize (h .arcs)
+      (tripleByte (n .tails) (n .heads) (n .counts)) j
   pub points : (j : ℕ) → j < blocks pointPer (h .points)
       → RunLaid file (pointBlock h) pointKind pointPer pointSize (h .points)
       (pointByte (n .ticks) (n .travels)) j
@@ -42,12 +44,28 @@ module _ (h : Header) (n : Network) where
       → RunLaid (encodeBy h n) from kind per size m f j
   run-in = file-run (bodyBy h n) (allBlocks h)
 
+  abbrev fits : NodeFits (h .hours)
+  fits = node-fits (h .hours)
+
+  node-some : 0 < nodeSize (h .hours)
+  node-some = omega (arith, fits .holds)
+
+  -- the block of a node stands before those of the arcs
+  before-arcs : (j : ℕ) → j < blocks (nodePer (h .hours)) (h .nodes) → 1 + j < arcBlock h
+  unfolding nodeBlocks
+  before-arcs j l = omega arith
+
+  after-header : (b : ℕ) → 1 ≤ b → b < arcBlock h → b - 1 < blocks (nodePer (h .hours)) (h .nodes)
+  unfolding nodeBlocks
+  after-header b l m = omega arith
+
   pub encode-holds : Holds (encodeBy h n) h n
   encode-holds = record {
     header = run-in 0 networkKind 1 networkSize 1 (λ _. headerByte h) (lit< tt) (lit< tt) (lit≤ tt) 0
         (omega arith) (header-body h n 0 (lit< tt));
-    cells = λ j l. run-in 1 cellKind cellPer cellSize (h .nodes) _ (lit< tt) (lit< tt) (lit≤ tt) j
-        (omega arith) (cells-body h n (1 + j) (omega arith) (omega arith));
+    nodes = λ j l. run-in 1 (nodeKind (h .hours)) (nodePer (h .hours)) (nodeSize (h .hours)) (h .nodes) _
+        (fits .some) node-some (fits .fit) j (omega (arith, before-arcs j l))
+        (nodes-body h n (1 + j) (omega arith) (before-arcs j l));
     arcs = λ j l. run-in (arcBlock h) arcKind arcPer arcSize (h .arcs) _ (lit< tt) (lit< tt) (lit≤ tt) j
         (omega arith) (arcs-body h n (arcBlock h + j) (omega arith) (omega arith));
     points = λ j l. run-in (pointBlock h) pointKind pointPer pointSize (h .points) _ (lit< tt) (lit< tt)
@@ -74,8 +92,9 @@ module _ (h : Header) (n : Network) where
           (subst (λ (j : ℕ). RunLaid file 0 networkKind 1 networkSize 1 (λ _. headerByte h) j) z
           (d .header)) o m
       | no p ↦ elim (decLt b (arcBlock h)) [
-        | yes q ↦ run-out 1 cellKind cellPer cellSize (h .nodes) _ (lit< tt) (lit< tt) (lit≤ tt) b
-            (omega arith) (cells-body h n b (omega arith) q) (d .cells (b - 1) (omega arith)) o m
+        | yes q ↦ run-out 1 (nodeKind (h .hours)) (nodePer (h .hours)) (nodeSize (h .hours)) (h .nodes) _
+            (fits .some) node-some (fits .fit) b (omega arith) (nodes-body h n b (omega arith) q)
+            (d .nodes (b - 1) (after-header b (omega arith) q)) o m
         | no q ↦ elim (decLt b (pointBlock h)) [
           | yes r ↦ run-out (arcBlock h) arcKind arcPer arcSize (h .arcs) _ (lit< tt) (lit< tt) (lit≤ tt) b
               (omega arith) (arcs-body h n b (omega arith) r) (d .arcs (b - arcBlock h) (omega arith)) o m

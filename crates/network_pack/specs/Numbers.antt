@@ -1,4 +1,4 @@
--- Which numbers Pack's refusals have: 4, 7 to 10, 30 or 31 (`pack-numbers`).
+-- Which numbers Pack's refusals have: 4, 7 to 10, 37, 30 or 31 (`pack-numbers`).
 use mathlib.Core.Path.{_≡_, refl, ap}
 use mathlib.Core.Logic.{_⊎_, inl, inr}
 use Prim.Native.Nat.{ℕ, _≤_}
@@ -14,7 +14,7 @@ use Rattle.file_refusals.specs.declared.Judged.the-variants.{Sound, Faulty}
 use Rattle.network.specs.declared.header.Header.{Header}
 use Rattle.network.specs.declared.header.Made.{Made}
 use Rattle.network.specs.declared.header.Made.the-variants.{Inside, Outside}
-use Rattle.network.specs.Numbers.{judged-numbers}
+use Rattle.network.specs.Numbers.{RuleNumber, judged-numbers}
 use Rattle.network.specs.Tables.{Tables, networkOf}
 use Rattle.network.specs.Rules.{judged}
 use Rattle.network_open.specs.Open.{tooShort}
@@ -24,9 +24,9 @@ use Rattle.file_refusals.specs.declared.writing.Writing.the-variants.{Written, 
 use Rattle.file_refusals.specs.Writing.{writtenInto}
 use Rattle.network_pack.specs.Pack.{packedRules, packedTables, packedMade, madeOf, packing}
 
--- document 01's numbers for Pack
+-- the papers' numbers for Pack
 abbrev pub PackNumber : ℕ → Type 0
-PackNumber n = (n ≡ 4) ⊎ (((7 ≤ n) × (n ≤ 10)) ⊎ ((n ≡ 30) ⊎ (n ≡ 31)))
+PackNumber n = (n ≡ 4) ⊎ (RuleNumber n ⊎ ((n ≡ 30) ⊎ (n ≡ 31)))
 
 -- an answer that, where it is refused, has such a number
 abbrev Fine : Writing → Type 0
@@ -38,7 +38,7 @@ same-refused q r e = let z : q ≡ r = cc in ap (λ (y : Refusal). y .number) z
 fine : (number : ℕ) → PackNumber number → Fine (Refused (refusal number 0))
 fine number n r e = rw (← same-refused (refusal number 0) r e) n
 
-rules-fine : (j : Judged) → Numbered Faulty 7 10 j → (long room : ℕ) → Fine (packedRules j long room)
+rules-fine : (j : Judged) → Numbered Faulty RuleNumber j → (long room : ℕ) → Fine (packedRules j long room)
 unfolding writtenInto
 rules-fine Sound n long room = cond-holds Fine (ltb room long) _ _ (fine 31 (inr (inr (inr refl)))) packed
   where

@@ -30,14 +30,21 @@ use Rattle.file_refusals.specs.declared.writing.Writing.the-variants.{Refused}
 use Rattle.file_refusals.specs.Writing.{unwritten, writtenInto, bytesAfter, Writes, writes-refused}
 
 -- the header of these numbers, within the limits or not, and what they make
-abbrev pub numbers : ℕ → ℕ → ℕ → ℕ → ℕ → ℕ → Header
-numbers number period nodes arcs cells points =
-    record { number = number; period = period; nodes = nodes; arcs = arcs; cells = cells; points = points }
+abbrev pub numbers : ℕ → ℕ → ℕ → ℕ → ℕ → ℕ → ℕ → Header
+numbers number period nodes arcs cells points hours = record {
+  number = number;
+  period = period;
+  nodes = nodes;
+  arcs = arcs;
+  cells = cells;
+  points = points;
+  hours = hours;
+}
 
 abbrev pub madeOf : Header → Made
-madeOf h = made (h .number) (h .period) (h .nodes) (h .arcs) (h .cells) (h .points)
+madeOf h = made (h .number) (h .period) (h .nodes) (h .arcs) (h .cells) (h .points) (h .hours)
 
--- 7 to 10
+-- 7, 37, 8 to 10
 abbrev pub packedRules : Judged → ℕ → ℕ → Writing
 packedRules Sound long room = writtenInto long room
 packedRules (Faulty r) long room = Refused r
@@ -71,7 +78,7 @@ abbrev pub PackCall : Header → Tables → List ℕ → List ℕ → Writing �
 PackCall h t before after r =
     Writes (packing h t (length before)) (encode (networkOf h t)) before after r
 
--- FOR THE CODE: 7 to 10
+-- FOR THE CODE: 7, 37, 8 to 10
 module _ (file before after : List ℕ) (long room : ℕ) (j k : Judged) (e : j ≡ k) where
   pub rules-sound : (r : Writing) → j ≡ Sound → Writes (writtenInto long room) file before after r
       → Writes (packedRules k long room) file before after r
@@ -101,10 +108,10 @@ now-packable h l t y w f i e g =
     record { within = w; number-fits = f; is = i; room = open-room h l t y e g i }
 
 -- numbers that make a header make theirs
-module _ (number period nodes arcs cells points : ℕ) (m : Made)
-    (e : m ≡ made number period nodes arcs cells points) (h : Header) (f : m ≡ Inside h) where
-  inside : WithinLimits h × (h ≡ numbers number period nodes arcs cells points)
-  inside = made-within number period nodes arcs cells points h (sym e ∙ f)
+module _ (number period nodes arcs cells points hours : ℕ) (m : Made)
+    (e : m ≡ made number period nodes arcs cells points hours) (h : Header) (f : m ≡ Inside h) where
+  inside : WithinLimits h × (h ≡ numbers number period nodes arcs cells points hours)
+  inside = made-within number period nodes arcs cells points hours h (sym e ∙ f)
 
   pub inside-within : WithinLimits h
   inside-within = inside .0
@@ -120,8 +127,8 @@ module _ (g : Header) (t : Tables) (before : List ℕ) (m : Made) (e : m ≡ mad
   pub numbers-inside : (h : Header) → m ≡ Inside h → (after : List ℕ) (r : Writing)
       → PacksTables h t before after r → PackCall g t before after r
   numbers-inside h f after r p =
-      let q : h ≡ g = made-within (g .number) (g .period) (g .nodes) (g .arcs) (g .cells) (g .points) h
-      (sym e ∙ f) .1 in
+      let q : h ≡ g = made-within (g .number) (g .period) (g .nodes) (g .arcs) (g .cells) (g .points)
+      (g .hours) h (sym e ∙ f) .1 in
       record {
         answer = rw (← e, f) (p .answer);
         written = subst (λ (y : Header). after ≡ bytesAfter r (encode (networkOf y t)) before) q (p .written);

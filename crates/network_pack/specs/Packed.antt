@@ -79,20 +79,22 @@ module _ (t : Tables) (f : Fields t) (room : ℕ) (y : Length) where
       e₂ in
       let p : Packable h (layoutOf h) t = now-packable h (layoutOf h) t _ w b refl refl s in
       let a : Proper m = packed-proper t p f in
-      let u : ValidFile (encode m) (headerOf m) = encode-valid a (sound-exactly m .0 j) in
+      let z = sound-exactly m .0 j in
+      let u : ValidFile (encode m) (headerOf m) = encode-valid a z in
       let v : ValidFile (encode m) h = subst (λ (i : Header). ValidFile (encode m) i) (packed-header t p) u in
       let o : validated (encode m) ≡ Opened h = valid-exactly (encode m) h .1 v in
       record {
-        long = sym (ap (λ (z : Length). z .bytes) (one-length (record { bytes = length (encode m) }) y e₃));
+        long = sym (ap (λ (x : Length). x .bytes) (one-length (record { bytes = length (encode m) }) y e₃));
         opens = λ _ g. rw (o, g);
-        tables = decode-encode a;
+        tables = decode-encode a z;
       }
 
   pub packed-opens : (h : Header) → h .number < 2 ^ 32 → packing h t room ≡ Written y
       → Reopens h (networkOf h t) (encode (networkOf h t)) y
   packed-opens h b e =
       let (g, i, k) = made-passed (madeOf h) t room y e in
-      let (w, q) = made-within (h .number) (h .period) (h .nodes) (h .arcs) (h .cells) (h .points) g i in
+      let (w, q) = made-within (h .number) (h .period) (h .nodes) (h .arcs) (h .cells) (h .points)
+      (h .hours) g i in
       tables-reopen h (subst (λ (o : Header). WithinLimits o) q w) b
       (subst (λ (o : Header). packedTables o t room ≡ Written y) q k)
 
@@ -127,7 +129,10 @@ module _ (file : List ℕ) (s : Bytes file) (t : Tables) where
     number = h .number;
     period = h .period;
     cells = h .cells;
+    hours = h .hours;
     cellOf = front (h .nodes) (decode file .cellOf) (t .cells) (length-tab _ _) i;
+    opens = front (h .nodes) (decode file .opens) (t .opens) (length-tab _ _) i;
+    closes = front (h .nodes) (decode file .closes) (t .closes) (length-tab _ _) i;
     tails = front (h .arcs) (decode file .tails) (t .tails) (length-tab _ _) i;
     heads = front (h .arcs) (decode file .heads) (t .heads) (length-tab _ _) i;
     counts = front (h .arcs) (decode file .counts) (t .counts) (length-tab _ _) i;
@@ -139,6 +144,8 @@ module _ (file : List ℕ) (s : Bytes file) (t : Tables) where
   unfolding tooShortBy decode
   not-short = rw (
     le-ltb _ _ (roomy (h .nodes) (decode file .cellOf) (t .cells) (length-tab _ _)),
+    le-ltb _ _ (roomy (h .nodes) (decode file .opens) (t .opens) (length-tab _ _)),
+    le-ltb _ _ (roomy (h .nodes) (decode file .closes) (t .closes) (length-tab _ _)),
     le-ltb _ _ (roomy (h .arcs) (decode file .tails) (t .tails) (length-tab _ _)),
     le-ltb _ _ (roomy (h .arcs) (decode file .heads) (t .heads) (length-tab _ _)),
     le-ltb _ _ (roomy (h .arcs) (decode file .counts) (t .counts) (length-tab _ _)),
@@ -155,7 +162,7 @@ module _ (file : List ℕ) (s : Bytes file) (t : Tables) where
       subst⁻¹ (λ (i : Header). Repacks file i left room) (u .is)
       (record {
         answers = rw (
-          within-made _ _ _ _ _ _ (v .within),
+          within-made _ _ _ _ _ _ _ (v .within),
           not-short,
           again,
           sound-exactly (decode file) .1 (v .sound),

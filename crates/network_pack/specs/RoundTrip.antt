@@ -4,7 +4,7 @@
 use mathlib.Core.Path.{_≡_, sym, _∙_, ap, subst}
 use mathlib.Core.Logic.{_↔_}
 use mathlib.Core.List.{List}
-use Prim.Native.Nat.{ℕ, _+_, _*_}
+use Prim.Native.Nat.{ℕ, zero, suc, _+_, _*_, _<_}
 use native.Mathlib.Omega.{arith}
 use native.Mathlib.Decide.{decLt}
 use lib.ListN.{length, List·getD-eq-default}
@@ -17,16 +17,17 @@ use Rattle.network.specs.declared.answer.Opening.the-variants.{Opened}
 use Rattle.network.specs.declared.header.Header.{Header}
 use Rattle.network.specs.Layout.{arcBlock, pointBlock, allBlocks}
 use Rattle.network.specs.Network.{Network}
-use Rattle.network.specs.Decode.{headerAt, decodeBy, decode}
+use Rattle.network.specs.Node.{nodeSize, nodePer}
+use Rattle.network.specs.Decode.{headerAt, opensIn, closesIn, decodeBy, decode}
 use Rattle.network.specs.Sound.{SoundNetwork}
 use Rattle.network.specs.Validate.{validated}
 use Rattle.network.specs.Valid.{ValidFile, valid-exactly}
-use Rattle.network_encode.specs.Encode.{headerOf, bodyBy, encodeBy, encode, Words, Proper}
+use Rattle.network_encode.specs.Encode.{headerOf, bodyBy, encodeBy, encode, Words, Proper, held, held-same}
 use Rattle.network_pack.specs.Holds.{encode-holds, holds-encode}
-use Rattle.network_pack.specs.HoldsRead.{header-formed, cells-formed, arcs-formed, points-formed}
+use Rattle.network_pack.specs.HoldsRead.{header-formed, nodes-formed, arcs-formed, points-formed}
 use Rattle.network_pack.specs.HoldsRead.{header-read, tables-read, formed-holds}
 use Rattle.file_fields.specs.Block.{blockSize}
-use Rattle.file_blocks.specs.Kind.{cellSize, cellPer, arcSize, arcPer, pointSize, pointPer}
+use Rattle.file_blocks.specs.Kind.{hoursSize, hoursPer, arcSize, arcPer, pointSize, pointPer}
 
 -- THE FILE OF A NETWORK
 pub encode-long : (n : Network) → length (encode n) ≡ blockSize * allBlocks (headerOf n)
@@ -38,10 +39,14 @@ module _ {n : Network} (p : Proper n) where
   unfolding encode
   header-encode = header-read (p .within) (encode-holds (headerOf n) n) (p .number-fits)
 
-  pub decode-encode : decode (encode n) ≡ n
+  -- whatever the hours are, and where they are sound
+  pub decode-held : decode (encode n) ≡ held n
   unfolding decode encode
-  decode-encode = ap (λ (h : Header). decodeBy h (encode n)) header-encode
+  decode-held = ap (λ (h : Header). decodeBy h (encode n)) header-encode
       ∙ tables-read p (encode-holds (headerOf n) n)
+
+  pub decode-encode : SoundNetwork n → decode (encode n) ≡ n
+  decode-encode s = decode-held ∙ held-same p (s .hours)
 
   pub encode-valid : SoundNetwork n → ValidFile (encode n) (headerOf n)
   unfolding encode
@@ -53,10 +58,10 @@ module _ {n : Network} (p : Proper n) where
         long = encode-long n;
         sums = file-good (bodyBy (headerOf n) n) (allBlocks (headerOf n));
         first-formed = header-formed (p .within) d;
-        nodes-formed = cells-formed (p .within) d;
+        nodes-formed = nodes-formed (p .within) d;
         arcs-formed = arcs-formed (p .within) d;
         points-formed = points-formed (p .within) d;
-        sound = rw decode-encode s;
+        sound = rw (decode-encode s) s;
       }
 
 -- THE NETWORK OF A FILE
@@ -65,11 +70,13 @@ unfolding decode
 decoded-header file = λ i. record {
   number = headerAt file .number;
   period = headerAt file .period;
-  nodes = length-tab (headerAt file .nodes) (entry16 file 1 cellPer cellSize 0) i;
+  nodes = length-tab (headerAt file .nodes)
+      (entry16 file 1 (nodePer (headerAt file .hours)) (nodeSize (headerAt file .hours)) 0) i;
   arcs = length-tab (headerAt file .arcs) (entry16 file (arcBlock (headerAt file)) arcPer arcSize 0) i;
   cells = headerAt file .cells;
   points = length-tab (headerAt file .points) (entry16 file (pointBlock (headerAt file)) pointPer pointSize 0)
       i;
+  hours = headerAt file .hours;
 }
 
 tab-words : (file : List ℕ) → Bytes file → (m from per size at : ℕ)
@@ -101,15 +108,37 @@ module _ {file : List ℕ} {h : Header} (s : Bytes file) (v : ValidFile file h) 
       (there .long)
       (there .sums))
 
+  -- hours fit their fields, or are 0 and the period
+  even : (m v : ℕ) → v < 65536 → Words (tab m (λ _. v))
+  even m v l = record {
+    word = λ k. elim (decLt k m) [
+      | yes h ↦ rw (getD-tab m (λ _. v) k h) l
+      | no h ↦ rw (List·getD-eq-default (tab m (λ _. v)) 0 {n = k} (omega (arith, length-tab m (λ _. v))))
+          (omega arith)
+    ];
+  }
+
+  opens-words : (m hours : ℕ) → Words (tab m (opensIn hours file))
+  opens-words m zero = even m 0 (omega arith)
+  opens-words m (suc hours) = tab-words file s m 1 hoursPer hoursSize 2
+
+  closes-words : (m hours : ℕ) → Words (tab m (closesIn hours (headerAt file .period) file))
+  closes-words m zero = even m (headerAt file .period) (omega (arith, there .within))
+  closes-words m (suc hours) = tab-words file s m 1 hoursPer hoursSize 4
+
   pub decoded-proper : Proper (decode file)
   unfolding decode
   decoded-proper = record {
     within = rw (decoded-header file) (there .within);
     number-fits = omega (arith, s .byte 8, s .byte 9, s .byte 10, s .byte 11);
+    opens-long = length-tab _ _ ∙ sym (length-tab _ _);
+    closes-long = length-tab _ _ ∙ sym (length-tab _ _);
     heads-long = length-tab _ _ ∙ sym (length-tab _ _);
     counts-long = length-tab _ _ ∙ sym (length-tab _ _);
     travels-long = length-tab _ _ ∙ sym (length-tab _ _);
     cells-fit = tab-words file s _ _ _ _ _;
+    opens-fit = opens-words (headerAt file .nodes) (headerAt file .hours);
+    closes-fit = closes-words (headerAt file .nodes) (headerAt file .hours);
     tails-fit = tab-words file s _ _ _ _ _;
     heads-fit = tab-words file s _ _ _ _ _;
     counts-fit = tab-words file s _ _ _ _ _;

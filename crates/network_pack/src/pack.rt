@@ -1,6 +1,6 @@
 // Pack: the file of a network whose tables are lent, written into lent bytes once nothing is refused. The
-// file is made in bytes of its own first, so that the rules 7 to 10 are judged by the code that judges them
-// for Open, on the bytes that are then copied.
+// file is made in bytes of its own first, so that the rules are judged by the code that judges them for Open,
+// on the bytes that are then copied; hours are judged where they stand, since a file may not hold them.
 use file_fields::BLOCK;
 use file_refusals::Judged;
 use file_refusals::number;
@@ -13,7 +13,7 @@ use network::header::Made;
 use network::limits::MOST_BYTES;
 use network_encode::encode::encode_network;
 use network_open::open::is_short;
-use network_rules::rules::judge;
+use network_rules::rules::judge_with;
 ghost use mathlib.Core.Path.{_≡_};
 ghost use Prim.Native.Nat.{_*_, _^_, _≤_, _<_};
 ghost use lib.ListN.{length};
@@ -22,6 +22,7 @@ ghost use Rattle.network.specs.Limits.{WithinLimits};
 ghost use Rattle.network.specs.Tables.{tables, networkOf};
 ghost use Rattle.network.specs.Decode.{decode, Laid};
 ghost use Rattle.network.specs.Rules.{judged};
+ghost use Rattle.network_rules.specs.Hours.{withHours};
 ghost use Rattle.theory_loops.specs.Fill.{overwritten};
 ghost use Rattle.network_encode.specs.Packable.{Packable};
 ghost use Rattle.file_refusals.specs.Writing.{writtenInto, Writes};
@@ -52,14 +53,15 @@ fn write_out(file: &[u8], out: &mut [u8]) -> Writing
     Writing::Written(Length { bytes: long as u32 })
 }
 
-// Refusals 7 to 10 and 31, or the file copied.
-fn pack_file(file: &[u8], l: Layout, out: &mut [u8]) -> Writing
+// Refusals 7 to 10, 37 and 31, or the file copied.
+fn pack_file(file: &[u8], l: Layout, opens: &[u16], closes: &[u16], out: &mut [u8]) -> Writing
     requires { ⌜ Laid (now file) l ⌝ }
-    ensures { λ r. ⌜ Writes (packedRules (judged (decode (now (file .entry)))) (length (now (file .entry)))
-        (length (now (out .entry))))
+    requires { ⌜ (l .nodes ≤ length (now opens)) × (l .nodes ≤ length (now closes)) ⌝ }
+    ensures { λ r. ⌜ Writes (packedRules (judged (withHours (now (opens .entry)) (now (closes .entry))
+        (decode (now (file .entry))))) (length (now (file .entry))) (length (now (out .entry))))
         (now (file .entry)) (now (out .entry)) (now (out .exit)) r ⌝ }
 {
-    match judge(file, l) {
+    match judge_with(file, l, opens, closes) {
         Judged::Sound => write_out(file, out),
         Judged::Faulty(r) => Writing::Refused(r),
     }
@@ -70,6 +72,8 @@ fn pack_tables(
     h: Header,
     l: Layout,
     cellof: &[u16],
+    opens: &[u16],
+    closes: &[u16],
     tails: &[u16],
     heads: &[u16],
     counts: &[u16],
@@ -79,22 +83,37 @@ fn pack_tables(
     out: &mut [u8],
 ) -> Writing
     requires { ⌜ Packable h l
-        (tables (now cellof) (now tails) (now heads) (now counts) (now ticks) (now travels)) ⌝ }
+        (tables (now cellof) (now opens) (now closes) (now tails) (now heads) (now counts) (now ticks)
+        (now travels)) ⌝ }
     requires { ⌜ blockSize * l .blocks ≤ length (now scratch) ⌝ }
     ensures { λ r. ⌜ PacksNetwork (networkOf h
-        (tables (now (cellof .entry)) (now (tails .entry)) (now (heads .entry)) (now (counts .entry))
-        (now (ticks .entry)) (now (travels .entry))))
+        (tables (now (cellof .entry)) (now (opens .entry)) (now (closes .entry)) (now (tails .entry))
+        (now (heads .entry)) (now (counts .entry)) (now (ticks .entry)) (now (travels .entry))))
         (now (out .entry)) (now (out .exit)) r ⌝ }
 {
-    encode_network(scratch, h, l, cellof, tails, heads, counts, ticks, travels);
+    encode_network(
+        scratch,
+        h,
+        l,
+        cellof,
+        opens,
+        closes,
+        tails,
+        heads,
+        counts,
+        ticks,
+        travels,
+    );
     let long = BLOCK * l.blocks;
-    pack_file(&scratch[..long], l, out)
+    pack_file(&scratch[..long], l, opens, closes, out)
 }
 
-// Refusals 7 to 10, 30 and 31 of numbers within the limits, or the file written.
+// Refusals 7 to 10, 37, 30 and 31 of numbers within the limits, or the file written.
 fn pack_within(
     h: Header,
     cellof: &[u16],
+    opens: &[u16],
+    closes: &[u16],
     tails: &[u16],
     heads: &[u16],
     counts: &[u16],
@@ -105,13 +124,15 @@ fn pack_within(
 ) -> Writing
     requires { ⌜ WithinLimits h × (h .number < 2 ^ 32) ⌝ }
     ensures { λ r. ⌜ PacksTables h
-        (tables (now (cellof .entry)) (now (tails .entry)) (now (heads .entry)) (now (counts .entry))
-        (now (ticks .entry)) (now (travels .entry)))
+        (tables (now (cellof .entry)) (now (opens .entry)) (now (closes .entry)) (now (tails .entry))
+        (now (heads .entry)) (now (counts .entry)) (now (ticks .entry)) (now (travels .entry)))
         (now (out .entry)) (now (out .exit)) r ⌝ }
 {
     if is_short(
         h,
         cellof.len(),
+        opens.len(),
+        closes.len(),
         tails.len(),
         heads.len(),
         counts.len(),
@@ -124,6 +145,8 @@ fn pack_within(
         h,
         h.layout(),
         cellof,
+        opens,
+        closes,
         tails,
         heads,
         counts,
@@ -143,7 +166,10 @@ pub fn pack_network(
     arcs: u32,
     cells: u32,
     points: u32,
+    hours: u32,
     cellof: &[u16],
+    opens: &[u16],
+    closes: &[u16],
     tails: &[u16],
     heads: &[u16],
     counts: &[u16],
@@ -151,17 +177,19 @@ pub fn pack_network(
     travels: &[u16],
     out: &mut [u8],
 ) -> Writing
-    ensures { λ r. ⌜ PackCall (numbers number period nodes arcs cells points)
-        (tables (now (cellof .entry)) (now (tails .entry)) (now (heads .entry)) (now (counts .entry))
-        (now (ticks .entry)) (now (travels .entry)))
+    ensures { λ r. ⌜ PackCall (numbers number period nodes arcs cells points hours)
+        (tables (now (cellof .entry)) (now (opens .entry)) (now (closes .entry)) (now (tails .entry))
+        (now (heads .entry)) (now (counts .entry)) (now (ticks .entry)) (now (travels .entry)))
         (now (out .entry)) (now (out .exit)) r ⌝ }
 {
-    match Header::new(number, period, nodes, arcs, cells, points) {
+    match Header::new(number, period, nodes, arcs, cells, points, hours) {
         Made::Inside(h) => {
             let mut scratch = [0u8; MOST_BYTES];
             pack_within(
                 h,
                 cellof,
+                opens,
+                closes,
                 tails,
                 heads,
                 counts,

@@ -1,6 +1,7 @@
--- The ladder of the rules 7 to 10 as code climbs it on a file in place: each rung is taken, or passed.
+-- The ladder of the rules 7, 37, 8, 9 and 10 as code climbs it on a file in place: each rung is taken, or passed.
 use mathlib.Core.Path.{_≡_, sym, _∙_}
 use mathlib.Core.List.{List}
+use lib.ListN.{take}
 use Prim.Native.Nat.{ℕ, _≤_, _<_}
 use native.Mathlib.Omega.{arith}
 use borrow.Author.Tests.{lt-ltb, le-ltb, eq-eqb, ne-eqb}
@@ -13,7 +14,9 @@ use Rattle.network_rules.specs.declared.rules.Scan.{Scan}
 use Rattle.network.specs.Network.{Network, nodes, arcs, points, start}
 use Rattle.network.specs.Decode.{decode, Laid, laid-sizes}
 use Rattle.file_refusals.specs.Refusal.{faulty}
-use Rattle.network.specs.Rules.{badCell, badArc, judgedPoints, judgedSum, judgedArcs, judged}
+use Rattle.network.specs.Rules.{badCell, badHoursOf, badArc, firstPoint, judgedPoints, judgedSum, judgedArcs}
+use Rattle.network.specs.Rules.{judgedHours, judged}
+use Rattle.network_rules.specs.Hours.{badHoursIn, withHours}
 use Rattle.network.specs.FirstPoint.{Counted}
 use Rattle.network_rules.specs.ScanAll.{ScannedAll}
 use Rattle.network.specs.Sound.{arc-sound}
@@ -30,11 +33,25 @@ module _ {file : List ℕ} {l : Layout} (s : Laid file l) where
         let q = laid-sizes s .nodes in
         at-first r _ (faulty 7) (nodes n) v (badCell n) (rw q at e) (rw q at h) f
 
-    pub cells-passed : l .nodes ≤ v → r ≡ judgedArcs (decode file) → r ≡ judged (decode file)
+    pub cells-passed : l .nodes ≤ v → r ≡ judgedHours (decode file) → r ≡ judged (decode file)
     unfolding judged
     cells-passed h f =
         let q = laid-sizes s .nodes in
         past-first r _ (faulty 7) (nodes n) v (badCell n) (rw q at e) (rw q at h) f
+
+  -- 37
+  module _ (v : ℕ) (r : Judged) (e : v ≡ first (l .nodes) (badHoursOf (decode file))) where
+    pub hours-taken : v < l .nodes → r ≡ faulty 37 v → r ≡ judgedHours (decode file)
+    unfolding judgedHours
+    hours-taken h f =
+        let q = laid-sizes s .nodes in
+        at-first r _ (faulty 37) (nodes n) v (badHoursOf n) (rw q at e) (rw q at h) f
+
+    pub hours-passed : l .nodes ≤ v → r ≡ judgedArcs (decode file) → r ≡ judgedHours (decode file)
+    unfolding judgedHours
+    hours-passed h f =
+        let q = laid-sizes s .nodes in
+        past-first r _ (faulty 37) (nodes n) v (badHoursOf n) (rw q at e) (rw q at h) f
 
   -- 8
   module _ (a : ℕ) (r : Judged) (e : a ≡ first (l .arcs) (badArc (decode file))) where
@@ -111,10 +128,52 @@ module _ {file : List ℕ} {l : Layout} (s : Laid file l) where
             le-ltb (t .late) (points n) (rw (laid-sizes s .points) at h),
           ) f
 
+-- THE SAME WITH HOURS IN TABLES: 7, 37, and what comes after them
+module _ {file : List ℕ} {l : Layout} (s : Laid file l) (opens closes : List ℕ) where
+  abbrev m : Network
+  m = withHours opens closes (decode file)
+
+  module _ (v : ℕ) (r : Judged) (e : v ≡ first (l .nodes) (badCell (decode file))) where
+    pub cell-taken-with : v < l .nodes → r ≡ faulty 7 v → r ≡ judged (withHours opens closes (decode file))
+    unfolding judged
+    cell-taken-with h f =
+        let q = laid-sizes s .nodes in
+        at-first r _ (faulty 7) (nodes m) v (badCell m) (rw q at e) (rw q at h) f
+
+    pub cells-passed-with : l .nodes ≤ v → r ≡ judgedHours (withHours opens closes (decode file))
+        → r ≡ judged (withHours opens closes (decode file))
+    unfolding judged
+    cells-passed-with h f =
+        let q = laid-sizes s .nodes in
+        past-first r _ (faulty 7) (nodes m) v (badCell m) (rw q at e) (rw q at h) f
+
+  module _ (v : ℕ) (r : Judged) (e : v
+      ≡ first (l .nodes) (badHoursIn (l .hours) (l .period) (take (l .nodes) opens) (take (l .nodes) closes)))
+    where
+      found : v ≡ first (nodes m) (badHoursOf m)
+      found = rw (laid-sizes s .hours, laid-sizes s .period, laid-sizes s .nodes) at e
+
+      pub hours-taken-with : v < l .nodes → r ≡ faulty 37 v
+          → r ≡ judgedHours (withHours opens closes (decode file))
+      unfolding judgedHours
+      hours-taken-with h f =
+          at-first r _ (faulty 37) (nodes m) v (badHoursOf m) found (rw (laid-sizes s .nodes) at h) f
+
+      pub hours-passed-with : l .nodes ≤ v → r ≡ judgedArcs (decode file)
+          → r ≡ judgedHours (withHours opens closes (decode file))
+      unfolding judgedHours judgedArcs judgedSum judgedPoints firstPoint start
+      hours-passed-with h f =
+          past-first r _ (faulty 37) (nodes m) v (badHoursOf m) found (rw (laid-sizes s .nodes) at h) f
+
+-- for `search judgings-with`
+pub ruleset judgings-with = (cell-taken-with, cells-passed-with, hours-taken-with, hours-passed-with)
+
 -- for `search judgings` where the code answers
 pub ruleset judgings = (
   cell-taken,
   cells-passed,
+  hours-taken,
+  hours-passed,
   arc-taken,
   arcs-passed,
   sum-taken,

@@ -1,4 +1,4 @@
-// The rules 7 to 10 of document 01, on a file that is laid out as its header says. An arc's points are first
+// The rules 7 to 10 and 37, on a file that is laid out as its header says. An arc's points are first
 // asked whether they keep rules 9 and 10 (steady.rt). Where they do not, one scan finds the places: rule 10
 // is judged at each point while rule 9 is, and told where 9 holds everywhere.
 use crate::steady::is_steady;
@@ -13,7 +13,10 @@ ghost use Rattle.theory_loops.specs.First.{first};
 ghost use Rattle.theory_travel.specs.Table.{entryAt};
 ghost use Rattle.network.specs.Network;
 ghost use Rattle.network.specs.Decode.{decode, Laid};
-ghost use Rattle.network.specs.Rules.{badCell, badEnds, badArc, judgedPoints, judgedArcs, judged};
+ghost use lib.ListN.{length, take};
+ghost use Rattle.network.specs.Rules.{badCell, partOfDay, badHours, badHoursOf, badEnds, badArc};
+ghost use Rattle.network.specs.Rules.{judgedPoints, judgedArcs, judged};
+ghost use Rattle.network_rules.specs.Hours.{badHoursIn, withHours};
 ghost use Rattle.network_rules.specs.Scan.{misplaced, badPointBy, lateAt, Scanned};
 ghost use Rattle.network.specs.FirstPoint.{Counted};
 ghost use Rattle.network_rules.specs.ScanAll.{ScannedAll, lateIn};
@@ -49,6 +52,103 @@ fn first_bad_cell(file: &[u8], l: Layout) -> usize
     let nodes = l.nodes;
     for v in 0..nodes {
         if is_bad_cell(file, l, v) {
+            return v;
+        }
+    }
+    nodes
+}
+
+// Where no hours are held: is a node that opens and closes at these ticks not open all day?
+fn is_part_of_day(hours: usize, period: usize, opens: usize, closes: usize) -> bool
+    ensures { λ r. ⌜ r ≡ partOfDay hours period opens closes ⌝ }
+{
+    if hours != 0 {
+        return false;
+    }
+    if opens != 0 {
+        return true;
+    }
+    closes != period
+}
+
+// Rule 37 for a node that opens and closes at these ticks.
+fn bad_hours(hours: usize, period: usize, opens: usize, closes: usize) -> bool
+    ensures { λ r. ⌜ r ≡ badHours hours period opens closes ⌝ }
+{
+    if closes <= opens {
+        return true;
+    }
+    if period < closes {
+        return true;
+    }
+    is_part_of_day(hours, period, opens, closes)
+}
+
+// Rule 37 at node v.
+fn is_bad_hours(file: &[u8], l: Layout, v: usize) -> bool
+    requires { ⌜ Laid (now file) l ⌝ }
+    requires { ⌜ v < l .nodes ⌝ }
+    ensures { λ r. ⌜ r ≡ badHoursOf (decode (now (file .entry))) v ⌝ }
+{
+    let opens = read::opens_at(file, l, v);
+    let closes = read::closes_at(file, l, v);
+    bad_hours(l.hours, l.period, opens, closes)
+}
+
+// The first node of a file that breaks rule 37, or the count of nodes. Without hours there is none.
+fn first_bad_hours(file: &[u8], l: Layout) -> usize
+    requires { ⌜ Laid (now file) l ⌝ }
+    ensures { λ r. ⌜ r ≡ first (l .nodes) (badHoursOf (decode (now (file .entry)))) ⌝ }
+{
+    let nodes = l.nodes;
+    if l.hours == 0 {
+        return nodes;
+    }
+    for v in 0..nodes {
+        if is_bad_hours(file, l, v) {
+            return v;
+        }
+    }
+    nodes
+}
+
+// An entry as a wider number.
+fn wide(x: u16) -> usize
+    ensures { λ r. ⌜ r ≡ x ⌝ }
+{
+    x as usize
+}
+
+// Rule 37 at node v of so many, whose hours stand in tables.
+fn is_bad_hours_in(
+    hours: usize,
+    period: usize,
+    nodes: usize,
+    opens: &[u16],
+    closes: &[u16],
+    v: usize,
+) -> bool
+    requires { ⌜ (nodes ≤ length (now opens)) × (nodes ≤ length (now closes)) × (v < nodes) ⌝ }
+    ensures { λ r. ⌜ r
+        ≡ badHoursIn hours period (take nodes (now (opens .entry))) (take nodes (now (closes .entry))) v ⌝ }
+{
+    bad_hours(hours, period, wide(opens[v]), wide(closes[v]))
+}
+
+// The first of so many nodes, whose hours stand in tables, that breaks rule 37, or their count.
+fn first_bad_hours_in(
+    hours: usize,
+    period: usize,
+    nodes: usize,
+    opens: &[u16],
+    closes: &[u16],
+) -> usize
+    requires { ⌜ (nodes ≤ length (now opens)) × (nodes ≤ length (now closes)) ⌝ }
+    ensures { λ r. ⌜ r ≡ first nodes
+        (badHoursIn hours period (take nodes (now (opens .entry))) (take nodes (now (closes .entry)))) ⌝ }
+{
+    for v in 0..nodes {
+        if is_bad_hours_in(hours, period, nodes, opens, closes, v) {
             return v;
         }
     }
@@ -265,7 +365,7 @@ fn judge_arcs(file: &[u8], l: Layout) -> Judged
     judge_points(file, l)
 }
 
-// The lowest of the rules 7 to 10 that the network breaks, and its lowest place.
+// The first of the rules 7, 37, 8, 9 and 10 that the network breaks, and its lowest place.
 pub fn judge(file: &[u8], l: Layout) -> Judged
     requires { ⌜ Laid (now file) l ⌝ }
     ensures { λ r. ⌜ r ≡ judged (decode (now (file .entry))) ⌝ }
@@ -273,6 +373,28 @@ pub fn judge(file: &[u8], l: Layout) -> Judged
     let v = first_bad_cell(file, l);
     if v < l.nodes {
         return faulty(number::NETWORK_CELL, v as u32);
+    }
+    let u = first_bad_hours(file, l);
+    if u < l.nodes {
+        return faulty(number::NETWORK_HOURS, u as u32);
+    }
+    judge_arcs(file, l)
+}
+
+// The same of the network of a file whose nodes have the hours in these tables.
+pub fn judge_with(file: &[u8], l: Layout, opens: &[u16], closes: &[u16]) -> Judged
+    requires { ⌜ Laid (now file) l ⌝ }
+    requires { ⌜ (l .nodes ≤ length (now opens)) × (l .nodes ≤ length (now closes)) ⌝ }
+    ensures { λ r. ⌜ r ≡ judged (withHours (now (opens .entry)) (now (closes .entry))
+        (decode (now (file .entry)))) ⌝ }
+{
+    let v = first_bad_cell(file, l);
+    if v < l.nodes {
+        return faulty(number::NETWORK_CELL, v as u32);
+    }
+    let w = first_bad_hours_in(l.hours, l.period, l.nodes, opens, closes);
+    if w < l.nodes {
+        return faulty(number::NETWORK_HOURS, w as u32);
     }
     judge_arcs(file, l)
 }

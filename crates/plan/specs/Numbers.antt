@@ -15,7 +15,7 @@ use Rattle.network.specs.declared.header.Header.{Header}
 use Rattle.network.specs.Network.{Network}
 use Rattle.network.specs.Town.{partitionOf}
 use Rattle.file_refusals.specs.Refusal.{refusal}
-use Rattle.file_refusals.specs.Numbered.{Numbered, numbered, same-faulty}
+use Rattle.file_refusals.specs.Numbered.{Between, Numbered, numbered, same-faulty}
 use Rattle.plan.specs.declared.answer.Planning.{Planning}
 use Rattle.plan.specs.declared.answer.Planning.the-variants as planning
 use Rattle.plan.specs.declared.header.PlanHeader.{PlanHeader}
@@ -32,10 +32,10 @@ use Rattle.plan.specs.PlanValidate.{planned}
 
 -- THE RULES 17 TO 19
 abbrev Judges : Judged → Type 0
-Judges = Numbered Faulty 17 19
+Judges = Numbered Faulty (Between 17 19)
 
 pub flags-numbers : (arcs cells period profiles : ℕ) (p : Plan)
-    → Numbered Faulty 17 19 (judgedFlags arcs cells period profiles p)
+    → Numbered Faulty (Between 17 19) (judgedFlags arcs cells period profiles p)
 unfolding judgedFlags judgedCounts judgedSum judgedTicks
 flags-numbers arcs cells period profiles p =
     rung-holds Judges _ _ _ _ (λ i. is 17 i (omega arith) (omega arith))
@@ -45,30 +45,30 @@ flags-numbers arcs cells period profiles p =
     (is 18 profiles (omega arith) (omega arith))))
   where
     is : (number place : ℕ) → 17 ≤ number → number ≤ 19 → Judges (Faulty (refusal number place))
-    is number place l h = numbered Faulty 17 19 same-faulty (refusal number place) l h
+    is number place l h = numbered Faulty (Between 17 19) same-faulty (refusal number place) (l, h)
 
     sound : Judges Sound
     sound r e = let z : _≡_ {A = ℕ} 0 1 = cc in absurd (omega arith)
 
 -- THE FORM, 11 to 19
 abbrev Plans : Planning → Type 0
-Plans = Numbered planning.Refused 11 19
+Plans = Numbered planning.Refused (Between 11 19)
 
 same-planning : (q r : Refusal) → planning.Refused q ≡ planning.Refused r → q ≡ r
 same-planning q r e = cc
 
 plan-numbered : (number place : ℕ) → 11 ≤ number → number ≤ 19
     → Plans (planning.Refused (refusal number place))
-plan-numbered number place l h = numbered planning.Refused 11 19 same-planning (refusal number place) l h
+plan-numbered number place l h = numbered planning.Refused (Between 11 19) same-planning (refusal number place) (l, h)
 
 by-rules : (k : PlanHeader) (j : Judged) → Judges j → Plans (plannedRules k j)
 by-rules k Sound n = λ r e. let z : _≡_ {A = ℕ} 0 1 = cc in absurd (omega arith)
 by-rules k (Faulty q) n =
     let (x, y) = n q refl in
-    numbered planning.Refused 11 19 same-planning q (omega arith) (omega arith)
+    numbered planning.Refused (Between 11 19) same-planning q (omega arith, omega arith)
 
 pub planned-numbers : (h : Header) (n : Network) (file : List ℕ)
-    → Numbered planning.Refused 11 19 (planned h n file)
+    → Numbered planning.Refused (Between 11 19) (planned h n file)
 unfolding planned plannedFirst plannedHeader plannedLength plannedForm
 planned-numbers h n file =
     cond-holds Plans (badLength mostPlanBytes (length file)) _ _

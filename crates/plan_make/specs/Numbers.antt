@@ -1,4 +1,4 @@
--- Which numbers the refusals of Make plan have: 1 to 10, 31, 33 or 34 (`make-numbers`).
+-- Which numbers the refusals of Make plan have: 1 to 10, 37, 31, 33 or 34 (`make-numbers`).
 use mathlib.Core.Path.{_≡_, refl, ap}
 use mathlib.Core.Logic.{_⊎_, inl, inr}
 use mathlib.Core.List.{List}
@@ -17,7 +17,7 @@ use Rattle.network.specs.declared.answer.Opening.{Opening}
 use Rattle.network.specs.declared.answer.Opening.the-variants as opening
 use Rattle.network.specs.Network.{Network}
 use Rattle.network.specs.Decode.{decode}
-use Rattle.network.specs.Numbers.{validated-numbers}
+use Rattle.network.specs.Numbers.{NetworkNumber, validated-numbers}
 use Rattle.network.specs.Validate.{validated}
 use Rattle.plan.specs.PlanDecode.{pointTotal}
 use Rattle.plan.specs.PlanLimits.{mostProfilePoints}
@@ -26,7 +26,7 @@ use Rattle.plan_make.specs.Make.{workSize, madeInto, madeWith, madeOver,
 
 -- document 02's numbers for Make plan
 abbrev pub MakeNumber : ℕ → Type 0
-MakeNumber n = ((1 ≤ n) × (n ≤ 10)) ⊎ ((n ≡ 31) ⊎ ((n ≡ 33) ⊎ (n ≡ 34)))
+MakeNumber n = NetworkNumber n ⊎ ((n ≡ 31) ⊎ ((n ≡ 33) ⊎ (n ≡ 34)))
 
 -- an answer that, where it is refused, has such a number
 abbrev Fine : Writing → Type 0
@@ -47,7 +47,7 @@ into-fine n room =
     written : Fine (Written (record { bytes = length (madeFile n) }))
     written r e = let z : _≡_ {A = ℕ} 0 1 = cc in absurd (omega arith)
 
-over-fine : (o : Opening) → Numbered opening.Refused 1 10 o → (n : Network) (work room : ℕ)
+over-fine : (o : Opening) → Numbered opening.Refused NetworkNumber o → (n : Network) (work room : ℕ)
     → Fine (madeOver o n work room)
 unfolding madeWith
 over-fine (opening.Refused q) m n work room = λ r e. rw (← same-refused q r e) (inl (m q refl))

@@ -90,7 +90,7 @@ fn put_trip(network: &[u8], plan: &[u8], a: Asking, out: &mut [u8]) -> usize
 {
     let mut arrivals = [NEVER; MOST_NODES];
     let mut roads = [0u16; MOST_ROADS];
-    let answer = flagged_trip(
+    let visit = flagged_trip(
         network,
         plan,
         a.from,
@@ -99,6 +99,7 @@ fn put_trip(network: &[u8], plan: &[u8], a: Asking, out: &mut [u8]) -> usize
         &mut arrivals,
         &mut roads,
     );
+    let answer = visit.trip;
     let at = put_asking(out, a);
     put_answer(out, at, answer, &roads)
 }

@@ -43,7 +43,7 @@ abbrev pub plannedThen : Planning → Opening → Opening
 plannedThen (planning.Refused r) next = Refused r
 plannedThen (planning.WellFormed k) next = next
 
--- what comes before the search: 1 to 10, 11 to 19, then 25 to 27
+-- what comes before the search: 1 to 10 and 37, 11 to 19, then 25 to 27
 abbrev pub flaggedWith : Header → List ℕ → List ℕ → ℕ → ℕ → ℕ → ℕ → Opening
 flaggedWith h network plan from to departure room =
     plannedThen (planned h (decode network) plan) (asked h from to departure room)
@@ -154,9 +154,10 @@ pub ruleset flags = (flags-within, flags-laid, flags-few, fresh-mask, filled-mas
 
 -- the stage of the plan: refused, or gone on from
 module _ (m M : Planning) (e : m ≡ M) (next : Opening) (g : Graph) (p : Permit) (s t x : ℕ) where
-  pub plan-refused : (r : Refusal) → m ≡ planning.Refused r → (arrivals roads : List ℕ)
-      → TripCall (plannedThen M next) g p s t x arrivals arrivals roads roads (answer.Refused r)
-  plan-refused r f arrivals roads = record { answer = rw (← e, f); arrivals = rw (← e, f); roads = refl }
+  pub plan-refused : (r : Refusal) → m ≡ planning.Refused r → (arrivals roads : List ℕ) (a : Answer)
+      → a ≡ answer.Refused r → TripCall (plannedThen M next) g p s t x arrivals arrivals roads roads a
+  plan-refused r f arrivals roads a k =
+      record { answer = rw (← e, f) k; arrivals = rw (← e, f); roads = rw k }
 
   pub plan-opened : (k : PlanHeader) → m ≡ planning.WellFormed k
       → (arrivals₀ arrivals₁ roads₀ roads₁ : List ℕ) (a : Answer)

@@ -33,7 +33,7 @@ use Rattle.trip_call.specs.Drive.{drive-nodes, drive-period}
 use Rattle.trip_call.specs.Stage.{Asked, asked-opens}
 use Rattle.trip.specs.Flagged.{flaggedBegin, flaggedArcs, FlaggedTrip}
 use Rattle.trip.specs.Calls.{flaggedCall, flaggedPath}
-use Rattle.trip.specs.Promise.{BestTrip, AsGoodAsAny, Passed, Begins, listed}
+use Rattle.trip.specs.Promise.{BestTrip, AsGoodAsAny, Passed, BeforeSearch, Begins, listed}
 use Rattle.trip.specs.Promise as trip
 use Rattle.trip.specs.Numbers.{flagged-begins}
 
@@ -104,8 +104,8 @@ module _ (network plan : List ℕ) {from to departure : ℕ} {arrivals₀ arriva
   pub flagged-shows-all : tripSays a .number ≡ 28 → ShowsAll g flagged from departure arrivals₀ arrivals₁
   flagged-shows-all = trip.trip-shows-all begins c
 
-  -- up to 27 both lists are untouched; the list of roads changes only on arrival
-  pub flagged-untouched : 1 ≤ tripSays a .number → tripSays a .number ≤ 27 → arrivals₁ ≡ arrivals₀
+  -- up to 27, and by 37, both lists are untouched; the list of roads changes only on arrival
+  pub flagged-untouched : BeforeSearch (tripSays a .number) → arrivals₁ ≡ arrivals₀
   flagged-untouched = trip.trip-untouched begins c
 
   pub flagged-roads-kept : 1 ≤ tripSays a .number → roads₁ ≡ roads₀

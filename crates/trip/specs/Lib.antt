@@ -1,5 +1,5 @@
 -- Trips: what each answers and leaves (Plain, Flagged, Calls), and what an answer means (Promise, Numbers,
--- PlainPromise, FlaggedPromise).
+-- PlainPromise, FlaggedPromise, Hours).
 pub mod Plain
 pub mod Flagged
 pub mod Calls
@@ -7,3 +7,4 @@ pub mod Promise
 pub mod Numbers
 pub mod PlainPromise
 pub mod FlaggedPromise
+pub mod Hours

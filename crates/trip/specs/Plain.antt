@@ -21,7 +21,7 @@ use Rattle.trip_call.specs.Trip.{asked, andThen, TripCall}
 use Rattle.trip_call.specs.Stage.{Asked, asked-passed, then-passed, stage-opened}
 use Rattle.trip_call.specs.Drive.{call-permit, drive-arcs, drive-period}
 
--- what comes before the search: 1 to 10, then 25 to 27
+-- what comes before the search: 1 to 10 and 37, then 25 to 27
 abbrev pub plainBegin : List ℕ → ℕ → ℕ → ℕ → ℕ → Opening
 plainBegin network from to departure room = andThen (validated network) (λ h. asked h from to departure room)
 

@@ -27,7 +27,7 @@ use Rattle.trip_call.specs.Drive.{drive-nodes, drive-period}
 use Rattle.trip_call.specs.Stage.{asked-opens}
 use Rattle.trip.specs.Plain.{plainBegin, PlainTrip}
 use Rattle.trip.specs.Calls.{plainCall, plainPath}
-use Rattle.trip.specs.Promise.{BestTrip, AsGoodAsAny, Passed, Begins, listed}
+use Rattle.trip.specs.Promise.{BestTrip, AsGoodAsAny, Passed, BeforeSearch, Begins, listed}
 use Rattle.trip.specs.Promise as trip
 use Rattle.trip.specs.Numbers.{plain-begins}
 
@@ -104,8 +104,8 @@ module _ (network : List ℕ) {from to departure : ℕ} {arrivals₀ arrivals₁
   pub plain-shows-all : tripSays a .number ≡ 28 → ShowsAll g all from departure arrivals₀ arrivals₁
   plain-shows-all = trip.trip-shows-all begins c
 
-  -- up to 27 both lists are untouched; the list of roads changes only on arrival
-  pub plain-untouched : 1 ≤ tripSays a .number → tripSays a .number ≤ 27 → arrivals₁ ≡ arrivals₀
+  -- up to 27, and by 37, both lists are untouched; the list of roads changes only on arrival
+  pub plain-untouched : BeforeSearch (tripSays a .number) → arrivals₁ ≡ arrivals₀
   plain-untouched = trip.trip-untouched begins c
 
   pub plain-roads-kept : 1 ≤ tripSays a .number → roads₁ ≡ roads₀

@@ -15,7 +15,7 @@ use Rattle.theory_paths.specs.Earliest.{never}
 use Rattle.theory_paths.specs.Labels.{labels}
 use Rattle.theory_paths.specs.Chosen.{IsChosen}
 use Rattle.file_refusals.specs.declared.Refusal.{Refusal}
-use Rattle.file_refusals.specs.Numbered.{Numbered}
+use Rattle.file_refusals.specs.Numbered.{Between, Numbered}
 use Rattle.network.specs.declared.answer.Opening.{Opening}
 use Rattle.network.specs.declared.answer.Opening.the-variants.{Opened, Refused}
 use Rattle.network.specs.declared.header.Header.{Header}
@@ -60,15 +60,18 @@ abbrev pub listed : Answer → List ℕ → List ℕ
 listed (answer.Arrived r) roads = take (r .count) roads
 listed (answer.Refused r) roads = []
 
--- What comes before a search: its refusals are 1 to 27, and where it refuses nothing, source, target,
--- departure and list of arrivals will do.
+-- What comes before a search: its refusals are any but 28 and 29, and where it refuses nothing, source,
+-- target, departure and list of arrivals will do.
+abbrev pub BeforeSearch : ℕ → Type 0
+BeforeSearch number = Between 1 27 number ⊎ (30 ≤ number)
+
 pub record Leaves (g : Graph) (s t x room : ℕ) : Type 0 where
   pub leaving : Leaving g s x
   pub target : t < g .nodes
   pub long : g .nodes ≤ room
 
 pub record Begins (b : Opening) (g : Graph) (s t x room : ℕ) : Type 0 where
-  pub numbers : Numbered Refused 1 27 b
+  pub numbers : Numbered Refused BeforeSearch b
   pub opened : (h : Header) → b ≡ Opened h → Leaves g s t x room
 
 -- An arrival of a trip: nothing before the search was refused; the path is listed whole, and no longer than a
@@ -82,13 +85,17 @@ pub record Arrives (b : Opening) (g : Graph) (p : Permit) (s t x free : ℕ) (r 
 
 -- how a trip ends
 data Ends (b : Opening) (g : Graph) (p : Permit) (s t x room free : ℕ) (a : Answer) : Type 0 where
-  refused : (r : Refusal) → b ≡ Refused r → 1 ≤ r .number → r .number ≤ 27 → a ≡ answer.Refused r
+  refused : (r : Refusal) → b ≡ Refused r → BeforeSearch (r .number) → a ≡ answer.Refused r
       → Ends b g p s t x room free a
   searches : (h : Header) → b ≡ Opened h → Leaves g s t x room → Means g p s t x free a
       → Ends b g p s t x room free a
 
 opened-refused : {A : Type 0} {b : Opening} {h : Header} {r : Refusal} → b ≡ Opened h → b ≡ Refused r → A
 opened-refused e f = let z : _≡_ {A = ℕ} 0 1 = cc in absurd (omega arith)
+
+not-searched : {n : ℕ} → BeforeSearch n → (1 ≤ n) × (n ≢ 28) × (n ≢ 29)
+not-searched (inl k) = (k .0, λ e. omega (arith, k .1), λ e. omega (arith, k .1))
+not-searched (inr k) = (omega arith, λ e. omega arith, λ e. omega arith)
 
 number-is : {a c : Answer} → a ≡ c → tripSays a .number ≡ tripSays c .number
 number-is e = ap (λ (k : Answer). tripSays k .number) e
@@ -105,7 +112,7 @@ module _ {b : Opening} {g : Graph} {s t x room : ℕ} (w : Begins b g s t x room
   ends = go b refl e
     where
       go : (c : Opening) → b ≡ c → a ≡ tripAnswer c (searched g p s t x free) → Ends b g p s t x room free a
-      go (Refused r) f z = let (l, m) = w .numbers r f in refused r f l m z
+      go (Refused r) f z = refused r f (w .numbers r f) z
       go (Opened h) f z =
           let k = w .opened h f in searches h f k (rw z (searched-means (k .leaving) p t (k .target) free))
 
@@ -113,14 +120,14 @@ module _ {b : Opening} {g : Graph} {s t x room : ℕ} (w : Begins b g s t x room
   trip-no-way = (λ n. there n ends, λ q. back (q .0 .1) (q .1) ends)
     where
       there : tripSays a .number ≡ 28 → Ends b g p s t x room free a → Passed b × (¬ Reachable g p s t)
-      there n (refused r f l m z) = absurd (omega (arith, number-is z))
+      there n (refused r f l z) = absurd (not-searched l .1 (sym (number-is z) ∙ n))
       there n (searches h f k (no-way u z)) = ((h, f), u)
       there n (searches h f k (too-short i y l z)) = absurd (omega (arith, number-is z))
       there n (searches h f k (arrives r z c l y)) = absurd (omega (arith, number-is z))
 
       back : {h : Header} → b ≡ Opened h → (¬ Reachable g p s t) → Ends b g p s t x room free a
           → tripSays a .number ≡ 28
-      back f n (refused r i l m z) = opened-refused f i
+      back f n (refused r i l z) = opened-refused f i
       back f n (searches h i k (no-way u z)) = number-is z
       back f n (searches h i k (too-short j y l z)) =
           absurd (n (record { path = pathOf g p s t x; leads = y .chosen .leads }))
@@ -133,7 +140,7 @@ module _ {b : Opening} {g : Graph} {s t x room : ℕ} (w : Begins b g s t x room
     where
       there : tripSays a .number ≡ 29 → Ends b g p s t x room free a
           → Passed b × Reachable g p s t × (free < length (pathOf g p s t x))
-      there n (refused r f l m z) = absurd (omega (arith, number-is z))
+      there n (refused r f l z) = absurd (not-searched l .2 (sym (number-is z) ∙ n))
       there n (searches h f k (no-way u z)) = absurd (omega (arith, number-is z))
       there n (searches h f k (too-short i y l z)) =
           ((h, f), record { path = pathOf g p s t x; leads = y .chosen .leads }, l)
@@ -142,7 +149,7 @@ module _ {b : Opening} {g : Graph} {s t x room : ℕ} (w : Begins b g s t x room
       back : {h : Header} → b ≡ Opened h → Reachable g p s t → free < length (pathOf g p s t x)
           → Ends b g p s t x room free a
           → tripSays a .number ≡ 29
-      back f q m (refused r i l o z) = opened-refused f i
+      back f q m (refused r i l z) = opened-refused f i
       back f q m (searches h i k (no-way u z)) = absurd (u q)
       back f q m (searches h i k (too-short j y l z)) = number-is z
       back f q m (searches h i k (arrives r z c l y)) = absurd (omega arith)
@@ -152,7 +159,7 @@ module _ {b : Opening} {g : Graph} {s t x room : ℕ} (w : Begins b g s t x room
   trip-reaches o q m = go (o .1) ends
     where
       go : {h : Header} → b ≡ Opened h → Ends b g p s t x room free a → (r : Arrival) × (a ≡ answer.Arrived r)
-      go f (refused r i l n z) = opened-refused f i
+      go f (refused r i l z) = opened-refused f i
       go f (searches h i k (no-way u z)) = absurd (u q)
       go f (searches h i k (too-short j y l z)) = absurd (omega arith)
       go f (searches h i k (arrives r z c l y)) = (r, z)
@@ -164,7 +171,7 @@ module _ {b : Opening} {g : Graph} {s t x room : ℕ} (w : Begins b g s t x room
   trip-arrived r q = go ends
     where
       go : Ends b g p s t x room free a → Arrives b g p s t x free r
-      go (refused k f l m z) = not-both r (sym q ∙ z)
+      go (refused k f l z) = not-both r (sym q ∙ z)
       go (searches h f k (no-way u z)) = not-both r (sym q ∙ z)
       go (searches h f k (too-short i y l z)) = not-both r (sym q ∙ z)
       go (searches h f k (arrives i z c l y)) = rw (← (one-arrival i r (sym z ∙ q))) (record {
@@ -187,7 +194,7 @@ module _ {b : Opening} {g : Graph} {s t x room : ℕ} (w : Begins b g s t x room
   never-short l n = go ends
     where
       go : Ends b g p s t x room free a → ⊥
-      go (refused r f i j z) = omega (arith, number-is z)
+      go (refused r f i z) = not-searched i .2 (sym (number-is z) ∙ n)
       go (searches h f k (no-way u z)) = omega (arith, number-is z)
       go (searches h f k (too-short i y m z)) = omega (arith, y .few, k .leaving .few)
       go (searches h f k (arrives r z c m y)) = omega (arith, number-is z)
@@ -198,7 +205,7 @@ module _ {b : Opening} {g : Graph} {s t x room : ℕ} (w : Begins b g s t x room
   trip-refused r q = go ends
     where
       go : Ends b g p s t x room free a → (b ≡ Refused r) ⊎ ((r .number ≡ 28) ⊎ (r .number ≡ 29))
-      go (refused k f l m z) = inl (f ∙ ap (λ (i : Refusal). Refused i) (same-refusal k r (sym z ∙ q)))
+      go (refused k f l z) = inl (f ∙ ap (λ (i : Refusal). Refused i) (same-refusal k r (sym z ∙ q)))
       go (searches h f k (no-way u z)) = inr (inl (number-is (sym q ∙ z)))
       go (searches h f k (too-short i y l z)) = inr (inr (number-is (sym q ∙ z)))
       go (searches h f k (arrives i z c l y)) = not-both i (sym z ∙ q)
@@ -218,7 +225,7 @@ module _ {b : Opening} {g : Graph} {s t x room : ℕ} (w : Begins b g s t x room
     where
       go : Reachable g p s t → {h : Header} → b ≡ Opened h → Ends b g p s t x room free a
           → length (pathOf g p s t x) ≤ free
-      go q f (refused r i j m z) = opened-refused f i
+      go q f (refused r i j z) = opened-refused f i
       go q f (searches h i k (no-way u z)) = absurd (u q)
       go q f (searches h i k (too-short j y m z)) = omega (arith, y .few, k .leaving .few)
       go q f (searches h i k (arrives r z c m y)) = omega arith
@@ -253,8 +260,8 @@ module _ {b : Opening} {g : Graph} {p : Permit} {s t x : ℕ} {arrivals₀ arriv
       go : (tripSays a .number ≡ 0) ⊎ (tripSays a .number ≡ 29)
           → Ends b g p s t x (length arrivals₀) (length roads₀) a
           → ShowsBefore g p s x t arrivals₀ arrivals₁
-      go (inl n) (refused r f l m z) = absurd (omega (arith, number-is z))
-      go (inr n) (refused r f l m z) = absurd (omega (arith, number-is z))
+      go (inl n) (refused r f l z) = absurd (omega (arith, number-is z, not-searched l .0))
+      go (inr n) (refused r f l z) = absurd (not-searched l .2 (sym (number-is z) ∙ n))
       go n (searches h f k v) = shows-before (k .leaving) p t (filled h f) (k .target)
 
   pub trip-shows-all : tripSays a .number ≡ 28 → ShowsAll g p s x arrivals₀ arrivals₁
@@ -262,15 +269,15 @@ module _ {b : Opening} {g : Graph} {p : Permit} {s t x : ℕ} {arrivals₀ arriv
       let (o, u) = trip-no-way w p (length roads₀) (c .answer) .0 n in
       shows-all (w .opened (o .0) (o .1) .leaving) p t (filled (o .0) (o .1)) u
 
-  -- up to 27 both lists are untouched, and the list of roads is by every refusal
-  pub trip-untouched : 1 ≤ tripSays a .number → tripSays a .number ≤ 27 → arrivals₁ ≡ arrivals₀
-  trip-untouched l m = go (ends w p (length roads₀) (c .answer))
+  -- by a refusal before the search both lists are untouched, and the list of roads is by every refusal
+  pub trip-untouched : BeforeSearch (tripSays a .number) → arrivals₁ ≡ arrivals₀
+  trip-untouched l = go (ends w p (length roads₀) (c .answer))
     where
       go : Ends b g p s t x (length arrivals₀) (length roads₀) a → arrivals₁ ≡ arrivals₀
-      go (refused r f i j z) = rw f at (c .arrivals)
-      go (searches h f k (no-way u z)) = absurd (omega (arith, number-is z))
-      go (searches h f k (too-short i y o z)) = absurd (omega (arith, number-is z))
-      go (searches h f k (arrives r z i o y)) = absurd (omega (arith, number-is z))
+      go (refused r f i z) = rw f at (c .arrivals)
+      go (searches h f k (no-way u z)) = absurd (not-searched l .1 (number-is z))
+      go (searches h f k (too-short i y o z)) = absurd (not-searched l .2 (number-is z))
+      go (searches h f k (arrives r z i o y)) = absurd (omega (arith, number-is z, not-searched l .0))
 
   pub trip-roads-kept : 1 ≤ tripSays a .number → roads₁ ≡ roads₀
   trip-roads-kept l = go a refl

@@ -12,9 +12,10 @@ use plan::header::PlanLayout;
 use plan::read::flag_word;
 use plan_validate::validate::validate_plan;
 use search_labels::query::Query;
-use search_path::answer::Answer;
 use trip_call::begin::ask;
-use trip_call::drive::drive;
+use trip_call::visit::Visit;
+use trip_call::visit::refused;
+use trip_call::visit::visit_over;
 ghost use mathlib.Core.Path.{_≡_};
 ghost use mathlib.Core.Bool.{cond};
 ghost use Prim.Native.Nat.{_≤_, _<_};
@@ -29,6 +30,7 @@ ghost use Rattle.plan.specs.PlanDecode.{decodePlan, PlanLaid};
 ghost use Rattle.plan.specs.PlanValid.{ValidPlan};
 ghost use Rattle.trip_call.specs.Trip.{asked};
 ghost use Rattle.trip_call.specs.Stage.{Asked};
+ghost use Rattle.trip_call.specs.Visit.{openTick};
 ghost use Rattle.trip.specs.Flagged.{maskOf, flaggedWith, FlaggedAfter, FlaggedTrip};
 
 // The bit as a number.
@@ -60,18 +62,20 @@ fn drive_flagged(
     q: Query,
     arrivals: &mut [u32],
     roads: &mut [u16],
-) -> Answer
+) -> Visit
     requires { ⌜ ValidFile (now network) h ⌝ }
     requires { ⌜ ValidPlan h (decode (now network)) (now plan) k ⌝ }
     requires { ⌜ Asked h (q .source) (q .target) (q .departure) (length (now arrivals)) ⌝ }
-    ensures { λ r. ⌜ FlaggedAfter (Opened h) (now (network .entry)) (now (plan .entry))
+    ensures trip { λ r. ⌜ FlaggedAfter (Opened h) (now (network .entry)) (now (plan .entry))
         (q .source) (q .target) (q .departure)
-        (now (arrivals .entry)) (now (arrivals .exit)) (now (roads .entry)) (now (roads .exit)) r ⌝ }
+        (now (arrivals .entry)) (now (arrivals .exit)) (now (roads .entry)) (now (roads .exit))
+        (r .trip) ⌝ }
+    ensures opens { λ r. ⌜ r .opens ≡ openTick (decode (now (network .entry))) (q .target) (r .trip) ⌝ }
 {
     let c = cell(network, h.layout(), q.target as usize);
     let mut mask = [0u8; MOST_ARCS];
     fill_mask(plan, k.layout(), c, &mut mask);
-    drive(network, h, &mask, q, arrivals, roads)
+    visit_over(network, h, &mask, q, arrivals, roads)
 }
 
 // Refusals 25 to 29, or the trip.
@@ -83,16 +87,18 @@ fn flagged_asked(
     q: Query,
     arrivals: &mut [u32],
     roads: &mut [u16],
-) -> Answer
+) -> Visit
     requires { ⌜ ValidFile (now network) h ⌝ }
     requires { ⌜ ValidPlan h (decode (now network)) (now plan) k ⌝ }
-    ensures { λ r. ⌜ FlaggedAfter
+    ensures trip { λ r. ⌜ FlaggedAfter
         (asked h (q .source) (q .target) (q .departure) (length (now (arrivals .entry))))
         (now (network .entry)) (now (plan .entry)) (q .source) (q .target) (q .departure)
-        (now (arrivals .entry)) (now (arrivals .exit)) (now (roads .entry)) (now (roads .exit)) r ⌝ }
+        (now (arrivals .entry)) (now (arrivals .exit)) (now (roads .entry)) (now (roads .exit))
+        (r .trip) ⌝ }
+    ensures opens { λ r. ⌜ r .opens ≡ openTick (decode (now (network .entry))) (q .target) (r .trip) ⌝ }
 {
     match ask(h, q, arrivals.len()) {
-        Opening::Refused(r) => Answer::Refused(r),
+        Opening::Refused(r) => refused(r),
         Opening::Opened(_) => drive_flagged(network, h, plan, k, q, arrivals, roads),
     }
 }
@@ -105,21 +111,23 @@ fn flagged_planned(
     q: Query,
     arrivals: &mut [u32],
     roads: &mut [u16],
-) -> Answer
+) -> Visit
     requires { ⌜ ValidFile (now network) h ⌝ }
-    ensures { λ r. ⌜ FlaggedAfter (flaggedWith h (now (network .entry)) (now (plan .entry))
+    ensures trip { λ r. ⌜ FlaggedAfter (flaggedWith h (now (network .entry)) (now (plan .entry))
         (q .source) (q .target) (q .departure) (length (now (arrivals .entry))))
         (now (network .entry)) (now (plan .entry)) (q .source) (q .target) (q .departure)
-        (now (arrivals .entry)) (now (arrivals .exit)) (now (roads .entry)) (now (roads .exit)) r ⌝ }
+        (now (arrivals .entry)) (now (arrivals .exit)) (now (roads .entry)) (now (roads .exit))
+        (r .trip) ⌝ }
+    ensures opens { λ r. ⌜ r .opens ≡ openTick (decode (now (network .entry))) (q .target) (r .trip) ⌝ }
 {
     match validate_plan(network, h, h.layout(), plan) {
-        Planning::Refused(r) => Answer::Refused(r),
+        Planning::Refused(r) => refused(r),
         Planning::WellFormed(k) => flagged_asked(network, h, plan, k, q, arrivals, roads),
     }
 }
 
 // From one node to another, leaving at a tick of the day, over the arcs with the flag of the target's cell:
-// the earliest tick of arrival, and the chosen way.
+// the earliest tick of arrival, the chosen way, and the first tick from then on at which the target is open.
 pub fn flagged_trip(
     network: &[u8],
     plan: &[u8],
@@ -128,10 +136,12 @@ pub fn flagged_trip(
     departure: u32,
     arrivals: &mut [u32],
     roads: &mut [u16],
-) -> Answer
-    ensures { λ r. ⌜ FlaggedTrip (now (network .entry)) (now (plan .entry)) from to departure
+) -> Visit
+    ensures trip { λ r. ⌜ FlaggedTrip (now (network .entry)) (now (plan .entry)) from to departure
         (now (arrivals .entry)) (now (arrivals .exit))
-        (now (roads .entry)) (now (roads .exit)) r ⌝ }
+        (now (roads .entry)) (now (roads .exit))
+        (r .trip) ⌝ }
+    ensures opens { λ r. ⌜ r .opens ≡ openTick (decode (now (network .entry))) to (r .trip) ⌝ }
 {
     let q = Query {
         source: from,
@@ -139,7 +149,7 @@ pub fn flagged_trip(
         departure,
     };
     match validate(network) {
-        Opening::Refused(r) => Answer::Refused(r),
+        Opening::Refused(r) => refused(r),
         Opening::Opened(h) => flagged_planned(network, h, plan, q, arrivals, roads),
     }
 }

@@ -15,12 +15,14 @@ use Rattle.network.specs.declared.answer.Opening.{Opening}
 use Rattle.network.specs.declared.answer.Opening.the-variants.{Opened, Refused}
 use Rattle.network.specs.declared.header.Header.{Header}
 use Rattle.network.specs.declared.header.Layout.{Layout}
-use Rattle.network.specs.Network.{nodes, arcs}
+use Rattle.network.specs.Network.{nodes, arcs, points}
 use Rattle.network.specs.Layout.{layoutOf}
 use Rattle.network.specs.Decode.{decode, Laid}
 use Rattle.network.specs.Sound.{SoundNetwork}
 use Rattle.network.specs.Valid.{ValidFile, valid-laid}
 use Rattle.network.specs.Town.{graphOf}
+use Rattle.search_arcs.specs.Town.{town-of}
+use Rattle.search_labels.specs.Ready.{Leaving, leaving}
 use Rattle.search_path.specs.Answer.{Answered, answerOf, pathOf, searched, entryOf, count-is, not-both}
 use Rattle.search_path.specs.Trim.{shown}
 use Rattle.search_path.specs.declared.answer.Arrival.{Arrival}
@@ -112,6 +114,14 @@ module _ {file : List ℕ} {h : Header} (v : ValidFile file h) where
   unfolding decode
   drive-arcs = length-tab _ _ ∙ ap (λ (k : Header). k .arcs) (sym (v .is))
 
+  pub drive-points : points (decode file) ≡ h .points
+  unfolding decode
+  drive-points = length-tab _ _ ∙ ap (λ (k : Header). k .points) (sym (v .is))
+
+  pub drive-number : decode file .number ≡ h .number
+  unfolding decode
+  drive-number = ap (λ (k : Header). k .number) (sym (v .is))
+
   pub drive-cells : decode file .cells ≡ h .cells
   unfolding decode
   drive-cells = ap (λ (k : Header). k .cells) (sym (v .is))
@@ -125,6 +135,12 @@ pub drive-sizes : (l : Layout) (h : Header) → l ≡ layoutOf h
 unfolding layoutOf
 drive-sizes l h e =
     (ap (λ (k : Layout). k .nodes) e, ap (λ (k : Layout). k .arcs) e, ap (λ (k : Layout). k .period) e)
+
+-- and a trip that leaves from one of its nodes at a tick of the day
+pub valid-leaving : {file : List ℕ} {h : Header} → ValidFile file h → (s x : ℕ) → s < h .nodes → x < h .period
+    → Leaving (graphOf (decode file)) s x
+unfolding layoutOf
+valid-leaving {h = h} v s x m k = leaving (town-of (drive-laid v (layoutOf h) refl) (v .sound)) m k
 
 -- FOR `drive`: the search of a valid file answers the call
 pub driven-call : (file : List ℕ) (h : Header) (p : Permit) (s x t : ℕ)

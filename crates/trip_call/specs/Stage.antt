@@ -68,13 +68,14 @@ then-passed (Opened k) next h e = (k, refl, e)
 -- FOR CODE: v is what a stage answered, W the definition that it meets. Where it refuses, the call is over,
 -- and both lists are as they were; else the call is what goes on from it.
 module _ (v W : Opening) (e : v ≡ W) (g : Graph) (p : Permit) (s t x : ℕ) where
-  module _ (r : Refusal) (f : v ≡ Refused r) (arrivals roads : List ℕ) where
-    pub stage-refused : TripCall W g p s t x arrivals arrivals roads roads (answer.Refused r)
-    stage-refused = record { answer = rw (← e, f); arrivals = rw (← e, f); roads = refl }
+  module _ (r : Refusal) (f : v ≡ Refused r) (arrivals roads : List ℕ) (a : Answer)
+      (k : a ≡ answer.Refused r) where
+    pub stage-refused : TripCall W g p s t x arrivals arrivals roads roads a
+    stage-refused = record { answer = rw (← e, f) k; arrivals = rw (← e, f); roads = rw k }
 
     pub network-refused : (next : Header → Opening)
-        → TripCall (andThen W next) g p s t x arrivals arrivals roads roads (answer.Refused r)
-    network-refused next = record { answer = rw (← e, f); arrivals = rw (← e, f); roads = refl }
+        → TripCall (andThen W next) g p s t x arrivals arrivals roads roads a
+    network-refused next = record { answer = rw (← e, f) k; arrivals = rw (← e, f); roads = rw k }
 
   module _ (h : Header) (f : v ≡ Opened h) (arrivals₀ arrivals₁ roads₀ roads₁ : List ℕ) (a : Answer) where
     pub stage-opened : (k : Header) → TripCall (Opened k) g p s t x arrivals₀ arrivals₁ roads₀ roads₁ a

@@ -2,8 +2,10 @@
 // (refusals 25 to 27), and what a call answers and leaves in its two lent lists (`TripCall`).
 //   begin    the refusals 25 to 27
 //   drive    the search of a call that is not refused
-// It may call `search_path` to search, with the query of `search_labels`, `network` for the header and
-// `file_refusals` for the numbers.
+//   visit    the same, and when the target is open
+// It may call `search_path` to search, with the query of `search_labels`, `network_hours` for the target's
+// hours, `network` for the header and `file_refusals` for the numbers; it cites `search_arcs`.
 
 pub mod begin;
 pub mod drive;
+pub mod visit;

@@ -13,7 +13,9 @@ use Rattle.file_refusals.specs.Says.{Says, numbersOf}
 use Rattle.network.specs.declared.answer.Opening.{Opening}
 use Rattle.network.specs.Answer.{openingSays}
 use Rattle.network.specs.Limits.{mostRoads}
+use Rattle.network.specs.Network.{Network}
 use Rattle.network.specs.Tables.{Tables}
+use Rattle.network.specs.Town.{graphOf}
 use Rattle.network_open.specs.Open.{OpenCall}
 use Rattle.file_refusals.specs.Writing.{writingSays, Writes}
 use Rattle.plan_check.specs.declared.answer.Report.{Report}
@@ -27,7 +29,9 @@ use Rattle.search_path.specs.declared.answer.Answer.{Answer}
 use Rattle.search_path.specs.declared.answer.Answer.the-variants.{Arrived, Refused}
 use Rattle.search_path.specs.Answer.{pathOf}
 use Rattle.search_path.specs.Says.{tripSays, tripCount}
+use Rattle.trip_call.specs.declared.visit.Visit.{Visit}
 use Rattle.trip_call.specs.Trip.{TripCall}
+use Rattle.trip_call.specs.Visit.{openTick, visitSays}
 use Rattle.trip_call.specs.Drive.{call-count, call-roads}
 use Rattle.trip.specs.Flagged.{flaggedArcs}
 use Rattle.trip.specs.Promise.{trip-arrived}
@@ -87,17 +91,17 @@ module _ (network plan before : List ℕ) (r : ℕ) where
 
 -- OPEN
 module _ (file : List ℕ) (tables₀ : Tables) (before : List ℕ) (r : ℕ) where
-  pub open-short : length before < 9 → r ≡ 31 → OpenReply file tables₀ tables₀ before before r
-  open-short l e = record { reply = desk-short 9 _ before r l e; written = kept-short 9 _ tables₀ _ l }
+  pub open-short : length before < 10 → r ≡ 31 → OpenReply file tables₀ tables₀ before before r
+  open-short l e = record { reply = desk-short 10 _ before r l e; written = kept-short 10 _ tables₀ _ l }
 
-  pub open-written : (o : Opening) (tables₁ : Tables) (after : List ℕ) → 9 ≤ length before
+  pub open-written : (o : Opening) (tables₁ : Tables) (after : List ℕ) → 10 ≤ length before
       → OpenCall file tables₀ tables₁ o → r ≡ openingSays o .number
       → after ≡ overwritten (numbersOf (openingSays o)) before → OpenReply file tables₀ tables₁ before after r
   open-written o tables₁ after l c e f =
       let q = c .answer in
       record {
-        reply = rw q at (desk-written 9 (openingSays o) before r after l e f);
-        written = kept-enough 9 _ tables₀ l (rw q at (c .written));
+        reply = rw q at (desk-written 10 (openingSays o) before r after l e f);
+        written = kept-enough 10 _ tables₀ l (rw q at (c .written));
       }
 
 -- PACK AND IMPORT
@@ -137,25 +141,26 @@ module _ (network work₀ out₀ before : List ℕ) (r : ℕ) where
       }
 
 -- THE TRIPS WITH LISTS
-module _ (b : Opening) (g : Graph) (p : Permit) (s t x : ℕ) (arrivals₀ roads₀ before : List ℕ) (r : ℕ) where
-  pub lists-short : length before < 5 → r ≡ 31
-      → TripDesk b g p s t x arrivals₀ arrivals₀ roads₀ roads₀ before before r
+module _ (b : Opening) (n : Network) (p : Permit) (s t x : ℕ) (arrivals₀ roads₀ before : List ℕ) (r : ℕ) where
+  pub lists-short : length before < 6 → r ≡ 31
+      → TripDesk b n p s t x arrivals₀ arrivals₀ roads₀ roads₀ before before r
   lists-short l e = record {
-    reply = desk-short 5 _ before r l e;
-    arrivals = kept-short 5 _ arrivals₀ _ l;
-    roads = kept-short 5 _ roads₀ _ l;
+    reply = desk-short 6 _ before r l e;
+    arrivals = kept-short 6 _ arrivals₀ _ l;
+    roads = kept-short 6 _ roads₀ _ l;
   }
 
-  pub lists-written : (a : Answer) (arrivals₁ roads₁ after : List ℕ) → 5 ≤ length before
-      → TripCall b g p s t x arrivals₀ arrivals₁ roads₀ roads₁ a → r ≡ tripSays a .number
-      → after ≡ overwritten (numbersOf (tripSays a)) before
-      → TripDesk b g p s t x arrivals₀ arrivals₁ roads₀ roads₁ before after r
-  lists-written a arrivals₁ roads₁ after l c e f =
+  pub lists-written : (v : Visit) (arrivals₁ roads₁ after : List ℕ) → 6 ≤ length before
+      → TripCall b (graphOf n) p s t x arrivals₀ arrivals₁ roads₀ roads₁ (v .trip)
+      → v .opens ≡ openTick n t (v .trip) → r ≡ visitSays (v .trip) (v .opens) .number
+      → after ≡ overwritten (numbersOf (visitSays (v .trip) (v .opens))) before
+      → TripDesk b n p s t x arrivals₀ arrivals₁ roads₀ roads₁ before after r
+  lists-written v arrivals₁ roads₁ after l c o e f =
       let q = c .answer in
       record {
-        reply = rw q at (desk-written 5 (tripSays a) before r after l e f);
-        arrivals = kept-enough 5 _ arrivals₀ l (c .arrivals);
-        roads = kept-enough 5 _ roads₀ l (rw q at (c .roads));
+        reply = rw (o, q) at (desk-written 6 (visitSays (v .trip) (v .opens)) before r after l e f);
+        arrivals = kept-enough 6 _ arrivals₀ l (c .arrivals);
+        roads = kept-enough 6 _ roads₀ l (rw q at (c .roads));
       }
 
 -- THE TABLET'S TRIPS: where the trip a arrives, its count is the path's length, and the list of the most

@@ -44,11 +44,11 @@ module _ (text : List ℕ) (number : ℕ) (out₀ out₁ before after : List ℕ
 
 -- and Open's tables, of any file that shows a text
 pub imported-tables : {text : List ℕ} {number : ℕ} {file : List ℕ} (s : Shows text number file)
-    {tables₀ tables₁ : Tables} {before after : List ℕ} {returned : ℕ} → 9 ≤ length before
+    {tables₀ tables₁ : Tables} {before after : List ℕ} {returned : ℕ} → 10 ≤ length before
     → tooShort (headerFor number (s .sizes)) tables₀ ≡ false
     → OpenReply file tables₀ tables₁ before after returned
     → OpensTo number (s .sizes) (s .roads) tables₁ (opening file tables₀)
 unfolding kept
 imported-tables {file = file} s {tables₀} {tables₁} {before} room long m =
     s .opens tables₀ tables₁ (opening file tables₀)
-    (record { answer = refl; written = rw (le-ltb (length before) 9 room) at (m .written) }) long
+    (record { answer = refl; written = rw (le-ltb (length before) 10 room) at (m .written) }) long

@@ -36,7 +36,8 @@ pub record GoodPlan (network plan : List ℕ) : Type 0 where
       (flaggedPath network plan from to departure) (flaggedCall network plan from to departure)
 
 some-number : (n : ℕ) → MakeNumber n → 1 ≤ n
-some-number n (inl r) = omega arith
+some-number n (inl (inl r)) = r .0
+some-number n (inl (inr r)) = omega arith
 some-number n (inr (inl r)) = omega arith
 some-number n (inr (inr (inl r))) = omega arith
 some-number n (inr (inr (inr r))) = omega arith

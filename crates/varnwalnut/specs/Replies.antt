@@ -6,11 +6,12 @@ use mathlib.Core.List.{List}
 use Prim.Native.Nat.{ℕ, _≤_}
 use lib.ListN.{length}
 use Rattle.theory_loops.specs.Fill.{overwritten}
-use Rattle.theory_paths.specs.Graph.{Graph, Permit, all}
+use Rattle.theory_paths.specs.Graph.{Permit, all}
 use Rattle.file_refusals.specs.Says.{Says, numbersOf}
 use Rattle.network.specs.declared.answer.Opening.{Opening}
 use Rattle.network.specs.declared.header.Header.{Header}
 use Rattle.network.specs.Answer.{openingSays}
+use Rattle.network.specs.Network.{Network}
 use Rattle.network.specs.Decode.{decode}
 use Rattle.network.specs.Tables.{Tables, networkOf}
 use Rattle.network.specs.Town.{graphOf}
@@ -29,6 +30,7 @@ use Rattle.search_path.specs.declared.answer.Answer.{Answer}
 use Rattle.search_path.specs.Answer.{searched}
 use Rattle.search_path.specs.Says.{tripSays}
 use Rattle.trip_call.specs.Trip.{tripAnswer, tripArrivals, tripRoads}
+use Rattle.trip_call.specs.Visit.{openTick, visitSays}
 use Rattle.trip.specs.Plain.{plainBegin}
 use Rattle.trip.specs.Flagged.{flaggedBegin, flaggedArcs}
 use Rattle.c_replies.specs.Reply.{tripSize, tripBytes}
@@ -51,12 +53,12 @@ pub record CheckReply (network plan before after : List ℕ) (returned : ℕ) : 
   pub counted : 5 ≤ length before → Finds network plan (checking network plan) finds
   pub reply : DeskReply 5 (reportSays (checking network plan) finds) before after returned
 
--- Open: beside the reply, the six tables
+-- Open: beside the reply, the eight tables
 pub record OpenReply (file : List ℕ) (tables₀ tables₁ : Tables) (before after : List ℕ)
     (returned : ℕ) : Type 0 where
-  pub reply : DeskReply 9 (openingSays (opening file tables₀)) before after returned
+  pub reply : DeskReply 10 (openingSays (opening file tables₀)) before after returned
   pub written : tables₁
-      ≡ kept 9 (length before) tables₀ (tablesAfter (opening file tables₀) (decode file) tables₀)
+      ≡ kept 10 (length before) tables₀ (tablesAfter (opening file tables₀) (decode file) tables₀)
 
 -- An operation that writes a file and tells this: beside the reply, the bytes for it
 pub record WriteReply (told : Writing) (file out₀ out₁ before after : List ℕ) (returned : ℕ) : Type 0 where
@@ -81,25 +83,27 @@ pub record MakeReply (network work₀ work₁ out₀ out₁ before after : List 
       (bytesAfter (making network (length work₀) (length out₀)) (madeFile (decode network)) out₀)
 
 -- A trip: beside the reply, the lists of arrivals and of roads. b is what comes before the search, from s to
--- t over the permitted arcs of g, leaving at tick x.
-pub record TripDesk (b : Opening) (g : Graph) (p : Permit) (s t x : ℕ)
+-- t over the permitted arcs of the network n, leaving at tick x.
+pub record TripDesk (b : Opening) (n : Network) (p : Permit) (s t x : ℕ)
     (arrivals₀ arrivals₁ roads₀ roads₁ : List ℕ)
     (before after : List ℕ) (returned : ℕ) : Type 0 where
-  pub reply : DeskReply 5 (tripSays (tripAnswer b (searched g p s t x (length roads₀)))) before after returned
-  pub arrivals : arrivals₁ ≡ kept 5 (length before) arrivals₀ (tripArrivals b g p s t x arrivals₀)
-  pub roads : roads₁ ≡ kept 5 (length before) roads₀
-      (tripRoads (tripAnswer b (searched g p s t x (length roads₀))) g p s t x roads₀)
+  pub reply : DeskReply 6
+      (visitSays (tripAnswer b (searched (graphOf n) p s t x (length roads₀)))
+      (openTick n t (tripAnswer b (searched (graphOf n) p s t x (length roads₀))))) before after returned
+  pub arrivals : arrivals₁ ≡ kept 6 (length before) arrivals₀ (tripArrivals b (graphOf n) p s t x arrivals₀)
+  pub roads : roads₁ ≡ kept 6 (length before) roads₀
+      (tripRoads (tripAnswer b (searched (graphOf n) p s t x (length roads₀))) (graphOf n) p s t x roads₀)
 
 -- the plain trip, and the flagged one
 abbrev pub PlainDesk : List ℕ → ℕ → ℕ → ℕ → List ℕ → List ℕ → List ℕ → List ℕ → List ℕ → List ℕ → ℕ → Type 0
 PlainDesk network from to departure arrivals₀ arrivals₁ roads₀ roads₁ before after returned =
     TripDesk (plainBegin network from to departure (length arrivals₀))
-    (graphOf (decode network)) all from to departure
+    (decode network) all from to departure
     arrivals₀ arrivals₁ roads₀ roads₁ before after returned
 
 abbrev pub FlaggedDesk : List ℕ → List ℕ → ℕ → ℕ → ℕ → List ℕ → List ℕ → List ℕ → List ℕ → List ℕ → List ℕ → ℕ
     → Type 0
 FlaggedDesk network plan from to departure arrivals₀ arrivals₁ roads₀ roads₁ before after returned =
     TripDesk (flaggedBegin network plan from to departure (length arrivals₀))
-    (graphOf (decode network)) (flaggedArcs network plan to) from to departure
+    (decode network) (flaggedArcs network plan to) from to departure
     arrivals₀ arrivals₁ roads₀ roads₁ before after returned

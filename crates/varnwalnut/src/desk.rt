@@ -35,6 +35,8 @@ pub extern "C" fn varnwalnut_check_plan(network: &[u8], plan: &[u8], answer: &mu
 pub extern "C" fn varnwalnut_open_network(
     network: &[u8],
     cells: &mut [u16],
+    opens: &mut [u16],
+    closes: &mut [u16],
     from: &mut [u16],
     to: &mut [u16],
     points: &mut [u16],
@@ -43,17 +45,27 @@ pub extern "C" fn varnwalnut_open_network(
     answer: &mut [u32],
 ) -> u32
     ensures { λ r. ⌜ OpenReply (now (network .entry))
-        (tables (now (cells .entry)) (now (from .entry)) (now (to .entry)) (now (points .entry))
-        (now (ticks .entry)) (now (travels .entry)))
-        (tables (now (cells .exit)) (now (from .exit)) (now (to .exit)) (now (points .exit))
-        (now (ticks .exit)) (now (travels .exit)))
+        (tables (now (cells .entry)) (now (opens .entry)) (now (closes .entry)) (now (from .entry))
+        (now (to .entry)) (now (points .entry)) (now (ticks .entry)) (now (travels .entry)))
+        (tables (now (cells .exit)) (now (opens .exit)) (now (closes .exit)) (now (from .exit))
+        (now (to .exit)) (now (points .exit)) (now (ticks .exit)) (now (travels .exit)))
         (now (answer .entry)) (now (answer .exit)) r ⌝ }
 {
-    if answer.len() < 9 {
+    if answer.len() < 10 {
         return ANSWER_SHORT;
     }
     write_opening(
-        open_network(network, cells, from, to, points, ticks, travels),
+        open_network(
+            network,
+            cells,
+            opens,
+            closes,
+            from,
+            to,
+            points,
+            ticks,
+            travels,
+        ),
         answer,
     )
 }
@@ -67,7 +79,10 @@ pub extern "C" fn varnwalnut_pack_network(
     arcs: u32,
     cells: u32,
     points: u32,
+    hours: u32,
     cellof: &[u16],
+    opens: &[u16],
+    closes: &[u16],
     tails: &[u16],
     heads: &[u16],
     counts: &[u16],
@@ -76,9 +91,9 @@ pub extern "C" fn varnwalnut_pack_network(
     out: &mut [u8],
     answer: &mut [u32],
 ) -> u32
-    ensures { λ r. ⌜ PackReply (numbers number period nodes arcs cells points)
-        (tables (now (cellof .entry)) (now (tails .entry)) (now (heads .entry)) (now (counts .entry))
-        (now (ticks .entry)) (now (travels .entry)))
+    ensures { λ r. ⌜ PackReply (numbers number period nodes arcs cells points hours)
+        (tables (now (cellof .entry)) (now (opens .entry)) (now (closes .entry)) (now (tails .entry))
+        (now (heads .entry)) (now (counts .entry)) (now (ticks .entry)) (now (travels .entry)))
         (now (out .entry)) (now (out .exit)) (now (answer .entry)) (now (answer .exit)) r ⌝ }
 {
     if answer.len() < 4 {
@@ -92,7 +107,10 @@ pub extern "C" fn varnwalnut_pack_network(
             arcs,
             cells,
             points,
+            hours,
             cellof,
+            opens,
+            closes,
             tails,
             heads,
             counts,
@@ -153,7 +171,7 @@ pub extern "C" fn varnwalnut_plain_trip_lists(
         (now (arrivals .entry)) (now (arrivals .exit)) (now (roads .entry)) (now (roads .exit))
         (now (answer .entry)) (now (answer .exit)) r ⌝ }
 {
-    if answer.len() < 5 {
+    if answer.len() < 6 {
         return ANSWER_SHORT;
     }
     write_lists(
@@ -178,7 +196,7 @@ pub extern "C" fn varnwalnut_flagged_trip_lists(
         (now (arrivals .entry)) (now (arrivals .exit)) (now (roads .entry)) (now (roads .exit))
         (now (answer .entry)) (now (answer .exit)) r ⌝ }
 {
-    if answer.len() < 5 {
+    if answer.len() < 6 {
         return ANSWER_SHORT;
     }
     write_lists(

@@ -32,7 +32,8 @@ pub extern "C" fn varnwalnut_plain_trip(
     }
     let mut arrivals = [NEVER; MOST_NODES];
     let mut roads = [0u16; MOST_ROADS];
-    let trip = plain_trip(network, from, to, departure, &mut arrivals, &mut roads);
+    let visit = plain_trip(network, from, to, departure, &mut arrivals, &mut roads);
+    let trip = visit.trip;
     write_trip(trip, &roads, answer)
 }
 
@@ -56,7 +57,7 @@ pub extern "C" fn varnwalnut_flagged_trip(
     }
     let mut arrivals = [NEVER; MOST_NODES];
     let mut roads = [0u16; MOST_ROADS];
-    let trip = flagged_trip(
+    let visit = flagged_trip(
         network,
         plan,
         from,
@@ -65,5 +66,6 @@ pub extern "C" fn varnwalnut_flagged_trip(
         &mut arrivals,
         &mut roads,
     );
+    let trip = visit.trip;
     write_trip(trip, &roads, answer)
 }

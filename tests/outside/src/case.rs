@@ -38,7 +38,12 @@ fn most_work(rng: &mut Rng, size: Size) -> usize {
 }
 
 pub fn generate(rng: &mut Rng, size: Size) -> Case {
-    let mut draft = town(rng, size);
+    let draft = town(rng, size);
+    of_town(rng, draft, size)
+}
+
+/// The case of a town, whose cells may change.
+pub fn of_town(rng: &mut Rng, mut draft: NetworkDraft, size: Size) -> Case {
     let most_work = most_work(rng, size);
     let (network, plan) = planned(rng, &draft, most_work)
         .or_else(|| {

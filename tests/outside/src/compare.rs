@@ -10,7 +10,7 @@ use crate::input::Input;
 use crate::library::*;
 use crate::made::{self, Made};
 use crate::marked::{Entry, Lent};
-use crate::reference::network::{self, Network};
+use crate::reference::network::{self, Header, Network};
 use crate::reference::plan::{self, Plan};
 use crate::reference::trips::{flagged_trip, plain_trip, ListLengths, Trip, TripCall};
 use crate::reference::{refuse, Refusal};
@@ -50,18 +50,24 @@ struct Run<'a> {
     opened: &'a Result<Network, Refusal>,
     planned: &'a Result<Plan, Refusal>,
     made: Option<Rc<Made>>,
-    check: Check,
+    functions: Functions,
     differences: Vec<String>,
 }
 
+/// The library's functions on an input.
 pub fn compare(input: &Input) -> Verdict {
+    compare_all(LINKED, input)
+}
+
+/// These functions on an input.
+pub fn compare_all(functions: Functions, input: &Input) -> Verdict {
     let opened = network::open(&input.network);
     let planned = match &opened {
         Ok(network) => plan::open(network, &input.plan),
         Err(refusal) => Err(*refusal),
     };
     let made = opened.as_ref().ok().map(|network| made::of(&input.network, network));
-    let mut run = Run::new(input, &opened, &planned, made);
+    let mut run = Run { functions, ..Run::new(input, &opened, &planned, made) };
     let (checked, finds) = run.check_plan();
     let predicted = [
         run.open_network(),
@@ -77,23 +83,28 @@ pub fn compare(input: &Input) -> Verdict {
     Verdict { predicted, differences, opened, planned, finds, made }
 }
 
-/// Both C trips for every pair of nodes and every tick of the input's town.
-pub fn compare_all_trips(input: &Input, verdict: &Verdict) -> Vec<String> {
+/// Both C trips, and the trips with lists too if `lists`, for every pair of nodes and every tick of the
+/// input's town.
+pub fn compare_all_trips(functions: Functions, input: &Input, verdict: &Verdict, lists: bool) -> Vec<String> {
     let Ok(network) = &verdict.opened else { return Vec::new() };
-    let mut run = Run::again(input, verdict);
+    let mut run = Run { functions, ..Run::again(input, verdict) };
     for from in 0..network.header.nodes {
         for to in 0..network.header.nodes {
             for departure in 0..network.header.period {
                 run.call = TripCall { from, to, departure };
                 run.c_trip(PLAIN);
                 run.c_trip(FLAGGED);
+                if lists {
+                    run.trip_lists(PLAIN_LISTS);
+                    run.trip_lists(FLAGGED_LISTS);
+                }
             }
         }
     }
     run.differences
 }
 
-/// The planner alone, with lists of other lengths: its refusal and the differences.
+/// The library's planner alone, with lists of other lengths: its refusal and the differences.
 pub fn compare_make_plan(input: &Input, verdict: &Verdict, lengths: PlannerLengths) -> (u32, Vec<String>) {
     let mut run = Run::again(input, verdict);
     let refused = run.make_plan_with(lengths);
@@ -143,7 +154,7 @@ impl<'a> Run<'a> {
             opened,
             planned,
             made,
-            check: varnwalnut_check_plan,
+            functions: LINKED,
             differences: Vec::new(),
         }
     }
@@ -178,13 +189,16 @@ impl<'a> Run<'a> {
         let mut tables = lengths.open_tables.map(Lent::<u16>::blank);
         let mut answer = Lent::<u32>::blank(lengths.open_answer);
         let predicted = self.predict_open();
-        let [cells, from, to, points, ticks, travels] = &mut tables;
+        let [cells, opens, closes, from, to, points, ticks, travels] = &mut tables;
+        let open_network = self.functions.open_network;
         // SAFETY: each pointer leads to as many entries as its count says, and no two lists overlap.
         #[rustfmt::skip]
         let returned = unsafe {
-            varnwalnut_open_network(
+            open_network(
                 self.network.pointer(), self.network.length(),
                 cells.pointer_mut(), cells.length(),
+                opens.pointer_mut(), opens.length(),
+                closes.pointer_mut(), closes.length(),
                 from.pointer_mut(), from.length(),
                 to.pointer_mut(), to.length(),
                 points.pointer_mut(), points.length(),
@@ -197,13 +211,13 @@ impl<'a> Run<'a> {
         self.expect_return(OPEN, returned, refused);
         let (written, numbers) = match predicted {
             Ok(network) => {
-                let header = network.header;
-                let numbers = [header.number, header.period, header.nodes, header.arcs, header.cells, header.points];
+                let Header { number, period, nodes, arcs, cells, points, hours } = network.header;
+                let numbers = [number, period, nodes, arcs, cells, points, hours];
                 (network.tables.in_order().map(Clone::clone), numbers)
             }
-            Err(_) => (Default::default(), [0; 6]),
+            Err(_) => (Default::default(), [0; 7]),
         };
-        let names = ["cells", "from", "to", "points", "ticks", "travels"];
+        let names = ["cells", "opens", "closes", "from", "to", "points", "ticks", "travels"];
         for ((name, table), written) in names.iter().zip(&tables).zip(&written) {
             self.expect_list(OPEN, name, table, written);
         }
@@ -232,13 +246,16 @@ impl<'a> Run<'a> {
         let lent = tables.in_order().map(|table| Lent::holding(table, 0));
         let mut out = Lent::<u8>::blank(lengths.pack_out);
         let mut answer = Lent::<u32>::blank(lengths.pack_answer);
-        let [cells, from, to, points, ticks, travels] = &lent;
+        let [cells, opens, closes, from, to, points, ticks, travels] = &lent;
+        let pack_network = self.functions.pack_network;
         // SAFETY: each pointer leads to as many entries as its count says, and no two lists overlap.
         #[rustfmt::skip]
         let returned = unsafe {
-            varnwalnut_pack_network(
-                header.number, header.period, header.nodes, header.arcs, header.cells, header.points,
+            pack_network(
+                header.number, header.period, header.nodes, header.arcs, header.cells, header.points, header.hours,
                 cells.pointer(), cells.length(),
+                opens.pointer(), opens.length(),
+                closes.pointer(), closes.length(),
                 from.pointer(), from.length(),
                 to.pointer(), to.length(),
                 points.pointer(), points.length(),
@@ -283,19 +300,19 @@ impl<'a> Run<'a> {
             self.predict_trip(flagged, ListLengths { arrivals: 512, roads: (TRIP_ANSWER_BYTES - 10) / 2 })
         };
         let call = self.call;
-        let (network, plan) = (&self.network, &self.plan);
+        let (network, plan, functions) = (&self.network, &self.plan, self.functions);
         // SAFETY: each pointer leads to as many entries as its count says, and no two lists overlap.
         #[rustfmt::skip]
         let returned = unsafe {
             if flagged {
-                varnwalnut_flagged_trip(
+                (functions.flagged_trip)(
                     network.pointer(), network.length(),
                     plan.pointer(), plan.length(),
                     answer.pointer_mut(), answer.length(),
                     call.from, call.to, call.departure,
                 )
             } else {
-                varnwalnut_plain_trip(
+                (functions.plain_trip)(
                     network.pointer(), network.length(),
                     answer.pointer_mut(), answer.length(),
                     call.from, call.to, call.departure,
@@ -320,12 +337,12 @@ impl<'a> Run<'a> {
         let mut roads = Lent::<u16>::blank(lengths.roads);
         let mut answer = Lent::<u32>::blank(lengths.lists_answer);
         let call = self.call;
-        let (network, plan) = (&self.network, &self.plan);
+        let (network, plan, functions) = (&self.network, &self.plan, self.functions);
         // SAFETY: each pointer leads to as many entries as its count says, and no two lists overlap.
         #[rustfmt::skip]
         let returned = unsafe {
             if flagged {
-                varnwalnut_flagged_trip_lists(
+                (functions.flagged_trip_lists)(
                     network.pointer(), network.length(),
                     plan.pointer(), plan.length(),
                     call.from, call.to, call.departure,
@@ -334,7 +351,7 @@ impl<'a> Run<'a> {
                     answer.pointer_mut(), answer.length(),
                 )
             } else {
-                varnwalnut_plain_trip_lists(
+                (functions.plain_trip_lists)(
                     network.pointer(), network.length(),
                     call.from, call.to, call.departure,
                     arrivals.pointer_mut(), arrivals.length(),
@@ -347,8 +364,8 @@ impl<'a> Run<'a> {
         self.expect_return(operation, returned, refused);
         self.expect_list(operation, "arrivals", &arrivals, &trip.arrivals);
         let (way, numbers) = match &trip.answer {
-            Ok(arrived) => (arrived.roads.clone(), [arrived.tick, arrived.roads.len() as u32]),
-            Err(_) => (Vec::new(), [0; 2]),
+            Ok(arrived) => (arrived.roads.clone(), [arrived.tick, arrived.roads.len() as u32, arrived.open]),
+            Err(_) => (Vec::new(), [0; 3]),
         };
         self.expect_list(operation, "roads", &roads, &way);
         let words = answer_words(answer.length(), LISTS_ANSWER, refused, &numbers);

@@ -1,10 +1,8 @@
-//! Inputs kept as files. A corpus file is the four bytes VWC3, 34 numbers of 32 bits, low byte first, the
-//! network's bytes and the plan's. The numbers: from, to, departure; pack's number, P, N, R, K, Q; the lengths
-//! of the arrival list, the road list, the C trips' answer, the answers of the lists, the check, open and pack,
-//! pack's out-bytes, open's six tables and pack's six; the network's length and the plan's; the lengths of
-//! the planner's work list, out-bytes and answer. Files that start with VWC2 and VWC1 are older. They are for
-//! a check whose answer has two numbers less, which are added to the length that they tell. The oldest are
-//! without the last three numbers: there they are one entry more than the network needs.
+//! Inputs kept as files. A corpus file is the four bytes VWC4, 39 numbers of 32 bits, low byte first, the
+//! network's bytes and the plan's. The numbers: from, to, departure; pack's number, P, N, R, K, Q and hours;
+//! the lengths of the arrival list, the road list, the C trips' answer, the answers of the lists, the check,
+//! open and pack, pack's out-bytes, open's eight tables and pack's eight; the network's length and the
+//! plan's; the lengths of the planner's work list, out-bytes and answer.
 //!
 //! Texts for the import are kept there too, written by hand. Such a file is a line with VWD1 and six decimal
 //! numbers, one space apart, and then the text's bytes. The numbers: network number, lengths of the out-bytes
@@ -12,27 +10,24 @@
 
 use crate::compare::{compare, compare_import, ImportCall, Verdict};
 use crate::input::{Input, Lengths, NO_LISTS};
-use crate::library::{import_dimacs, MAKE_ANSWER, ON_NETWORKS};
+use crate::library::{import_dimacs, ON_NETWORKS};
 use crate::reference::make_plan::MakeLengths;
-use crate::reference::network::Header;
+use crate::reference::network::{Header, TABLES};
 use crate::reference::trips::TripCall;
 use crate::reference::Refusal;
 use std::path::{Path, PathBuf};
 use std::{fs, io};
 
-const MAGIC: &[u8; 4] = b"VWC3";
-const NUMBERS: usize = 34;
-/// A file's first bytes, how many numbers follow, and by how much the check's answer is lengthened.
-const FORMS: [(&[u8; 4], usize, u32); 3] = [(MAGIC, NUMBERS, 0), (b"VWC2", NUMBERS, 2), (b"VWC1", NUMBERS - 3, 2)];
+const MAGIC: &[u8; 4] = b"VWC4";
+const NUMBERS: usize = 39;
 const TEXT_MAGIC: &[u8; 5] = b"VWD1 ";
-const CHECK_ANSWER_AT: usize = 13;
 /// No lent list of a corpus file is longer: a plan's most bytes and some.
 const MOST_LENGTH: u32 = 8_000_000;
 
 pub fn to_bytes(input: &Input) -> Vec<u8> {
     let (call, pack, lengths) = (input.call, input.pack, input.lengths);
     let mut numbers = vec![call.from, call.to, call.departure];
-    numbers.extend([pack.number, pack.period, pack.nodes, pack.arcs, pack.cells, pack.points]);
+    numbers.extend([pack.number, pack.period, pack.nodes, pack.arcs, pack.cells, pack.points, pack.hours]);
     let mut counts = vec![
         lengths.arrivals,
         lengths.roads,
@@ -55,69 +50,59 @@ pub fn to_bytes(input: &Input) -> Vec<u8> {
     bytes
 }
 
-pub fn from_bytes(bytes: &[u8]) -> Option<Input> {
-    let (numbers, files) = read_numbers(bytes)?;
-    let (network, plan) = files.split_at_checked(count(&numbers, 29)?)?;
-    (plan.len() == count(&numbers, 30)?).then_some(())?;
-    let mut input = Input {
-        network: network.to_vec(),
-        plan: plan.to_vec(),
-        call: TripCall { from: numbers[0], to: numbers[1], departure: numbers[2] },
-        pack: Header {
-            number: numbers[3],
-            period: numbers[4],
-            nodes: numbers[5],
-            arcs: numbers[6],
-            cells: numbers[7],
-            points: numbers[8],
-        },
-        lengths: lengths_of(&numbers)?,
-    };
-    if numbers.len() < NUMBERS {
-        input.plan_what_the_network_says(NO_LISTS, 1);
-    } else {
-        input.lengths.make = MakeLengths { work: count(&numbers, 31)?, out: count(&numbers, 32)? };
-        input.lengths.make_answer = count(&numbers, 33)?;
+/// The numbers at a file's head, from the first on.
+struct Numbers(std::vec::IntoIter<u32>);
+
+impl Numbers {
+    fn next(&mut self) -> u32 {
+        self.0.next().expect("as many as are written")
     }
-    Some(input)
+
+    fn length(&mut self) -> Option<usize> {
+        let length = self.next();
+        (length <= MOST_LENGTH).then_some(length as usize)
+    }
+
+    fn table_lengths(&mut self) -> Option<[usize; TABLES]> {
+        let lengths: Option<Vec<usize>> = (0..TABLES).map(|_| self.length()).collect();
+        lengths?.try_into().ok()
+    }
 }
 
-/// The numbers at a file's head, and the bytes after them.
-fn read_numbers(bytes: &[u8]) -> Option<(Vec<u32>, &[u8])> {
-    let form = FORMS.iter().find(|(magic, ..)| bytes.starts_with(*magic))?;
-    let (magic, count, lengthened) = *form;
-    let (head, files) = bytes[magic.len()..].split_at_checked(4 * count)?;
+pub fn from_bytes(bytes: &[u8]) -> Option<Input> {
+    let (head, files) = bytes.strip_prefix(MAGIC)?.split_at_checked(4 * NUMBERS)?;
     let words = head.chunks_exact(4);
-    let mut numbers: Vec<u32> = words.map(|word| u32::from_le_bytes([word[0], word[1], word[2], word[3]])).collect();
-    numbers[CHECK_ANSWER_AT] = numbers[CHECK_ANSWER_AT].saturating_add(lengthened);
-    Some((numbers, files))
-}
-
-fn count(numbers: &[u32], place: usize) -> Option<usize> {
-    (numbers[place] <= MOST_LENGTH).then_some(numbers[place] as usize)
-}
-
-/// All lengths but the planner's.
-fn lengths_of(numbers: &[u32]) -> Option<Lengths> {
-    let one = |place: usize| count(numbers, place);
-    let six = |first: usize| -> Option<[usize; 6]> {
-        let six: Option<Vec<usize>> = (first..first + 6).map(one).collect();
-        six?.try_into().ok()
+    let numbers: Vec<u32> = words.map(|word| u32::from_le_bytes([word[0], word[1], word[2], word[3]])).collect();
+    let mut numbers = Numbers(numbers.into_iter());
+    let call = TripCall { from: numbers.next(), to: numbers.next(), departure: numbers.next() };
+    let pack = Header {
+        number: numbers.next(),
+        period: numbers.next(),
+        nodes: numbers.next(),
+        arcs: numbers.next(),
+        cells: numbers.next(),
+        points: numbers.next(),
+        hours: numbers.next(),
     };
-    Some(Lengths {
-        arrivals: one(9)?,
-        roads: one(10)?,
-        trip_answer: one(11)?,
-        lists_answer: one(12)?,
-        check_answer: one(CHECK_ANSWER_AT)?,
-        open_answer: one(14)?,
-        pack_answer: one(15)?,
-        pack_out: one(16)?,
-        open_tables: six(17)?,
-        pack_tables: six(23)?,
+    let mut lengths = Lengths {
+        arrivals: numbers.length()?,
+        roads: numbers.length()?,
+        trip_answer: numbers.length()?,
+        lists_answer: numbers.length()?,
+        check_answer: numbers.length()?,
+        open_answer: numbers.length()?,
+        pack_answer: numbers.length()?,
+        pack_out: numbers.length()?,
+        open_tables: numbers.table_lengths()?,
+        pack_tables: numbers.table_lengths()?,
         make: NO_LISTS,
-        make_answer: MAKE_ANSWER + 1,
-    })
+        make_answer: 0,
+    };
+    let (network, plan) = files.split_at_checked(numbers.length()?)?;
+    (plan.len() == numbers.length()?).then_some(())?;
+    lengths.make = MakeLengths { work: numbers.length()?, out: numbers.length()? };
+    lengths.make_answer = numbers.length()?;
+    Some(Input { network: network.to_vec(), plan: plan.to_vec(), call, pack, lengths })
 }
 
 /// A kept text, the call it is for, and the outcome by hand.

@@ -3,15 +3,17 @@
 //! how many trips of valid cases tell wish 2's rule for ties from others: each has to be told from it.
 
 mod finds;
+mod hours;
 mod plans;
 
 use crate::library::*;
 use crate::oracle::{Unlike, RULES};
 use finds::Finds;
+use hours::Hours;
 use plans::DamagedPlans;
 
-/// Refusals up to 36; 32 is the run sheet's.
-const NUMBERS: usize = 37;
+/// Refusals up to 37; 32 is the run sheet's.
+const NUMBERS: usize = 38;
 
 pub struct Coverage {
     alone: [[u64; NUMBERS]; COUNT],
@@ -21,6 +23,7 @@ pub struct Coverage {
     unlike: [[u64; RULES.len()]; 2],
     pub plans: DamagedPlans,
     pub finds: Finds,
+    pub hours: Hours,
 }
 
 const TRIPS: [&str; 2] = ["plain", "flagged"];
@@ -34,6 +37,7 @@ impl Default for Coverage {
             unlike: [[0; RULES.len()]; 2],
             plans: DamagedPlans::default(),
             finds: Finds::default(),
+            hours: Hours::default(),
         }
     }
 }
@@ -71,6 +75,7 @@ impl Coverage {
         }
         self.plans.add(&other.plans);
         self.finds.add(&other.finds);
+        self.hours.add(&other.hours);
     }
 
     pub fn print(&self) {
@@ -131,11 +136,11 @@ fn can_take_another_way(trip: usize, rule: usize) -> bool {
 /// shorter than N (no 27), and 1,032 answer bytes hold the 511 roads of the longest way there can be (no 29).
 /// 31 is an answer list that is too short, for pack, the planner and the import also the out-bytes.
 fn possible(operation: usize) -> Vec<u32> {
-    let network = 1..=10;
+    let network = (1..=10).chain([37]);
     let plan = 11..=19;
     match operation {
         OPEN => network.chain([30, 31]).collect(),
-        PACK => [4].into_iter().chain(7..=10).chain([30, 31]).collect(),
+        PACK => [4].into_iter().chain(7..=10).chain([30, 31, 37]).collect(),
         CHECK => network.chain(plan).chain(20..=24).chain([31]).collect(),
         PLAIN => network.chain([25, 26, 28, 31]).collect(),
         FLAGGED => network.chain(plan).chain([25, 26, 28, 31]).collect(),

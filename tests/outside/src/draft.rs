@@ -44,6 +44,19 @@ impl NetworkDraft {
         network::write(&self.header, &self.tables)
     }
 
+    /// The same town with these hours, open and close by node.
+    pub fn hold_hours(&mut self, hours: &[(u16, u16)]) {
+        self.header.hours = 1;
+        self.tables.opens = hours.iter().map(|hours| hours.0).collect();
+        self.tables.closes = hours.iter().map(|hours| hours.1).collect();
+    }
+
+    /// The same town without hours.
+    pub fn drop_hours(&mut self) {
+        self.header.hours = 0;
+        self.tables.open_all_day(self.header.period as u16);
+    }
+
     /// The number of an arc's first point, by the counts as they stand.
     pub fn first_point(&self, arc: usize) -> usize {
         self.tables.counts[..arc].iter().map(|&count| usize::from(count)).sum()

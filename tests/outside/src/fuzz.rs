@@ -7,13 +7,15 @@ use crate::case::generate;
 use crate::compare::{compare, Verdict};
 use crate::corpus::{read_folder, to_bytes};
 use crate::damage::{flip, mend_all, zero_for_all_ones};
+use crate::generate::hours::hours;
 use crate::generate::Size;
 use crate::input::Input;
-use crate::library::{FLAGGED_LISTS, ON_NETWORKS, PLAIN_LISTS};
+use crate::library::{FLAGGED_LISTS, ON_NETWORKS, OPEN, PACK, PLAIN_LISTS};
 use crate::oracle::unlike;
 use crate::quay;
 use crate::reference::blocks::BLOCK;
-use crate::reference::trips::TripCall;
+use crate::reference::network::TABLES;
+use crate::reference::trips::{plain_trip, ListLengths, TripCall};
 use crate::rng::Rng;
 use crate::runner::{CaseName, Series};
 use crate::watch;
@@ -23,12 +25,12 @@ use std::time::{Duration, Instant};
 use std::{fs, io};
 
 /// The folder's files stay below this in all.
-const MOST_BYTES: usize = 360_000;
+const MOST_BYTES: usize = 440_000;
 /// Inputs are kept only if their files have at most this many blocks together.
 const MOST_BLOCKS: usize = 8;
 
 /// Operation, refusal, and how far on its first two places are; for a trip that arrives, which rules for ties
-/// it tells from wish 2's.
+/// it tells from wish 2's, and how far off its target's open tick is.
 type Reached = (usize, u32, u32, u32);
 
 /// An input that was new when it came, and what it reaches.
@@ -157,7 +159,11 @@ impl Fuzzer<'_> {
 
 fn quay_call(rng: &mut Rng) -> Input {
     let call = TripCall { from: rng.below(4) as u32, to: rng.below(4) as u32, departure: rng.below(10) as u32 };
-    quay::input(&quay::drafts(), call)
+    let mut drafts = quay::drafts();
+    if rng.once_in(2) {
+        drafts.network.hold_hours(&hours(rng, 10, 4));
+    }
+    quay::input(&drafts, call)
 }
 
 /// 0, 1 and more are told apart: what matters of a place is whether it was the first.
@@ -165,9 +171,25 @@ fn combinations(input: &Input, verdict: &Verdict) -> Vec<Reached> {
     (0..ON_NETWORKS)
         .map(|operation| match verdict.predicted[operation] {
             Some(refusal) => (operation, refusal.number, refusal.places[0].min(2), refusal.places[1].min(1)),
-            None => (operation, 0, rules_told(operation, input, verdict), 0),
+            None => (operation, 0, rules_told(operation, input, verdict), hours_told(operation, input, verdict)),
         })
         .collect()
+}
+
+/// Whether hours are held, for open and pack; for the plain trip with lists, whether its target opens at
+/// once, later that day or on the next.
+fn hours_told(operation: usize, input: &Input, verdict: &Verdict) -> u32 {
+    match (operation, &verdict.opened) {
+        (OPEN, Ok(network)) => network.header.hours,
+        (PACK, _) => input.pack.hours,
+        (PLAIN_LISTS, Ok(network)) => {
+            let lists = ListLengths { arrivals: network.nodes(), roads: network.nodes() };
+            let Ok(arrived) = plain_trip(network, input.call, lists).answer else { return 0 };
+            let day = |tick: u32| tick / network.header.period;
+            u32::from(arrived.open > arrived.tick) + u32::from(day(arrived.open) > day(arrived.tick))
+        }
+        _ => 0,
+    }
 }
 
 /// A bit for each rule that would take another way; 0 where the operation is none of the trips with lists.
@@ -244,7 +266,7 @@ fn resize(rng: &mut Rng, file: &mut Vec<u8>) {
 }
 
 fn mutate_call(rng: &mut Rng, input: &mut Input) {
-    let number = match rng.below(9) {
+    let number = match rng.below(10) {
         0 => &mut input.call.from,
         1 => &mut input.call.to,
         2 => &mut input.call.departure,
@@ -253,6 +275,7 @@ fn mutate_call(rng: &mut Rng, input: &mut Input) {
         5 => &mut input.pack.nodes,
         6 => &mut input.pack.arcs,
         7 => &mut input.pack.cells,
+        8 => &mut input.pack.hours,
         _ => &mut input.pack.points,
     };
     *number = match rng.below(4) {
@@ -265,7 +288,7 @@ fn mutate_call(rng: &mut Rng, input: &mut Input) {
 
 fn mutate_lengths(rng: &mut Rng, input: &mut Input) {
     let lengths = &mut input.lengths;
-    let table = rng.below(6);
+    let table = rng.below(TABLES);
     let length = match rng.below(13) {
         0 => &mut lengths.arrivals,
         1 => &mut lengths.roads,

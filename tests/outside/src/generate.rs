@@ -1,6 +1,7 @@
 //! Seeded valid towns of every shape document 01 allows, from one node without an arc to a full town, and
 //! among them towns full of ties. Sizes are what a run can afford; `planner` makes the exact plans for them.
 
+pub mod hours;
 mod ties;
 
 use crate::draft::NetworkDraft;
@@ -46,8 +47,14 @@ pub fn town(rng: &mut Rng, size: Size) -> NetworkDraft {
         arcs: tables.from.len() as u32,
         cells: shape.cells as u32,
         points: tables.ticks.len() as u32,
+        hours: 0,
     };
-    NetworkDraft { header, tables }
+    tables.open_all_day(shape.period as u16);
+    let mut draft = NetworkDraft { header, tables };
+    if rng.once_in(2) {
+        draft.hold_hours(&hours::hours(rng, shape.period, shape.nodes));
+    }
+    draft
 }
 
 fn shape(rng: &mut Rng, size: Size) -> Shape {

@@ -21,6 +21,8 @@ pub type Arc = (u32, u32, u32);
 pub fn shown(nodes: u32, arcs: &[Arc]) -> Tables {
     Tables {
         cells: vec![0; nodes as usize],
+        opens: vec![0; nodes as usize],
+        closes: vec![2_880; nodes as usize],
         from: arcs.iter().map(|arc| arc.0 as u16 - 1).collect(),
         to: arcs.iter().map(|arc| arc.1 as u16 - 1).collect(),
         counts: vec![1; arcs.len()],
@@ -32,7 +34,7 @@ pub fn shown(nodes: u32, arcs: &[Arc]) -> Tables {
 /// The file that the import has to write.
 pub fn file_of(number: u32, nodes: u32, arcs: &[Arc]) -> Vec<u8> {
     let count = arcs.len() as u32;
-    let header = Header { number, period: 2_880, nodes, arcs: count, cells: 1, points: count };
+    let header = Header { number, period: 2_880, nodes, arcs: count, cells: 1, points: count, hours: 0 };
     network::write(&header, &shown(nodes, arcs))
 }
 

@@ -5,7 +5,7 @@
 use crate::library::{CHECK_ANSWER, LISTS_ANSWER, MAKE_ANSWER, OPEN_ANSWER, PACK_ANSWER, TRIP_ANSWER_BYTES};
 use crate::made;
 use crate::reference::make_plan::MakeLengths;
-use crate::reference::network::{read_header, read_tables, Header, Tables};
+use crate::reference::network::{read_header, read_tables, Header, Tables, HOURS_AT, TABLES};
 use crate::reference::trips::TripCall;
 
 /// How many entries each lent list has.
@@ -19,8 +19,8 @@ pub struct Lengths {
     pub open_answer: usize,
     pub pack_answer: usize,
     pub pack_out: usize,
-    pub open_tables: [usize; 6],
-    pub pack_tables: [usize; 6],
+    pub open_tables: [usize; TABLES],
+    pub pack_tables: [usize; TABLES],
     /// The planner's work list and out-bytes.
     pub make: MakeLengths,
     pub make_answer: usize,
@@ -50,7 +50,7 @@ impl Input {
 
     /// Makes pack's numbers and table lengths those of the network file as it stands now.
     pub fn pack_what_the_network_says(&mut self, spare: usize) {
-        self.pack = if self.network.len() < 24 { NO_HEADER } else { read_header(&self.network) };
+        self.pack = if self.network.len() <= HOURS_AT { NO_HEADER } else { read_header(&self.network) };
         let tables = read_tables(&self.network);
         self.lengths.pack_tables = tables.in_order().map(|table| table.len() + spare);
         self.lengths.pack_out = self.network.len() + spare;
@@ -64,7 +64,7 @@ impl Input {
     }
 
     /// An input whose lists are all long enough for any town, `spare` entries beyond what is named.
-    pub fn roomy(network: Vec<u8>, plan: Vec<u8>, call: TripCall, open_tables: [usize; 6], spare: usize) -> Input {
+    pub fn roomy(network: Vec<u8>, plan: Vec<u8>, call: TripCall, open_tables: [usize; TABLES], spare: usize) -> Input {
         let mut input = Input {
             network,
             plan,
@@ -80,7 +80,7 @@ impl Input {
                 pack_answer: PACK_ANSWER + spare,
                 pack_out: 0,
                 open_tables: open_tables.map(|length| length + spare),
-                pack_tables: [0; 6],
+                pack_tables: [0; TABLES],
                 make: NO_LISTS,
                 make_answer: MAKE_ANSWER + spare,
             },
@@ -91,5 +91,5 @@ impl Input {
     }
 }
 
-const NO_HEADER: Header = Header { number: 0, period: 0, nodes: 0, arcs: 0, cells: 0, points: 0 };
+const NO_HEADER: Header = Header { number: 0, period: 0, nodes: 0, arcs: 0, cells: 0, points: 0, hours: 0 };
 pub const NO_LISTS: MakeLengths = MakeLengths { work: 0, out: 0 };

@@ -9,6 +9,7 @@ mod damage;
 mod draft;
 mod fuzz;
 mod generate;
+mod hours;
 mod import;
 mod input;
 mod library;
@@ -33,14 +34,17 @@ use std::time::Instant;
 
 /// The run without arguments: about 100 seconds of processor time.
 const DEFAULT_SEED: u64 = 20_261_115;
-const DEFAULT_CASES: u64 = 110_000;
+const DEFAULT_CASES: u64 = 100_000;
 const DEFAULT_LARGE: u64 = 550;
 const DEFAULT_IMPORTS: u64 = 20_000;
 const DEFAULT_PLANS: u64 = 1_200;
+const DEFAULT_HOURS: u64 = 300;
 /// Below this many small cases a run may miss a refusal by chance, and is not held to all of them.
 const CASES_THAT_MEET_ALL: u64 = 40_000;
 /// Below this many towns with damaged plans the same holds of the verdicts on these.
 const PLANS_THAT_MEET_ALL: u64 = 1_000;
+/// Below this many towns with hours the same holds of how arrivals lie to the hours.
+const HOURS_THAT_MEET_ALL: u64 = 100;
 
 enum Mode {
     Cases(Counts),
@@ -56,6 +60,7 @@ struct Counts {
     large: u64,
     imports: u64,
     plans: u64,
+    hours: u64,
 }
 
 struct Arguments {
@@ -65,7 +70,7 @@ struct Arguments {
 
 fn main() -> ExitCode {
     let Some(arguments) = parse(std::env::args().skip(1)) else {
-        println!("usage: outside [--seed S] [--cases N] [--large M] [--imports I] [--plans D]");
+        println!("usage: outside [--seed S] [--cases N] [--large M] [--imports I] [--plans D] [--hours H]");
         println!("               [--only CASE] [--planted N] [--replay DIR] [--fuzz DIR [--seconds T]]");
         return ExitCode::from(2);
     };
@@ -74,7 +79,9 @@ fn main() -> ExitCode {
         Mode::Cases(counts) => run_cases(arguments.seed, &counts),
         Mode::Only(name) => run_only(arguments.seed, name),
         Mode::Planted(cases) => {
-            import::planted::run(arguments.seed, cases) + plans::planted::run(arguments.seed, cases)
+            import::planted::run(arguments.seed, cases)
+                + plans::planted::run(arguments.seed, cases)
+                + hours::planted::run(arguments.seed, cases / 4)
         }
         Mode::Replay(folder) => corpus::replay(&folder).expect("the corpus folder can be read"),
         Mode::Fuzz { folder, seconds } => {
@@ -90,6 +97,7 @@ fn parse(mut words: impl Iterator<Item = String>) -> Option<Arguments> {
     let mut large = None;
     let mut imports = None;
     let mut plans = None;
+    let mut hours = None;
     let mut other = None;
     let mut seconds = None;
     while let Some(word) = words.next() {
@@ -100,6 +108,7 @@ fn parse(mut words: impl Iterator<Item = String>) -> Option<Arguments> {
             "--large" => large = Some(value.parse().ok()?),
             "--imports" => imports = Some(value.parse().ok()?),
             "--plans" => plans = Some(value.parse().ok()?),
+            "--hours" => hours = Some(value.parse().ok()?),
             "--planted" => other = Some(Mode::Planted(value.parse().ok()?)),
             "--only" => other = Some(Mode::Only(CaseName::parse(&value)?)),
             "--replay" => other = Some(Mode::Replay(PathBuf::from(value))),
@@ -112,13 +121,14 @@ fn parse(mut words: impl Iterator<Item = String>) -> Option<Arguments> {
         Some(Mode::Fuzz { folder, .. }) => Mode::Fuzz { folder, seconds },
         Some(mode) => mode,
         None => {
-            let nothing_said = [cases, large, imports, plans].iter().all(Option::is_none);
+            let nothing_said = [cases, large, imports, plans, hours].iter().all(Option::is_none);
             let count = |said: Option<u64>, usual| said.unwrap_or(if nothing_said { usual } else { 0 });
             Mode::Cases(Counts {
                 cases: count(cases, DEFAULT_CASES),
                 large: count(large, DEFAULT_LARGE),
                 imports: count(imports, DEFAULT_IMPORTS),
                 plans: count(plans, DEFAULT_PLANS),
+                hours: count(hours, DEFAULT_HOURS),
             })
         }
     };
@@ -150,6 +160,7 @@ fn run_cases(seed: u64, counts: &Counts) -> u64 {
         (Series::Large, counts.large, "large cases"),
         (Series::Imports, counts.imports, "imports"),
         (Series::Plans, counts.plans, "towns with damaged plans"),
+        (Series::Hours, counts.hours, "towns with hours"),
     ];
     for (series, count, what) in parts {
         let started = Instant::now();
@@ -159,6 +170,7 @@ fn run_cases(seed: u64, counts: &Counts) -> u64 {
     runner.coverage.print();
     runner.coverage.plans.print();
     runner.coverage.finds.print();
+    runner.coverage.hours.print();
     differences += runner.differences;
     differences += missing(&runner, counts);
     let count: u64 = parts.iter().map(|(_, count, _)| count).sum();
@@ -172,6 +184,7 @@ fn missing(runner: &Runner, counts: &Counts) -> u64 {
     let held = [
         (counts.cases >= CASES_THAT_MEET_ALL, "small cases", coverage.missing()),
         (counts.plans >= PLANS_THAT_MEET_ALL, "towns with damaged plans", coverage.plans.missing()),
+        (counts.hours >= HOURS_THAT_MEET_ALL, "towns with hours", coverage.hours.missing()),
     ];
     let mut missing = 0;
     for (enough, what, texts) in held {

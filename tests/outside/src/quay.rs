@@ -2,6 +2,7 @@
 //! ways that wish 2 gives it and the travels and the plan that wish 5 does.
 
 mod damaged;
+mod hours;
 
 use crate::compare::compare;
 use crate::draft::{Drafts, NetworkDraft, PlanDraft, PlanHeader};
@@ -17,9 +18,11 @@ const ANY_LIST: ListLengths = ListLengths { arrivals: 512, roads: 512 };
 
 pub fn drafts() -> Drafts {
     let network = NetworkDraft {
-        header: Header { number: 1, period: 10, nodes: 4, arcs: 4, cells: 2, points: 5 },
+        header: Header { number: 1, period: 10, nodes: 4, arcs: 4, cells: 2, points: 5, hours: 0 },
         tables: Tables {
             cells: vec![0, 0, 1, 1],
+            opens: vec![0; 4],
+            closes: vec![10; 4],
             from: vec![0, 1, 0, 2],
             to: vec![1, 2, 2, 3],
             counts: vec![1, 2, 1, 1],
@@ -38,7 +41,7 @@ pub fn drafts() -> Drafts {
 }
 
 pub fn input(drafts: &Drafts, call: TripCall) -> Input {
-    Input::roomy(drafts.network.file(), drafts.plan.file(), call, [4, 4, 4, 4, 5, 5], 2)
+    Input::roomy(drafts.network.file(), drafts.plan.file(), call, [4, 4, 4, 4, 4, 4, 5, 5], 2)
 }
 
 /// Every row that does not hold, and every difference met on the way.
@@ -49,6 +52,7 @@ pub fn failures() -> Vec<String> {
     changed_ways(&mut failures);
     altered_towns(&mut failures);
     damaged::damaged_plans(&mut failures);
+    hours::hours(&mut failures);
     failures
 }
 
@@ -90,7 +94,7 @@ fn trip(failures: &mut Vec<String>, call: TripCall, wanted: Result<Arrived, Refu
 
 /// Document 01's rows as wishes 2 and 5 have them, and then all pairs and ticks.
 fn trips(failures: &mut Vec<String>) {
-    let arrives = |tick, roads: &[u16]| Ok(Arrived { tick, roads: roads.to_vec() });
+    let arrives = |tick, roads: &[u16]| Ok(Arrived { tick, open: tick, roads: roads.to_vec() });
     let no_way = Err(Refusal { number: 28, places: [0; 3] });
     trip(failures, TripCall { from: 0, to: 3, departure: 0 }, arrives(7, &[2, 3]));
     trip(failures, TripCall { from: 0, to: 3, departure: 1 }, arrives(8, &[2, 3]));

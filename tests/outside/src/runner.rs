@@ -2,19 +2,20 @@
 //! functions and, where the town is small enough, past the oracles. Towns made on purpose are cases too, and
 //! so are the texts for the import.
 
+mod hours;
 mod plans;
 mod texts;
 mod tie_town;
 mod town;
 
 use crate::case::{generate, Case};
-use crate::compare::{compare, compare_all_trips, Verdict};
+use crate::compare::{compare_all, compare_all_trips, Verdict};
 use crate::coverage::Coverage;
 use crate::damage::{self, damaged, Fault, Intended, Kind};
 use crate::generate::Size;
 use crate::import;
 use crate::input::Input;
-use crate::library::{import_dimacs, varnwalnut_check_plan, Check, Import, CHECK, ON_NETWORKS, OPERATIONS};
+use crate::library::{import_dimacs, Check, Functions, Import, CHECK, LINKED, ON_NETWORKS, OPERATIONS};
 use crate::made::Written;
 use crate::oracle::{judge_chosen_ways, judge_flags_by_ways, judge_made_plan, judge_plan};
 use crate::oracle::{judge_ways_with_waits, trips_are_plain, unlike};
@@ -35,11 +36,21 @@ pub enum Series {
     Imports,
     /// Towns with plans damaged on purpose.
     Plans,
+    /// Towns with hours.
+    Hours,
 }
 
 impl Series {
-    pub const ALL: [Series; 7] =
-        [Series::Small, Series::Large, Series::Towns, Series::Ways, Series::Texts, Series::Imports, Series::Plans];
+    pub const ALL: [Series; 8] = [
+        Series::Small,
+        Series::Large,
+        Series::Towns,
+        Series::Ways,
+        Series::Texts,
+        Series::Imports,
+        Series::Plans,
+        Series::Hours,
+    ];
 
     pub fn letter(self) -> char {
         match self {
@@ -50,13 +61,14 @@ impl Series {
             Series::Texts => 'd',
             Series::Imports => 'i',
             Series::Plans => 'p',
+            Series::Hours => 'h',
         }
     }
 
     /// How many towns or texts there are, in a series of those made on purpose.
     pub fn made_on_purpose(self) -> Option<u64> {
         match self {
-            Series::Small | Series::Large | Series::Imports | Series::Plans => None,
+            Series::Small | Series::Large | Series::Imports | Series::Plans | Series::Hours => None,
             Series::Towns => Some(towns::COUNT),
             Series::Ways => Some(towns::ties::COUNT),
             Series::Texts => Some((import::by_hand::COUNT + import::every::COUNT) as u64),
@@ -100,6 +112,7 @@ impl CaseName {
         match self.series {
             Series::Imports => self.number | 1 << 63,
             Series::Plans => self.number | 1 << 62,
+            Series::Hours => self.number | 1 << 61,
             _ => self.number << 1 | u64::from(self.series == Series::Large),
         }
     }
@@ -114,10 +127,10 @@ pub struct Runner {
     text_kinds: Vec<import::damage::Kind>,
     /// The import under test. Without one the reference alone is held to what is known of the texts.
     import: Option<Import>,
-    /// The check under test, where it is tried alone.
-    check: Check,
-    /// One of both is a stand-in: its differences are wanted, so they are not printed, and the library is left
-    /// alone.
+    /// The functions on networks under test.
+    functions: Functions,
+    /// One of them is a stand-in: its differences are wanted, so they are not printed, and the library is
+    /// left alone.
     stands_in: bool,
 }
 
@@ -141,7 +154,7 @@ impl Trial<'_> {
     }
 
     fn compare(&mut self, input: &Input, oracles: bool) -> Verdict {
-        let verdict = compare(input);
+        let verdict = compare_all(self.runner.functions, input);
         for text in &verdict.differences {
             self.differ(text);
         }
@@ -179,7 +192,9 @@ impl Trial<'_> {
 
     /// All trips under the input's plan.
     fn compare_all_trips(&mut self, input: &Input, verdict: &Verdict) {
-        for text in compare_all_trips(input, verdict) {
+        let holds_hours = verdict.opened.as_ref().is_ok_and(|network| network.header.hours == 1);
+        let lists = holds_hours || self.name.series == Series::Hours;
+        for text in compare_all_trips(self.runner.functions, input, verdict, lists) {
             self.differ(&text);
         }
     }
@@ -209,7 +224,7 @@ impl Runner {
             kinds: damage::kinds(),
             text_kinds: import::damage::kinds(),
             import: import_dimacs(),
-            check: varnwalnut_check_plan,
+            functions: LINKED,
             stands_in: false,
         }
     }
@@ -221,8 +236,13 @@ impl Runner {
     }
 
     /// Tries a stand-in for the library's check.
-    pub fn stand_in_for_the_check(&mut self, check: Check) {
-        self.check = check;
+    pub fn stand_in_for_the_check(&mut self, check_plan: Check) {
+        self.stand_in_for_all(Functions { check_plan, ..LINKED });
+    }
+
+    /// Tries stand-ins for the library's functions on networks.
+    pub fn stand_in_for_all(&mut self, functions: Functions) {
+        self.functions = functions;
         self.stands_in = true;
     }
 
@@ -233,6 +253,7 @@ impl Runner {
             Series::Texts => self.run_text(name),
             Series::Imports => self.run_import(name),
             Series::Plans => self.run_plans(name),
+            Series::Hours => self.run_hours(name),
             Series::Small | Series::Large => self.run_generated(name),
         }
     }

@@ -79,6 +79,7 @@ pub fn draft(period: u16, cell_count: u16, cells: &[u16], roads: &[Road]) -> Net
         tables.ticks.extend(points.iter().map(|point| point.0));
         tables.travels.extend(points.iter().map(|point| point.1));
     }
+    tables.open_all_day(period);
     let header = Header {
         number: 0x5741_4C4E,
         period: period.into(),
@@ -86,6 +87,7 @@ pub fn draft(period: u16, cell_count: u16, cells: &[u16], roads: &[Road]) -> Net
         arcs: roads.len() as u32,
         cells: cell_count.into(),
         points: tables.ticks.len() as u32,
+        hours: 0,
     };
     NetworkDraft { header, tables }
 }

@@ -13,14 +13,14 @@ slice-aggregate-plain-trip-2 c = search needs
 plain-trip-requires : tie.Need-plain-trip-requires
 plain-trip-requires c κs = search needs
 
-enum-known-a : tie.Need-enum-known-a
-enum-known-a c = search needs
+enum-known-answer : tie.Need-enum-known-answer
+enum-known-answer c = search needs
 
 sub-result : tie.Need-sub-result
 sub-result c = search needs
 
-enum-known-r : tie.Need-enum-known-r
-enum-known-r c = search needs
+enum-known-answer-2 : tie.Need-enum-known-answer-2
+enum-known-answer-2 c = search needs
 
 returns : tie.Need-returns
 returns c = search travels
@@ -38,9 +38,9 @@ travel-at-spec =
     slice-aggregate-plain-trip
     slice-aggregate-plain-trip-2
     plain-trip-requires
-    enum-known-a
+    enum-known-answer
     sub-result
-    enum-known-r
+    enum-known-answer-2
     returns
     returns-2
     returns-3)

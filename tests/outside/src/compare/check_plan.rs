@@ -20,13 +20,14 @@ pub struct Checked {
 pub type TellsFinds = Option<(u64, FindBounds)>;
 
 /// The check alone. The same files elsewhere in memory have to get the same answer.
-pub fn compare_check(check: Check, input: &Input, opened: &Result<Network, Refusal>) -> Checked {
+pub fn compare_check(functions: Functions, input: &Input, opened: &Result<Network, Refusal>) -> Checked {
     let planned = opened.as_ref().map_err(|refusal| *refusal).and_then(|network| plan::open(network, &input.plan));
-    let mut run = Run { check, ..Run::new(input, opened, &planned, None) };
+    let mut run = Run { functions, ..Run::new(input, opened, &planned, None) };
     let refused = run.predict_check().err();
     let (call, finds) = run.expect_check(refused);
     let length = input.lengths.check_answer;
-    let again = Call::check(check, &Lent::holding(&input.network, 5), &Lent::holding(&input.plan, 10), length);
+    let again =
+        Call::check(functions.check_plan, &Lent::holding(&input.network, 5), &Lent::holding(&input.plan, 10), length);
     let answers = [&call, &again].map(|call| (call.returned, call.answer.first(length)));
     if answers[0] != answers[1] {
         run.differ(CHECK, format!("the same files get two answers: {answers:?}"));
@@ -76,7 +77,7 @@ impl Run<'_> {
     }
 
     fn expect_check(&mut self, refused: Predicted) -> (Call, TellsFinds) {
-        let call = Call::check(self.check, &self.network, &self.plan, self.input.lengths.check_answer);
+        let call = Call::check(self.functions.check_plan, &self.network, &self.plan, self.input.lengths.check_answer);
         self.expect_return(CHECK, call.returned, refused);
         let bounds = self.find_bounds(refused);
         self.expect_check_answer(&call, refused, bounds);

@@ -28,10 +28,11 @@ impl Run<'_> {
         let mut work = Lent::<u32>::blank(lengths.lists.work);
         let mut out = Lent::<u8>::blank(lengths.lists.out);
         let mut answer = Lent::<u32>::blank(lengths.answer);
+        let make_plan = self.functions.make_plan;
         // SAFETY: each pointer leads to as many entries as its count says, and no two lists overlap.
         #[rustfmt::skip]
         let returned = unsafe {
-            varnwalnut_make_plan(
+            make_plan(
                 self.network.pointer(), self.network.length(),
                 work.pointer_mut(), work.length(),
                 out.pointer_mut(), out.length(),
@@ -67,7 +68,7 @@ impl Run<'_> {
         if wanted.is_some_and(|wanted| wanted.accepted.get()) {
             return;
         }
-        let call = Call::check(self.check, &self.network, &Lent::holding(file, 0), CHECK_ANSWER);
+        let call = Call::check(self.functions.check_plan, &self.network, &Lent::holding(file, 0), CHECK_ANSWER);
         if call.returned != 0 {
             let (returned, places) = (call.returned, call.answer.first(3));
             self.differ(MAKE, format!("the check refuses the plan made: {returned} at {places:?}"));

@@ -1,5 +1,5 @@
-//! Faults in a file's bytes, the same for network and plan: lengths, checks, forms, and bytes changed with the
-//! check mended or left. Refusals 1 to 3, 5 and 6, and 11 to 13, 15 and 16.
+//! Faults in a file's bytes, the same for network and plan: lengths, checks, forms, and bytes changed with
+//! the check mended or left. Refusals 1 to 3, 5 and 6, and 11 to 13, 15 and 16.
 
 use super::Intended::{Any, Gives};
 use super::{bytes, Fault, Files, Kind};
@@ -12,8 +12,12 @@ use crate::rng::Rng;
 pub fn kinds() -> Vec<Kind> {
     let mut kinds = file_kinds();
     kinds.extend([
-        Kind { name: "network: 555 blocks", intended: Gives(library::CHECK, &[1]), make: network_too_long },
-        Kind { name: "network: 554 blocks", intended: Any, make: network_longest },
+        Kind { name: "network: 559 blocks", intended: Gives(library::CHECK, &[1]), make: network_too_long },
+        Kind { name: "network: up to 558 blocks", intended: Gives(library::CHECK, &[5]), make: network_long },
+        Kind { name: "network: byte 24 above 1", intended: Gives(library::CHECK, &[4]), make: hours_above_1 },
+        Kind { name: "network: byte 24 turned", intended: Gives(library::CHECK, &[5, 6]), make: hours_turned },
+        Kind { name: "network: byte 25", intended: Gives(library::CHECK, &[3]), make: byte_25 },
+        Kind { name: "network: kind 2 for 9", intended: Gives(library::CHECK, &[6]), make: kind_of_places },
         Kind { name: "plan: 13,719 blocks", intended: Gives(library::CHECK, &[11]), make: plan_too_long },
         Kind { name: "plan given as network", intended: Any, make: plan_as_network },
         Kind { name: "network given as plan", intended: Gives(library::CHECK, &[13]), make: network_as_plan },
@@ -275,7 +279,7 @@ fn change_form(rng: &mut Rng, start: usize, used: usize, which: Which) -> Option
 
 fn first_form(rng: &mut Rng, _case: &Case, which: Which) -> Option<Fault> {
     let used = match which {
-        Which::Network => 16,
+        Which::Network => 17,
         Which::Plan => 20,
     };
     change_form(rng, 0, used, which)
@@ -288,7 +292,7 @@ fn later_form(rng: &mut Rng, case: &Case, which: Which) -> Option<Fault> {
     let start = rng.within(1, blocks - 1) * BLOCK;
     let width = match file[start] {
         2 | 7 => 2,
-        3 | 8 => 6,
+        3 | 8 | 9 => 6,
         4 => 4,
         _ => 8,
     };
@@ -324,8 +328,44 @@ fn network_too_long(_rng: &mut Rng, _case: &Case) -> Option<Fault> {
     bytes(|files| lengthen(&mut files.network, network::MOST_BLOCKS + 1))
 }
 
-fn network_longest(_rng: &mut Rng, _case: &Case) -> Option<Fault> {
-    bytes(|files| lengthen(&mut files.network, network::MOST_BLOCKS))
+/// As many blocks as a file without hours may have, one more, or as many as any may have.
+fn network_long(rng: &mut Rng, case: &Case) -> Option<Fault> {
+    let blocks = rng.pick(&[554, 555, network::MOST_BLOCKS]);
+    (case.drafts.network.file().len() < blocks * BLOCK).then_some(())?;
+    bytes(move |files| lengthen(&mut files.network, blocks))
+}
+
+/// Changes a byte of the network's first block, and mends it.
+fn change_first(files: &mut Files, at: usize, change: impl Fn(u8) -> u8) {
+    if let Some(byte) = files.network.get_mut(at) {
+        *byte = change(*byte);
+        mend_at(&mut files.network, at);
+    }
+}
+
+fn hours_above_1(rng: &mut Rng, _case: &Case) -> Option<Fault> {
+    let value = rng.pick(&[2, 2, 3, 9, 128, 129, 254, 255]);
+    bytes(move |files| change_first(files, network::HOURS_AT, |_| value))
+}
+
+/// Kind 2 where byte 24 is 1, or kind 9 where it is 0.
+fn hours_turned(_rng: &mut Rng, _case: &Case) -> Option<Fault> {
+    bytes(|files| change_first(files, network::HOURS_AT, |byte| byte ^ 1))
+}
+
+fn byte_25(rng: &mut Rng, _case: &Case) -> Option<Fault> {
+    let value = rng.pick(&[1, 1, 2, 255]);
+    bytes(move |files| change_first(files, network::HOURS_AT + 1, |_| value))
+}
+
+/// The first block of places gets the other kind, and byte 24 stays.
+fn kind_of_places(_rng: &mut Rng, _case: &Case) -> Option<Fault> {
+    bytes(|files| {
+        if let Some(kind) = files.network.get_mut(BLOCK) {
+            *kind = if *kind == 9 { 2 } else { 9 };
+            mend_at(&mut files.network, BLOCK);
+        }
+    })
 }
 
 /// Seven million bytes: tried seldom.

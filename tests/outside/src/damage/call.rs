@@ -1,9 +1,11 @@
-//! Faults in a call's numbers and in the lengths of lent lists: refusals 25 to 31 and 34, and pack's 4.
+//! Faults in a call's numbers and in the lengths of lent lists: refusals 25 to 31 and 34, and pack's 4 and
+//! 37.
 
 use super::Intended::{Any, Gives};
 use super::{call, Fault, Kind};
 use crate::case::Case;
 use crate::library::*;
+use crate::reference::network::TABLES;
 use crate::reference::trips::least_arrivals;
 use crate::rng::Rng;
 
@@ -24,6 +26,8 @@ pub fn kinds() -> Vec<Kind> {
         Kind { name: "pack's out-bytes too short", intended: Gives(PACK, &[31]), make: out_short },
         Kind { name: "pack's number outside its limit", intended: Gives(PACK, &[4]), make: pack_outside },
         Kind { name: "pack's number one off", intended: Any, make: pack_one_off },
+        Kind { name: "hours packed under 0", intended: Gives(PACK, &[37]), make: hours_under_0 },
+        Kind { name: "all day packed under 1", intended: Gives(PACK, &[0, 31]), make: all_day_under_1 },
         Kind { name: "trip's answer below 1,032 bytes", intended: Gives(PLAIN, &[31]), make: trip_answer_short },
         Kind { name: "lists' answer too short", intended: Gives(PLAIN_LISTS, &[31]), make: lists_answer_short },
         Kind { name: "check's answer too short", intended: Gives(CHECK, &[31]), make: check_answer_short },
@@ -107,7 +111,7 @@ fn roads_empty(_rng: &mut Rng, _case: &Case) -> Option<Fault> {
 }
 
 fn some_table(rng: &mut Rng, case: &Case) -> Option<(usize, usize)> {
-    let table = rng.below(6);
+    let table = rng.below(TABLES);
     let needed = case.network.header.table_lengths()[table];
     (needed > 0).then(|| (table, too_few(rng, needed)))
 }
@@ -128,7 +132,7 @@ fn out_short(rng: &mut Rng, case: &Case) -> Option<Fault> {
 }
 
 fn pack_outside(rng: &mut Rng, case: &Case) -> Option<Fault> {
-    let choice = rng.below(5);
+    let choice = rng.below(6);
     let header = case.network.header;
     let zero = rng.once_in(3);
     let (limit, good) = match choice {
@@ -136,6 +140,7 @@ fn pack_outside(rng: &mut Rng, case: &Case) -> Option<Fault> {
         1 => (513, header.nodes),
         2 => (2_049, header.arcs),
         3 => (65, header.cells),
+        4 => (2, header.hours),
         _ => (65_536, header.points),
     };
     let number = if zero && [0, 1, 3].contains(&choice) { 0 } else { beyond(rng, limit, good) };
@@ -146,13 +151,14 @@ fn pack_outside(rng: &mut Rng, case: &Case) -> Option<Fault> {
             1 => pack.nodes = number,
             2 => pack.arcs = number,
             3 => pack.cells = number,
+            4 => pack.hours = number,
             _ => pack.points = number,
         }
     })
 }
 
 fn pack_one_off(rng: &mut Rng, _case: &Case) -> Option<Fault> {
-    let choice = rng.below(6);
+    let choice = rng.below(7);
     let up = rng.once_in(2);
     call(move |input| {
         let pack = &mut input.pack;
@@ -162,10 +168,26 @@ fn pack_one_off(rng: &mut Rng, _case: &Case) -> Option<Fault> {
             2 => &mut pack.nodes,
             3 => &mut pack.arcs,
             4 => &mut pack.cells,
+            5 => &mut pack.hours,
             _ => &mut pack.points,
         };
         *number = if up { number.wrapping_add(1) } else { number.wrapping_sub(1) };
     })
+}
+
+/// Tables of a town with a place that is not open all day, and 0 for the hours.
+fn hours_under_0(_rng: &mut Rng, case: &Case) -> Option<Fault> {
+    let tables = &case.network.tables;
+    let all_day = tables.opens.iter().all(|&open| open == 0)
+        && tables.closes.iter().all(|&close| u32::from(close) == case.network.header.period);
+    (!all_day).then_some(())?;
+    call(|input| input.pack.hours = 0)
+}
+
+/// Tables of a town without hours, and 1 for the hours: the file may be longer.
+fn all_day_under_1(_rng: &mut Rng, case: &Case) -> Option<Fault> {
+    (case.network.header.hours == 0).then_some(())?;
+    call(|input| input.pack.hours = 1)
 }
 
 fn trip_answer_short(rng: &mut Rng, _case: &Case) -> Option<Fault> {

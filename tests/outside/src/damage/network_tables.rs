@@ -1,9 +1,11 @@
-//! Faults in a network's header numbers and tables: refusals 4 and 7 to 10, and numbers that no longer agree.
+//! Faults in a network's header numbers and tables: refusals 4, 7 to 10 and 37, and numbers that no longer
+//! agree.
 
 use super::Intended::{Any, Gives};
 use super::{tables, Fault, Kind};
 use crate::case::Case;
-use crate::library::CHECK;
+use crate::generate::hours::hours;
+use crate::library::{CHECK, OPEN};
 use crate::rng::Rng;
 
 pub fn kinds() -> Vec<Kind> {
@@ -15,6 +17,13 @@ pub fn kinds() -> Vec<Kind> {
         Kind { name: "period lowered", intended: Any, make: period_lowered },
         Kind { name: "cell at K", intended: Gives(CHECK, &[7]), make: cell_at_count },
         Kind { name: "cell exchanged for another", intended: Any, make: cell_exchanged },
+        Kind { name: "open at close", intended: Gives(CHECK, &[37]), make: open_at_close },
+        Kind { name: "open above close", intended: Gives(CHECK, &[37]), make: open_above_close },
+        Kind { name: "close above P", intended: Gives(CHECK, &[37]), make: close_above_period },
+        Kind { name: "close at P", intended: Gives(OPEN, &[0]), make: close_at_period },
+        Kind { name: "hours wrong in several places", intended: Gives(CHECK, &[37]), make: hours_wrong },
+        Kind { name: "hours exchanged for others", intended: Gives(OPEN, &[0]), make: other_hours },
+        Kind { name: "hours dropped", intended: Gives(OPEN, &[0]), make: hours_dropped },
         Kind { name: "arc end at N", intended: Gives(CHECK, &[8]), make: end_at_count },
         Kind { name: "arc to its own start", intended: Gives(CHECK, &[8]), make: loop_arc },
         Kind { name: "arc turned round", intended: Any, make: arc_turned },
@@ -52,7 +61,7 @@ fn some_later_point(rng: &mut Rng, case: &Case) -> Option<usize> {
 }
 
 fn outside_limit(rng: &mut Rng, _case: &Case) -> Option<Fault> {
-    let choice = rng.below(6);
+    let choice = rng.below(7);
     let high = rng.pick(&[0, 1, 100]);
     let zero = rng.once_in(2);
     tables(move |drafts| {
@@ -63,13 +72,14 @@ fn outside_limit(rng: &mut Rng, _case: &Case) -> Option<Fault> {
             2 => header.arcs = 2_049 + high,
             3 => header.cells = if zero { 0 } else { 65 + high },
             4 => header.points = 65_536 + high,
+            5 => header.hours = 2 + high,
             _ => header.points |= 0x8000_0000,
         }
     })
 }
 
 fn header_one_off(rng: &mut Rng, _case: &Case) -> Option<Fault> {
-    let choice = rng.below(5);
+    let choice = rng.below(6);
     let up = rng.once_in(2);
     tables(move |drafts| {
         let header = &mut drafts.network.header;
@@ -78,6 +88,7 @@ fn header_one_off(rng: &mut Rng, _case: &Case) -> Option<Fault> {
             1 => &mut header.nodes,
             2 => &mut header.arcs,
             3 => &mut header.cells,
+            4 => &mut header.hours,
             _ => &mut header.points,
         };
         *number = if up { number.wrapping_add(1) } else { number.saturating_sub(1) };
@@ -113,6 +124,76 @@ fn cell_exchanged(rng: &mut Rng, case: &Case) -> Option<Fault> {
     let node = rng.below(case.network.nodes());
     let cell = rng.below(case.network.header.cells as usize) as u16;
     tables(move |drafts| drafts.network.tables.cells[node] = cell)
+}
+
+/// A place of a town that holds hours.
+fn some_hall(rng: &mut Rng, case: &Case) -> Option<usize> {
+    (case.network.header.hours == 1).then(|| rng.below(case.network.nodes()))
+}
+
+fn open_at_close(rng: &mut Rng, case: &Case) -> Option<Fault> {
+    let node = some_hall(rng, case)?;
+    let late = rng.once_in(2);
+    tables(move |drafts| {
+        let tables = &mut drafts.network.tables;
+        let tick = if late { tables.closes[node] } else { tables.opens[node] };
+        (tables.opens[node], tables.closes[node]) = (tick, tick);
+    })
+}
+
+fn open_above_close(rng: &mut Rng, case: &Case) -> Option<Fault> {
+    let node = some_hall(rng, case)?;
+    let far = rng.once_in(3);
+    tables(move |drafts| {
+        let tables = &mut drafts.network.tables;
+        let (open, close) = (tables.opens[node], tables.closes[node]);
+        (tables.opens[node], tables.closes[node]) = if far { (u16::MAX, close) } else { (close, open) };
+    })
+}
+
+fn close_above_period(rng: &mut Rng, case: &Case) -> Option<Fault> {
+    let node = some_hall(rng, case)?;
+    let period = case.network.header.period as u16;
+    let close = rng.pick(&[period + 1, period + 1, period + 256, u16::MAX]);
+    let open_too = rng.once_in(4);
+    tables(move |drafts| {
+        let tables = &mut drafts.network.tables;
+        tables.closes[node] = close;
+        if open_too {
+            tables.opens[node] = period;
+        }
+    })
+}
+
+fn close_at_period(rng: &mut Rng, case: &Case) -> Option<Fault> {
+    let node = some_hall(rng, case)?;
+    let period = case.network.header.period as u16;
+    tables(move |drafts| drafts.network.tables.closes[node] = period)
+}
+
+fn hours_wrong(rng: &mut Rng, case: &Case) -> Option<Fault> {
+    let first = some_hall(rng, case)?;
+    let period = case.network.header.period as u16;
+    let wrong = [(0, 0), (1, 0), (period, period), (period, period + 1), (0, period + 1), (u16::MAX, 0)];
+    let wrong: Vec<(usize, (u16, u16))> = (0..4)
+        .map(|number| (if number == 0 { first } else { rng.below(case.network.nodes()) }, rng.pick(&wrong)))
+        .collect();
+    tables(move |drafts| {
+        for &(node, hours) in &wrong {
+            let tables = &mut drafts.network.tables;
+            (tables.opens[node], tables.closes[node]) = hours;
+        }
+    })
+}
+
+fn other_hours(rng: &mut Rng, case: &Case) -> Option<Fault> {
+    let others = hours(rng, case.network.header.period as usize, case.network.nodes());
+    tables(move |drafts| drafts.network.hold_hours(&others))
+}
+
+fn hours_dropped(_rng: &mut Rng, case: &Case) -> Option<Fault> {
+    (case.network.header.hours == 1).then_some(())?;
+    tables(|drafts| drafts.network.drop_hours())
 }
 
 fn end_at_count(rng: &mut Rng, case: &Case) -> Option<Fault> {

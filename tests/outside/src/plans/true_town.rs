@@ -1,6 +1,7 @@
 //! A town with an exact plan, and what is true of it: least travels, and which roads give them when.
 
 use super::towns;
+use crate::generate::hours::hours;
 use crate::planner::{all_cells, at_every_tick, even_runs, few_flags, few_points, given, lines_through};
 use crate::planner::{Exact, Points};
 use crate::reference::network::{self, Network};
@@ -23,7 +24,11 @@ pub struct TrueTown {
 
 impl TrueTown {
     pub fn generate(rng: &mut Rng, number: u64) -> TrueTown {
-        let file = towns::town(rng, number).file();
+        let mut draft = towns::town(rng, number);
+        if rng.once_in(2) {
+            draft.hold_hours(&hours(rng, draft.header.period as usize, draft.header.nodes as usize));
+        }
+        let file = draft.file();
         let network = network::open(&file).expect("a town made on purpose opens");
         let exact = Exact::of(&network);
         let mut arcs_out = vec![Vec::new(); network.nodes()];

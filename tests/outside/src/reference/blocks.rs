@@ -24,6 +24,7 @@ pub const PLAN_HEADER: u8 = 5;
 pub const FLAGS: Kind = Kind { kind: 6, width: 8, per_block: 62 };
 pub const COUNTS: Kind = Kind { kind: 7, width: 2, per_block: 250 };
 pub const PROFILE_POINTS: Kind = Kind { kind: 8, width: 6, per_block: 83 };
+pub const CELLS_AND_HOURS: Kind = Kind { kind: 9, width: 6, per_block: 83 };
 
 pub fn read16(bytes: &[u8], at: usize) -> u16 {
     u16::from_le_bytes([bytes[at], bytes[at + 1]])

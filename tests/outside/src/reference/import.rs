@@ -121,6 +121,7 @@ fn network_of(lines: &[Line], number: u32) -> (Header, Tables) {
             }
         }
     }
+    tables.open_all_day(MOST_PERIOD as u16);
     let (nodes, arcs) = (tables.cells.len() as u32, tables.from.len() as u32);
-    (Header { number, period: MOST_PERIOD, nodes, arcs, cells: 1, points: arcs }, tables)
+    (Header { number, period: MOST_PERIOD, nodes, arcs, cells: 1, points: arcs, hours: 0 }, tables)
 }

@@ -1,23 +1,28 @@
-//! Document 01's network: opened with refusals 1 to 10, its tables judged alike for open and pack, and packed.
+//! Document 01's network with wish 6's hours: opened with refusals 1 to 10 and 37, its tables judged alike
+//! for open and pack, and packed.
 
 use super::blocks::{
-    entries, first_block_holds, judge_later_blocks, judge_length_and_checks, read16, read32, write_file, ARCS, BLOCK,
-    CELLS, CHECK, NETWORK_HEADER, POINTS,
+    entries, first_block_holds, judge_later_blocks, judge_length_and_checks, read16, read32, write_file, Kind, ARCS,
+    BLOCK, CELLS, CELLS_AND_HOURS, CHECK, NETWORK_HEADER, POINTS,
 };
 use super::line::{travel_at, Point};
 use super::{refuse, Refusal};
 use std::ops::Range;
 
-pub const MOST_BLOCKS: usize = 554;
+/// "A network file may now have 558 blocks", whichever kind its places have.
+pub const MOST_BLOCKS: usize = 558;
+/// "Header byte 24 is 1 where hours are held".
+pub const HOURS_AT: usize = 24;
 /// The bytes of the first block that no field uses.
-const FILL: &[Range<usize>] = &[Range { start: 24, end: CHECK }];
+const FILL: &[Range<usize>] = &[Range { start: HOURS_AT + 1, end: CHECK }];
 pub const MOST_PERIOD: u32 = 2_880;
 pub const MOST_NODES: u32 = 512;
 pub const MOST_ARCS: u32 = 2_048;
 pub const MOST_CELLS: u32 = 64;
 pub const MOST_POINTS: u32 = 65_535;
 
-/// The header's numbers in the file's order: network number, P, N, R, K, Q. As wide as in calls.
+/// The header's numbers in the file's order: network number, P, N, R, K, Q, and 1 where hours are held. As
+/// wide as in calls.
 #[derive(Clone, Copy, Debug, PartialEq, Eq)]
 pub struct Header {
     pub number: u32,
@@ -26,12 +31,18 @@ pub struct Header {
     pub arcs: u32,
     pub cells: u32,
     pub points: u32,
+    pub hours: u32,
 }
 
-/// The six tables in the order in which calls lend them.
+/// How many tables calls lend.
+pub const TABLES: usize = 8;
+
+/// The tables in the order in which calls lend them.
 #[derive(Clone, Debug, Default, PartialEq, Eq)]
 pub struct Tables {
     pub cells: Vec<u16>,
+    pub opens: Vec<u16>,
+    pub closes: Vec<u16>,
     pub from: Vec<u16>,
     pub to: Vec<u16>,
     pub counts: Vec<u16>,
@@ -66,12 +77,20 @@ impl Network {
 }
 
 impl Tables {
-    pub fn in_order(&self) -> [&Vec<u16>; 6] {
-        [&self.cells, &self.from, &self.to, &self.counts, &self.ticks, &self.travels]
+    pub fn in_order(&self) -> [&Vec<u16>; TABLES] {
+        let Tables { cells, opens, closes, from, to, counts, ticks, travels } = self;
+        [cells, opens, closes, from, to, counts, ticks, travels]
     }
 
-    pub fn in_order_mut(&mut self) -> [&mut Vec<u16>; 6] {
-        [&mut self.cells, &mut self.from, &mut self.to, &mut self.counts, &mut self.ticks, &mut self.travels]
+    pub fn in_order_mut(&mut self) -> [&mut Vec<u16>; TABLES] {
+        let Tables { cells, opens, closes, from, to, counts, ticks, travels } = self;
+        [cells, opens, closes, from, to, counts, ticks, travels]
+    }
+
+    /// "Files with 0 there .. open as 0 to P": every place is open all day.
+    pub fn open_all_day(&mut self, period: u16) {
+        self.opens = vec![0; self.cells.len()];
+        self.closes = vec![period; self.cells.len()];
     }
 }
 
@@ -82,12 +101,22 @@ impl Header {
             && self.arcs <= MOST_ARCS
             && (1..=MOST_CELLS).contains(&self.cells)
             && self.points <= MOST_POINTS
+            && self.hours <= 1
     }
 
-    /// How many entries each of the six tables has.
-    pub fn table_lengths(&self) -> [usize; 6] {
+    /// How many entries each of the tables has.
+    pub fn table_lengths(&self) -> [usize; TABLES] {
         let (nodes, arcs, points) = (self.nodes as usize, self.arcs as usize, self.points as usize);
-        [nodes, arcs, arcs, arcs, points, points]
+        [nodes, nodes, nodes, arcs, arcs, arcs, points, points]
+    }
+
+    /// "blocks of kind 9 in place of kind 2"; "files with 0 there keep kind 2".
+    fn kind_of_places(&self) -> Kind {
+        if self.hours == 0 {
+            CELLS
+        } else {
+            CELLS_AND_HOURS
+        }
     }
 }
 
@@ -101,7 +130,7 @@ pub fn open(file: &[u8]) -> Result<Network, Refusal> {
         return refuse(4, 0);
     }
     let (nodes, arcs, points) = (header.nodes as usize, header.arcs as usize, header.points as usize);
-    judge_later_blocks(file, &[(CELLS, nodes), (ARCS, arcs), (POINTS, points)], 5)?;
+    judge_later_blocks(file, &[(header.kind_of_places(), nodes), (ARCS, arcs), (POINTS, points)], 5)?;
     let tables = read_tables(file);
     let arcs = judge_tables(&header, &tables)?;
     let cell_of = tables.cells.iter().map(|&cell| usize::from(cell)).collect();
@@ -117,14 +146,22 @@ pub fn read_header(file: &[u8]) -> Header {
         arcs: u32::from(read16(file, 16)),
         cells: u32::from(read16(file, 18)),
         points: read32(file, 20),
+        hours: u32::from(file[HOURS_AT]),
     }
 }
 
-/// The tables as the blocks of kinds 2 to 4 hold them, whatever they say.
+/// The tables as the blocks of kinds 2 to 4 and 9 hold them, whatever they say.
 pub fn read_tables(file: &[u8]) -> Tables {
     let mut tables = Tables::default();
     for entry in entries(file, CELLS) {
         tables.cells.push(read16(entry, 0));
+        tables.opens.push(0);
+        tables.closes.push(read16(file, 12));
+    }
+    for entry in entries(file, CELLS_AND_HOURS) {
+        tables.cells.push(read16(entry, 0));
+        tables.opens.push(read16(entry, 2));
+        tables.closes.push(read16(entry, 4));
     }
     for entry in entries(file, ARCS) {
         tables.from.push(read16(entry, 0));
@@ -138,9 +175,10 @@ pub fn read_tables(file: &[u8]) -> Tables {
     tables
 }
 
-/// Refusals 7 to 10 over the first N, R and Q entries; the arcs with their points if none applies.
+/// Refusals 7, 37 and 8 to 10 over the first N, R and Q entries; the arcs with their points if none applies.
 fn judge_tables(header: &Header, tables: &Tables) -> Result<Vec<Arc>, Refusal> {
     judge_cells(header, tables)?;
+    judge_hours(header, tables)?;
     judge_arcs(header, tables)?;
     judge_points(header, tables)?;
     let arcs = arcs_of(header, tables);
@@ -152,6 +190,20 @@ fn judge_cells(header: &Header, tables: &Tables) -> Result<(), Refusal> {
     for node in 0..header.nodes as usize {
         if u32::from(tables.cells[node]) >= header.cells {
             return refuse(7, node);
+        }
+    }
+    Ok(())
+}
+
+/// "37 open not below close, or close above P, with the place; straight after 7", that is over all places,
+/// and "packing other hours under 0 is 37".
+fn judge_hours(header: &Header, tables: &Tables) -> Result<(), Refusal> {
+    for node in 0..header.nodes as usize {
+        let open = u32::from(tables.opens[node]);
+        let close = u32::from(tables.closes[node]);
+        let all_day = open == 0 && close == header.period;
+        if open >= close || close > header.period || header.hours == 0 && !all_day {
+            return refuse(37, node);
         }
     }
     Ok(())
@@ -224,7 +276,8 @@ fn judge_fifo(header: &Header, arcs: &[Arc]) -> Result<(), Refusal> {
     Ok(())
 }
 
-/// "4, then 30 where a table is shorter than its count, then 7 to 10, then 31 out-bytes too short."
+/// "4, then 30 where a table is shorter than its count, then 7 to 10, then 31 out-bytes too short", and 37
+/// straight after 7.
 pub fn pack(header: &Header, tables: &Tables, out_length: usize) -> Result<Vec<u8>, Refusal> {
     if !header.within_limits() {
         return refuse(4, 0);
@@ -253,11 +306,16 @@ pub fn write(header: &Header, tables: &Tables) -> Vec<u8> {
         first.extend_from_slice(&(number as u16).to_le_bytes());
     }
     first.extend_from_slice(&header.points.to_le_bytes());
+    first.push(header.hours as u8);
+    let places = match header.hours {
+        0 => side_by_side(&[&tables.cells]),
+        _ => side_by_side(&[&tables.cells, &tables.opens, &tables.closes]),
+    };
     write_file(
         NETWORK_HEADER,
         &first,
         &[
-            (CELLS, side_by_side(&[&tables.cells])),
+            (header.kind_of_places(), places),
             (ARCS, side_by_side(&[&tables.from, &tables.to, &tables.counts])),
             (POINTS, side_by_side(&[&tables.ticks, &tables.travels])),
         ],

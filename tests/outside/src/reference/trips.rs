@@ -1,4 +1,5 @@
-//! Both trips of document 01: refusals 25 to 29 and least arrivals. `ways` has the chosen way.
+//! Both trips of document 01: refusals 25 to 29, least arrivals, and wish 6's open tick. `ways` has the
+//! chosen way.
 
 use super::network::Network;
 use super::plan::Plan;
@@ -22,6 +23,8 @@ pub struct ListLengths {
 #[derive(Clone, Debug, PartialEq, Eq)]
 pub struct Arrived {
     pub tick: u32,
+    /// The first tick from then on at which the target is open.
+    pub open: u32,
     pub roads: Vec<u16>,
 }
 
@@ -64,8 +67,21 @@ fn trip(network: &Network, plan: Option<&Plan>, call: TripCall, lists: ListLengt
         return Trip { answer: refuse(28, 0), arrivals };
     };
     let roads = chosen_way(&Known { network, permitted: &permitted, labels: &labels, from, to });
-    let answer = if lists.roads < roads.len() { refuse(29, 0) } else { Ok(Arrived { tick: arrival as u32, roads }) };
+    let answer = if lists.roads < roads.len() {
+        refuse(29, 0)
+    } else {
+        let open = open_from(network, to, arrival) as u32;
+        Ok(Arrived { tick: arrival as u32, open, roads })
+    };
     Trip { answer, arrivals: shown_arrivals(&labels, to, arrival) }
+}
+
+/// "the first tick at or after arrival when the target is open", and "a hall is open from its open tick up
+/// to, and without, its close tick every day".
+fn open_from(network: &Network, node: usize, arrival: u64) -> u64 {
+    let hours = u64::from(network.tables.opens[node])..u64::from(network.tables.closes[node]);
+    let is_open = |tick: &u64| hours.contains(&(tick % u64::from(network.header.period)));
+    (arrival..).find(is_open).expect("every place is open at some tick of each day")
 }
 
 /// 25 from, then to; 26; 27.

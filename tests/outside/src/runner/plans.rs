@@ -56,7 +56,7 @@ impl Runner {
     fn short_answer(&mut self, ground: &Ground, length: usize) {
         let mut input = ground.input.clone();
         input.lengths.check_answer = length;
-        let checked = compare_check(self.check, &input, &ground.opened);
+        let checked = compare_check(self.functions, &input, &ground.opened);
         let mut trial = self.trial(ground.name, format!("an answer of {length}"));
         for text in &checked.differences {
             trial.differ(text);
@@ -75,7 +75,7 @@ impl Runner {
     /// The check of a plan of the town's, and what is meant to come of it, if that is known.
     fn checked(&mut self, ground: &Ground, kind: Option<usize>, what: &str, damage: &Damage, meant: Option<Predicted>) {
         let input = Input { plan: damage.plan(&ground.town).file(), ..ground.input.clone() };
-        let checked = compare_check(self.check, &input, &ground.opened);
+        let checked = compare_check(self.functions, &input, &ground.opened);
         let mut trial = self.trial(ground.name, what.to_string());
         for text in &checked.differences {
             trial.differ(text);

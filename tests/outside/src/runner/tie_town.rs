@@ -2,14 +2,15 @@
 //! with road lists of every length that matters, and in small towns all trips.
 
 use super::{CaseName, Runner, Trial};
+use crate::hours::towns::some_hours;
 use crate::input::Input;
 use crate::library::{FLAGGED_LISTS, PLAIN_LISTS};
 use crate::made;
 use crate::reference::make_plan::plan_file;
 use crate::reference::network::{self, Network};
 use crate::reference::plan::Plan;
-use crate::reference::trips::{flagged_trip, plain_trip, Arrived, ListLengths, TripCall};
-use crate::towns::ties::{town, Way};
+use crate::reference::trips::{flagged_trip, plain_trip, ListLengths, Trip, TripCall};
+use crate::towns::ties::{town, TieTown, Way};
 
 /// A town under a plan.
 struct Planned<'a> {
@@ -29,7 +30,13 @@ impl Planned<'_> {
 
 impl Runner {
     pub(super) fn run_tie_town(&mut self, name: CaseName) {
-        let town = town(name.number);
+        let mut town = town(name.number);
+        self.try_tie_town(name, &town);
+        town.draft.hold_hours(&some_hours(name.number, &town.draft));
+        self.try_tie_town(name, &town);
+    }
+
+    fn try_tie_town(&mut self, name: CaseName, town: &TieTown) {
         let file = &town.draft.file();
         let network = &network::open(file).expect("a town made on purpose opens");
         let made = made::of(file, network);
@@ -42,9 +49,9 @@ impl Runner {
             }
         };
         run(Planned { file, network, plan, made: true }, &town.plain);
-        for (flags, ways) in town.flagged {
-            let plan = &Plan { flags, ..plan.clone() };
-            run(Planned { file, network, plan, made: false }, &ways);
+        for (flags, ways) in &town.flagged {
+            let plan = &Plan { flags: flags.clone(), ..plan.clone() };
+            run(Planned { file, network, plan, made: false }, ways);
         }
     }
 }
@@ -67,9 +74,10 @@ impl Trial<'_> {
     /// The reference takes this way.
     fn way_by_hand(&mut self, planned: &Planned, way: &Way) {
         let lists = ListLengths { arrivals: planned.network.nodes(), roads: way.roads.len() };
-        let by_hand = Ok(Arrived { tick: way.tick, roads: way.roads.clone() });
-        let flagged = flagged_trip(planned.network, planned.plan, way.call, lists).answer;
-        let plain = plain_trip(planned.network, way.call, lists).answer;
+        let by_hand = Ok((way.tick, way.roads.clone()));
+        let shown = |trip: Trip| trip.answer.map(|arrived| (arrived.tick, arrived.roads));
+        let flagged = shown(flagged_trip(planned.network, planned.plan, way.call, lists));
+        let plain = shown(plain_trip(planned.network, way.call, lists));
         if flagged != by_hand || planned.made && plain != by_hand {
             let call = way.call;
             self.differ(&format!("{call:?}: by hand {by_hand:?}, flagged {flagged:?}, plain {plain:?}"));

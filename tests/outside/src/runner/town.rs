@@ -3,6 +3,7 @@
 
 use super::{CaseName, Runner};
 use crate::compare::{compare_make_plan, PlannerLengths, Verdict};
+use crate::hours::towns::some_hours;
 use crate::input::Input;
 use crate::library::{MAKE, MAKE_ANSWER};
 use crate::made;
@@ -13,7 +14,16 @@ use crate::towns::{town, Gives, Town};
 
 impl Runner {
     pub(super) fn run_town(&mut self, name: CaseName) {
-        let town = town(name.number);
+        let mut town = town(name.number);
+        self.try_town(name, &town);
+        // Hours change nothing of what the planner makes.
+        if town.small {
+            town.draft.hold_hours(&some_hours(name.number, &town.draft));
+            self.try_town(name, &town);
+        }
+    }
+
+    fn try_town(&mut self, name: CaseName, town: &Town) {
         let file = town.draft.file();
         let network = network::open(&file).expect("a town made on purpose opens");
         let made = made::of(&file, &network);
@@ -30,7 +40,7 @@ impl Runner {
             trial.judge_made_plan(&verdict, true);
             trial.judge_trips(&input, &verdict);
         }
-        self.choices_of_lengths(name, &town, made.needs, &input, &verdict);
+        self.choices_of_lengths(name, town, made.needs, &input, &verdict);
     }
 
     /// The planner with lists of all these lengths; its refusals count as met, alone or before others.

@@ -1,9 +1,8 @@
 -- `c_replies::numbers::write_lists` meets its contract.
-use Rattle.c_replies.specs.Writing.{replies, case-number, case-numbers}
+use Rattle.c_replies.specs.Writing.{replies, visit-number, visit-numbers}
 use native.Mathlib.Omega.{arith}
 use Prim.Native.Nat.{_≤_}
 use Rattle.network.specs.Limits.{mostRoads}
-use Rattle.search_path.specs.Says.{tripSays}
 use borrow.Author.Needs.{needs}
 use Rattle.c_replies.proofs.numbers.write_lists.Statement.{statement}
 use Rattle.c_replies.proofs.numbers.write_lists.Tie as tie
@@ -11,8 +10,8 @@ use Rattle.c_replies.proofs.numbers.write_lists.Tie as tie
 enum-known-trip : tie.Need-enum-known-trip
 enum-known-trip c = search needs
 
-cast-t8 : tie.Need-cast-t8
-cast-t8 c = let l : c .before .before .trip .given .0 .0 .count ≤ mostRoads = search replies in omega arith
+cast-t10 : tie.Need-cast-t10
+cast-t10 c = let l : c .before .before .trip .given .0 .0 .count ≤ mostRoads = search replies in omega arith
 
 slice-aggregate-write : tie.Need-slice-aggregate-write
 slice-aggregate-write c = search needs
@@ -33,20 +32,20 @@ same-length : tie.Need-same-length
 same-length c = search needs
 
 returns : tie.Need-returns
-returns c = (search (case-number tripSays), search (case-numbers tripSays))
+returns c = (search visit-number, search visit-numbers)
 
 same-length-2 : tie.Need-same-length-2
 same-length-2 c = search needs
 
 returns-2 : tie.Need-returns-2
-returns-2 c = (search (case-number tripSays), search (case-numbers tripSays))
+returns-2 c = (search visit-number, search visit-numbers)
 
 pub write-lists-spec : {M : Type 1} → statement M
 write-lists-spec =
     tie.close
     (tie.spec
     enum-known-trip
-    cast-t8
+    cast-t10
     slice-aggregate-write
     write-requires
     enum-known-trip-2

@@ -20,6 +20,9 @@ cast-t10 c = search needs
 cast-t11 : tie.Need-cast-t11
 cast-t11 c = search needs
 
+cast-t12 : tie.Need-cast-t12
+cast-t12 c = search needs
+
 slice-aggregate-write : tie.Need-slice-aggregate-write
 slice-aggregate-write c = search needs
 
@@ -56,6 +59,7 @@ write-opening-spec =
     cast-t9
     cast-t10
     cast-t11
+    cast-t12
     slice-aggregate-write
     write-requires
     enum-known-opening-2

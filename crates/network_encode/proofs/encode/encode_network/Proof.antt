@@ -11,12 +11,12 @@ use Rattle.network_encode.proofs.encode.encode_network.Tie as tie
 use Rattle.file_fields.specs.Block.{blockSize}
 
 abbrev Inv-loop : tie.InvT-loop
-Inv-loop out₀ h l cells tails heads counts ticks travels b₀ b-end out b =
+Inv-loop out₀ h l cells opens closes tails heads counts ticks travels b₀ b-end out b =
     (b ≤ l .blocks) × Filled 0 (blockSize * b)
-    (fileByte (bodyBy h (networkOf h (tables cells tails heads counts ticks travels)))) out₀ out
+    (fileByte (bodyBy h (networkOf h (tables cells opens closes tails heads counts ticks travels)))) out₀ out
 
 abbrev μ-loop : tie.MeasureT-loop
-μ-loop out₀ h l cells tails heads counts ticks travels b₀ b-end out b = l .blocks - b
+μ-loop out₀ h l cells opens closes tails heads counts ticks travels b₀ b-end out b = l .blocks - b
 
 loop-holds : tie.Need-loop-holds Inv-loop μ-loop
 loop-holds c = (search needs, fill-none _ _ _)

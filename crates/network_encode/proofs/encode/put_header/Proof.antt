@@ -22,20 +22,28 @@ put16-requires-4 c κs = search needs
 put32-requires-2 : tie.Need-put32-requires-2
 put32-requires-2 c κs = search needs
 
+cast-put8 : tie.Need-cast-put8
+cast-put8 c = search needs
+
+put8-requires : tie.Need-put8-requires
+put8-requires c κs = search needs
+
 same-length : tie.Need-same-length
 same-length c = search needs
 
 returns : tie.Need-returns
 returns c =
-    let far = c .before .before .before .before .before .before .before .before .before .before in
+    let far = c .before .before .before .before .before .before .before .before .before .before .before in
     let farther = far .before .before .before .before .before .before .before .before .before .before in
-    let pre = farther .before .before .before .before .before .pre in
-    header-put _ (pre .0) (pre .1 .0) _ _ _ _ _ _ _
-    (farther .before .before .put32 .ensures)
-    (far .before .before .before .before .before .before .before .before .put16 .ensures)
-    (far .before .before .before .before .put162 .ensures)
-    (far .put163 .ensures)
-    (c .before .before .before .before .before .before .put164 .ensures) (c .before .before .put322 .ensures)
+    let pre = farther .before .before .before .before .before .before .before .before .before .pre in
+    header-put _ (pre .0) (pre .1 .0) _ _ _ _ _ _ _ _
+    (farther .before .before .before .before .before .before .put32 .ensures)
+    (farther .before .before .put16 .ensures)
+    (far .before .before .before .before .before .before .before .before .put162 .ensures)
+    (far .before .before .before .before .put163 .ensures)
+    (far .put164 .ensures)
+    (c .before .before .before .before .before .before .before .put322 .ensures)
+    (c .before .before .put8 .ensures)
 
 pub put-header-spec : {M : Type 1} → statement M
 put-header-spec =
@@ -47,5 +55,7 @@ put-header-spec =
     put16-requires-3
     put16-requires-4
     put32-requires-2
+    cast-put8
+    put8-requires
     same-length
     returns)

@@ -13,8 +13,8 @@ same-length c = search needs
 returns : tie.Need-returns
 returns c = search blockwise
 
-cells-block-requires : tie.Need-cells-block-requires
-cells-block-requires c κs = (search blockwise, search needs)
+nodes-block-requires : tie.Need-nodes-block-requires
+nodes-block-requires c κs = (search blockwise, search needs)
 
 same-length-2 : tie.Need-same-length-2
 same-length-2 c = search needs
@@ -22,8 +22,8 @@ same-length-2 c = search needs
 returns-2 : tie.Need-returns-2
 returns-2 c = search blockwise
 
-arcs-block-requires : tie.Need-arcs-block-requires
-arcs-block-requires c κs = (search blockwise, search needs)
+triples-block-requires : tie.Need-triples-block-requires
+triples-block-requires c κs = (search blockwise, search needs)
 
 same-length-3 : tie.Need-same-length-3
 same-length-3 c = search needs
@@ -47,10 +47,10 @@ write-block-spec =
     header-block-requires
     same-length
     returns
-    cells-block-requires
+    nodes-block-requires
     same-length-2
     returns-2
-    arcs-block-requires
+    triples-block-requires
     same-length-3
     returns-3
     points-block-requires

@@ -30,32 +30,37 @@ write-tables-requires : tie.Need-write-tables-requires
 write-tables-requires c κs = (
   search open-laid,
   open-room _ _ _ _
-      (c .before .before .before .before .before .before .before .before .is-short .ensures)
-      (c .before .before .before .before .before .before .before .if1 .left)
-      (c .before .before .before .before .before .before .layout .ensures),
+      (c .before .before .before .before .before .before .before .before .before .before .is-short .ensures)
+      (c .before .before .before .before .before .before .before .before .before .if1 .left)
+      (c .before .before .before .before .before .before .before .before .layout .ensures),
 )
 
 returns-2 : tie.Need-returns-2
 returns-2 c = search open-refused
 
 same-length : tie.Need-same-length
-same-length c = c .before .before .before .before .before .before .before .before .before .before .before
-    .cells .given
+same-length c = search needs
 
 same-length-2 : tie.Need-same-length-2
-same-length-2 c = c .before .before .before .before .before .before .before .before .before .tails .given
+same-length-2 c = search needs
 
 same-length-3 : tie.Need-same-length-3
-same-length-3 c = c .before .before .before .before .before .before .before .heads .given
+same-length-3 c = search needs
 
 same-length-4 : tie.Need-same-length-4
-same-length-4 c = c .before .before .before .before .before .counts .given
+same-length-4 c = search needs
 
 same-length-5 : tie.Need-same-length-5
-same-length-5 c = c .before .before .before .ticks .given
+same-length-5 c = search needs
 
 same-length-6 : tie.Need-same-length-6
-same-length-6 c = c .before .travels .given
+same-length-6 c = search needs
+
+same-length-7 : tie.Need-same-length-7
+same-length-7 c = search needs
+
+same-length-8 : tie.Need-same-length-8
+same-length-8 c = search needs
 
 returns-3 : tie.Need-returns-3
 returns-3 c = search open-opened
@@ -79,4 +84,6 @@ open-network-spec =
     same-length-4
     same-length-5
     same-length-6
+    same-length-7
+    same-length-8
     returns-3)

@@ -33,12 +33,19 @@ cast-new-4 c = search needs
 le32-requires-2 : tie.Need-le32-requires-2
 le32-requires-2 c κs = search needs
 
+le8-requires : tie.Need-le8-requires
+le8-requires c κs = search needs
+
+cast-new-5 : tie.Need-cast-new-5
+cast-new-5 c = search needs
+
 new-requires : tie.Need-new-requires
 new-requires c κs = search needs
 
 returns : tie.Need-returns
 returns c =
-    let f = c .before in
+    let g = c .before in
+    let f = g .before in
     let e = f .before in
     let d = e .before in
     let b = d .before in
@@ -50,6 +57,7 @@ returns c =
       d .le163 .ensures,
       e .le164 .ensures,
       f .le322 .ensures,
+      g .le8 .ensures,
     ) at (c .new .ensures)
 
 pub header-at-spec : {M : Type 1} → statement M
@@ -66,5 +74,7 @@ header-at-spec =
     le16-requires-4
     cast-new-4
     le32-requires-2
+    le8-requires
+    cast-new-5
     new-requires
     returns)

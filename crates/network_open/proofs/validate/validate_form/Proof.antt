@@ -1,6 +1,6 @@
 -- `network_open::validate::validate_form` meets its contract.
 use native.Mathlib.Omega.{arith}
-use Rattle.network.specs.Decode.{laid-small, laid-blocks}
+use Rattle.network.specs.Decode.{laid-few}
 use Rattle.network.specs.Validate.{form-taken, form-passed}
 use borrow.Author.Needs.{needs}
 use Rattle.network_open.proofs.validate.validate_form.Statement.{statement}
@@ -10,11 +10,7 @@ first-bad-form-requires : tie.Need-first-bad-form-requires
 first-bad-form-requires c κs = search needs
 
 cast-refused : tie.Need-cast-refused
-cast-refused c = omega (
-  arith,
-  laid-blocks (c .before .before .before .before .pre .0),
-  laid-small (c .before .before .before .before .pre .0),
-)
+cast-refused c = omega (arith, laid-few (c .before .before .before .before .pre .0))
 
 refused-requires : tie.Need-refused-requires
 refused-requires c κs = search needs

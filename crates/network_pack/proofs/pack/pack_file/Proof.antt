@@ -1,17 +1,19 @@
 -- `network_pack::pack::pack_file` meets its contract.
 use Rattle.network_pack.specs.Pack.{rules-sound, rules-faulty}
+use native.Mathlib.Omega.{arith}
+use Rattle.network.specs.Decode.{laid-bytes}
 use borrow.Author.Needs.{needs}
 use Rattle.network_pack.proofs.pack.pack_file.Statement.{statement}
 use Rattle.network_pack.proofs.pack.pack_file.Tie as tie
 
-judge-requires : tie.Need-judge-requires
-judge-requires c κs = search needs
+judge-with-requires : tie.Need-judge-with-requires
+judge-with-requires c κs = search needs
 
 enum-told : tie.Need-enum-told
 enum-told c = search needs
 
 write-out-requires : tie.Need-write-out-requires
-write-out-requires c κs = search needs
+write-out-requires c κs = omega (arith, laid-bytes (c .before .before .before .before .before .before .before .before .pre .0))
 
 enum-known-r : tie.Need-enum-known-r
 enum-known-r c = search needs
@@ -29,7 +31,7 @@ pub pack-file-spec : {M : Type 1} → statement M
 pack-file-spec =
     tie.close
     (tie.spec
-    judge-requires
+    judge-with-requires
     enum-told
     write-out-requires
     enum-known-r

@@ -10,26 +10,23 @@ use borrow.Author.Needs.{needs}
 use Rattle.network_pack.proofs.pack.pack_tables.Statement.{statement}
 use Rattle.network_pack.proofs.pack.pack_tables.Tie as tie
 
-abbrev start : tie.After-shared-slice-known6 → tie.Start
-start c = c .before .before .before .before .before .before
+abbrev start : tie.After-shared-slice-known8 → tie.Start
+start c = c .before .before .before .before .before .before .before .before
 
 -- the entries of a table of 16-bit numbers have two bytes
-fields : (c : tie.After-shared-slice-known6)
-    → Fields (tables (now (start c .args .cellof)) (now (start c .args .tails)) (now (start c .args .heads))
-    (now (start c .args .counts)) (now (start c .args .ticks)) (now (start c .args .travels)))
+fields : (c : tie.After-shared-slice-known8)
+    → Fields (tables (now (start c .args .cellof)) (now (start c .args .opens)) (now (start c .args .closes))
+    (now (start c .args .tails)) (now (start c .args .heads)) (now (start c .args .counts))
+    (now (start c .args .ticks)) (now (start c .args .travels)))
 fields c = record {
-  cells-fit = record {
-    word = λ k. omega
-        (arith, c .before .before .before .before .before .shared-slice-known .given k);
-  };
-  tails-fit = record {
-    word = λ k. omega
-        (arith, c .before .before .before .before .shared-slice-known2 .given k);
-  };
-  heads-fit = record { word = λ k. omega (arith, c .before .before .before .shared-slice-known3 .given k) };
-  counts-fit = record { word = λ k. omega (arith, c .before .before .shared-slice-known4 .given k) };
-  ticks-fit = record { word = λ k. omega (arith, c .before .shared-slice-known5 .given k) };
-  travels-fit = record { word = λ k. omega (arith, c .shared-slice-known6 .given k) };
+  cells-fit = record { word = λ k. omega (arith, c .before .before .before .before .before .before .before .shared-slice-known .given k) };
+  opens-fit = record { word = λ k. omega (arith, c .before .before .before .before .before .before .shared-slice-known2 .given k) };
+  closes-fit = record { word = λ k. omega (arith, c .before .before .before .before .before .shared-slice-known3 .given k) };
+  tails-fit = record { word = λ k. omega (arith, c .before .before .before .before .shared-slice-known4 .given k) };
+  heads-fit = record { word = λ k. omega (arith, c .before .before .before .shared-slice-known5 .given k) };
+  counts-fit = record { word = λ k. omega (arith, c .before .before .shared-slice-known6 .given k) };
+  ticks-fit = record { word = λ k. omega (arith, c .before .shared-slice-known7 .given k) };
+  travels-fit = record { word = λ k. omega (arith, c .shared-slice-known8 .given k) };
 }
 
 encode-network-requires : tie.Need-encode-network-requires
@@ -38,11 +35,7 @@ encode-network-requires c κs = search needs
 mul-long : tie.Need-mul-long
 mul-long c = omega (
   arith,
-  blocks-few _ _ (c .before .before .before .before .before .before .before .before .before .before .before
-      .before .before .pre .0 .within)
-      (c .before .before .before .before .before .before .before .before .before .before .before .before
-      .before
-      .pre .0 .is),
+  blocks-few _ _ (c .before .before .before .before .before .before .before .before .before .before .before .before .before .before .before .pre .0 .within) (c .before .before .before .before .before .before .before .before .before .before .before .before .before .before .before .pre .0 .is),
 )
 
 slice-reshare-prefix-pack-file : tie.Need-slice-reshare-prefix-pack-file
@@ -50,21 +43,14 @@ slice-reshare-prefix-pack-file c = search needs
 
 slice-aggregate-pack-file : tie.Need-slice-aggregate-pack-file
 slice-aggregate-pack-file c =
-    let far = c .before .before .before .before .before .before .before .before .before .before in
-    sym (ap length (front-is _
-    (far .before .before .before
-    .before .pre .0) _ _ (c .before .before .before .before .encode-network .ensures))
-    ∙ packed-long _
-    (far .before .before .before
-    .before .pre .0))
+    let pre = c .before .before .before .before .before .before .before .before .before .before .before .before .before .before .before .before .pre in
+    sym (ap length (front-is _ (pre .0) _ _ (c .before .before .before .before .encode-network .ensures)) ∙ packed-long _ (pre .0))
 
 pack-file-requires : tie.Need-pack-file-requires
 pack-file-requires c κs =
-    let far = c .before .before .before .before .before .before .before .before .before .before in
-    front-laid _
-    (far .before .before .before
-    .before .before .pre .0) _ _ (c .before .before .before .before .before .encode-network .ensures)
-    (fields (c .before .before .before .before .before .before .before .before .before))
+    let known = c .before .before .before .before .before .before .before .before .before in
+    let pre = start known .pre in
+    (front-laid _ (pre .0) _ _ (c .before .before .before .before .before .encode-network .ensures) (fields known), search needs)
 
 same-length : tie.Need-same-length
 same-length c = search needs
@@ -74,14 +60,9 @@ same-length-2 c = search needs
 
 returns : tie.Need-returns
 returns c =
-    let far = c .before .before .before .before .before .before .before .before .before .before in
-    front-packs _
-    (far .before .before .before
-    .before .before .before .before .before .pre .0) _ _
-    (c .before .before .before .before .before .before .before .before .encode-network .ensures)
-    (fields (far .before
-    .before))
-    _ _ _ (c .before .before .pack-file .ensures)
+    let known = c .before .before .before .before .before .before .before .before .before .before .before .before in
+    front-packs _ (start known .pre .0) _ _ (c .before .before .before .before .before .before .before .before .encode-network .ensures) (fields known) _ _ _
+    (c .before .before .pack-file .ensures)
 
 pub pack-tables-spec : {M : Type 1} → statement M
 pack-tables-spec =

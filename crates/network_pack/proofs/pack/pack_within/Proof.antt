@@ -19,16 +19,12 @@ layout-requires : tie.Need-layout-requires
 layout-requires c κs = search needs
 
 pack-tables-requires : tie.Need-pack-tables-requires
-pack-tables-requires c κs = (
-  search now-packable,
-  omega (
-    arith,
-    blocks-few _ _
-        (c .before .before .before .before .before .before .before .before .before .before .before .before
-        .pre
-        .0) (c .before .before .layout .ensures),
-  ),
-)
+pack-tables-requires c κs =
+    let laid = c .before .before .layout .ensures in
+    let pre = c .before .before .before .before .before .before .before .before .before .before .before .before .before .before .pre in (
+      now-packable _ _ _ _ (pre .0) (pre .1) laid (c .before .before .before .before .is-short .ensures) (c .before .before .before .if1 .left),
+      omega (arith, blocks-few _ _ (pre .0) laid),
+    )
 
 same-length : tie.Need-same-length
 same-length c = search needs

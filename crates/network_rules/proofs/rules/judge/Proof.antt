@@ -18,11 +18,23 @@ faulty-requires c κs = search needs
 returns : tie.Need-returns
 returns c = search judgings
 
-judge-arcs-requires : tie.Need-judge-arcs-requires
-judge-arcs-requires c κs = search needs
+first-bad-hours-requires : tie.Need-first-bad-hours-requires
+first-bad-hours-requires c κs = search needs
+
+cast-faulty-2 : tie.Need-cast-faulty-2
+cast-faulty-2 c = omega (arith, laid-small (c .before .before .before .before .before .before .before .pre))
+
+faulty-requires-2 : tie.Need-faulty-requires-2
+faulty-requires-2 c κs = search needs
 
 returns-2 : tie.Need-returns-2
 returns-2 c = search judgings
+
+judge-arcs-requires : tie.Need-judge-arcs-requires
+judge-arcs-requires c κs = search needs
+
+returns-3 : tie.Need-returns-3
+returns-3 c = search judgings
 
 pub judge-spec : {M : Type 1} → statement M
 judge-spec =
@@ -32,5 +44,9 @@ judge-spec =
     cast-faulty
     faulty-requires
     returns
+    first-bad-hours-requires
+    cast-faulty-2
+    faulty-requires-2
+    returns-2
     judge-arcs-requires
-    returns-2)
+    returns-3)

@@ -24,11 +24,11 @@ layout-requires-2 c κs = search flags
 fill-mask-requires : tie.Need-fill-mask-requires
 fill-mask-requires c κs = (search flags, (search flags, search flags, search flags))
 
-slice-aggregate-drive : tie.Need-slice-aggregate-drive
-slice-aggregate-drive c = search needs
+slice-aggregate-visit-over : tie.Need-slice-aggregate-visit-over
+slice-aggregate-visit-over c = search needs
 
-drive-requires : tie.Need-drive-requires
-drive-requires c κs = (search needs, (search needs, search flags))
+visit-over-requires : tie.Need-visit-over-requires
+visit-over-requires c κs = (search needs, (search needs, search flags))
 
 same-length : tie.Need-same-length
 same-length c = search needs
@@ -41,10 +41,11 @@ returns c =
     let d = c .before .before .before .before in
     let m = d .before .before .before .before in
     let l = m .before .before in
-    let s = l .before .before .before .before .before .before .before .before in
-    flagged-driven (s .pre .0) (s .pre .1 .0) _ _ _ _ _ (l .before .cell .ensures .0) (l .layout2 .ensures)
-    (m .fill-mask .ensures)
-    _ _ _ _ _ _ _ (d .drive .ensures)
+    let s = l .before .before .before .before .before .before .before .before in (
+      flagged-driven (s .pre .0) (s .pre .1 .0) _ _ _ _ _ (l .before .cell .ensures .0) (l .layout2 .ensures)
+          (m .fill-mask .ensures) _ _ _ _ _ _ _ (d .visit-over .ensures .0),
+      d .visit-over .ensures .1,
+    )
 
 pub drive-flagged-spec : {M : Type 1} → statement M
 drive-flagged-spec =
@@ -55,8 +56,8 @@ drive-flagged-spec =
     cell-requires
     layout-requires-2
     fill-mask-requires
-    slice-aggregate-drive
-    drive-requires
+    slice-aggregate-visit-over
+    visit-over-requires
     same-length
     same-length-2
     returns)

@@ -1,4 +1,5 @@
 -- `trip::flagged::flagged_planned` meets its contract.
+use Rattle.trip_call.specs.Visit.{visits}
 use Rattle.trip.specs.Flagged.{plan-stages}
 use borrow.Author.Needs.{needs}
 use Rattle.trip.proofs.flagged.flagged_planned.Statement.{statement}
@@ -13,6 +14,9 @@ validate-plan-requires c κs = search needs
 enum-known-r : tie.Need-enum-known-r
 enum-known-r c = search needs
 
+refused-requires : tie.Need-refused-requires
+refused-requires c κs = search needs
+
 enum-known-k : tie.Need-enum-known-k
 enum-known-k c = search needs
 
@@ -20,7 +24,7 @@ flagged-asked-requires : tie.Need-flagged-asked-requires
 flagged-asked-requires c κs = (search needs, search plan-stages)
 
 returns : tie.Need-returns
-returns c = search plan-stages
+returns c = (search plan-stages, search visits)
 
 same-length : tie.Need-same-length
 same-length c = search needs
@@ -29,7 +33,7 @@ same-length-2 : tie.Need-same-length-2
 same-length-2 c = search needs
 
 returns-2 : tie.Need-returns-2
-returns-2 c = search plan-stages
+returns-2 c = (search plan-stages, search needs)
 
 pub flagged-planned-spec : {M : Type 1} → statement M
 flagged-planned-spec =
@@ -38,6 +42,7 @@ flagged-planned-spec =
     layout-requires
     validate-plan-requires
     enum-known-r
+    refused-requires
     enum-known-k
     flagged-asked-requires
     returns

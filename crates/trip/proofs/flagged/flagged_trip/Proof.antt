@@ -1,5 +1,6 @@
 -- `trip::flagged::flagged_trip` meets its contract.
 use Rattle.trip_call.specs.Stage.{stages}
+use Rattle.trip_call.specs.Visit.{visits}
 use borrow.Author.Needs.{needs}
 use Rattle.trip.proofs.flagged.flagged_trip.Statement.{statement}
 use Rattle.trip.proofs.flagged.flagged_trip.Tie as tie
@@ -10,6 +11,9 @@ validate-requires c κs = search needs
 enum-known-r : tie.Need-enum-known-r
 enum-known-r c = search needs
 
+refused-requires : tie.Need-refused-requires
+refused-requires c κs = search needs
+
 enum-known-h : tie.Need-enum-known-h
 enum-known-h c = search needs
 
@@ -17,7 +21,7 @@ flagged-planned-requires : tie.Need-flagged-planned-requires
 flagged-planned-requires c κs = search stages
 
 returns : tie.Need-returns
-returns c = search stages
+returns c = (search stages, search visits)
 
 same-length : tie.Need-same-length
 same-length c = search needs
@@ -26,7 +30,7 @@ same-length-2 : tie.Need-same-length-2
 same-length-2 c = search needs
 
 returns-2 : tie.Need-returns-2
-returns-2 c = search stages
+returns-2 c = (search stages, search needs)
 
 pub flagged-trip-spec : {M : Type 1} → statement M
 flagged-trip-spec =
@@ -34,6 +38,7 @@ flagged-trip-spec =
     (tie.spec
     validate-requires
     enum-known-r
+    refused-requires
     enum-known-h
     flagged-planned-requires
     returns

@@ -14,7 +14,7 @@ flagged-trip-requires c κs = search needs
 write-lists-requires : tie.Need-write-lists-requires
 write-lists-requires c κs = (
   flagged-count _ _ _ _ _ _ _ _
-      (c .before .before .before .before .before .flagged-trip .ensures .answer),
+      (c .before .before .before .before .before .flagged-trip .ensures .0 .answer),
   search needs,
 )
 

@@ -15,33 +15,42 @@ write-opening-requires : tie.Need-write-opening-requires
 write-opening-requires c κs =
     let far = c .before .before .before .before .before .before .before .before .before .before in
     let farther = far .before .before .before .before .before .before .before .before .before .before in
-    farther .if1 .left
+    farther .before .before .before .before .before .before .if1 .left
 
 same-length : tie.Need-same-length
 same-length c =
     let far = c .before .before .before .before .before .before .before .before .before .before in
-    far .before .before .before .before .before .cells .given
+    far .before .before .before .before .before .before .before .before .before .cells .given
 
 same-length-2 : tie.Need-same-length-2
 same-length-2 c =
     let far = c .before .before .before .before .before .before .before .before .before .before in
-    far .before .before .before .from .given
+    far .before .before .before .before .before .before .before .opens .given
 
 same-length-3 : tie.Need-same-length-3
 same-length-3 c =
-    c .before .before .before .before .before .before .before .before .before .before .before .to .given
+    let far = c .before .before .before .before .before .before .before .before .before .before in
+    far .before .before .before .before .before .closes .given
 
 same-length-4 : tie.Need-same-length-4
-same-length-4 c = c .before .before .before .before .before .before .before .before .before .points .given
+same-length-4 c =
+    let far = c .before .before .before .before .before .before .before .before .before .before in
+    far .before .before .before .from .given
 
 same-length-5 : tie.Need-same-length-5
-same-length-5 c = c .before .before .before .before .before .before .before .ticks .given
+same-length-5 c = c .before .before .before .before .before .before .before .before .before .before .before .to .given
 
 same-length-6 : tie.Need-same-length-6
-same-length-6 c = c .before .before .before .before .before .travels .given
+same-length-6 c = c .before .before .before .before .before .before .before .before .before .points .given
 
 same-length-7 : tie.Need-same-length-7
-same-length-7 c = c .before .answer .given
+same-length-7 c = c .before .before .before .before .before .before .before .ticks .given
+
+same-length-8 : tie.Need-same-length-8
+same-length-8 c = c .before .before .before .before .before .travels .given
+
+same-length-9 : tie.Need-same-length-9
+same-length-9 c = c .before .answer .given
 
 returns-2 : tie.Need-returns-2
 returns-2 c = search open-written
@@ -60,4 +69,6 @@ varnwalnut-open-network-spec =
     same-length-5
     same-length-6
     same-length-7
+    same-length-8
+    same-length-9
     returns-2)

@@ -13,7 +13,7 @@ plain-trip-requires c κs = search needs
 
 write-lists-requires : tie.Need-write-lists-requires
 write-lists-requires c κs = (
-  plain-count _ _ _ _ _ _ _ (c .before .before .before .before .before .plain-trip .ensures .answer),
+  plain-count _ _ _ _ _ _ _ (c .before .before .before .before .before .plain-trip .ensures .0 .answer),
   search needs,
 )
 

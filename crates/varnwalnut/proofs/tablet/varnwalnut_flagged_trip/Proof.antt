@@ -21,7 +21,7 @@ slice-aggregate-write-trip c = search needs
 
 write-trip-requires : tie.Need-write-trip-requires
 write-trip-requires c κs = (
-  flagged-count _ _ _ _ _ _ _ _ (c .before .before .before .before .flagged-trip .ensures .answer),
+  flagged-count _ _ _ _ _ _ _ _ (c .before .before .before .before .flagged-trip .ensures .0 .answer),
   search needs,
   search needs,
 )

@@ -21,7 +21,7 @@ slice-aggregate-write-trip c = search needs
 
 write-trip-requires : tie.Need-write-trip-requires
 write-trip-requires c κs = (
-  plain-count _ _ _ _ _ _ _ (c .before .before .before .before .plain-trip .ensures .answer),
+  plain-count _ _ _ _ _ _ _ (c .before .before .before .before .plain-trip .ensures .0 .answer),
   search needs,
   search needs,
 )

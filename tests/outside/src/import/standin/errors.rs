@@ -148,6 +148,7 @@ errors! {
     LongestWeightIsThePeriod
     Period2879
     TwoCells
+    HoursHeld
     LastPlaceInCell1
     NumberIs0
     NumberIn16Bits

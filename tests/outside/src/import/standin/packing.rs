@@ -15,6 +15,7 @@ pub fn file(planted: Planted, number: u32, graph: &Graph) -> Vec<u8> {
     if let (Some(cell), true) = (tables.cells.last_mut(), planted.has(Error::LastPlaceInCell1)) {
         *cell = 1;
     }
+    tables.open_all_day(2_880);
     for &arc in &arcs {
         push_arc(planted, &mut tables, arc);
     }
@@ -35,6 +36,7 @@ pub fn file(planted: Planted, number: u32, graph: &Graph) -> Vec<u8> {
         arcs: arcs.len() as u32,
         cells: 1 + u32::from(planted.has(Error::TwoCells)),
         points: tables.ticks.len() as u32,
+        hours: u32::from(planted.has(Error::HoursHeld)),
     };
     let mut file = network::write(&header, &tables);
     alter(planted, &mut file, arcs.len());

@@ -1,5 +1,8 @@
 -- `network::header::Header::layout` meets its contract.
+use Prim.Native.Nat.{_≤_}
+use native.Mathlib.Omega.{arith}
 use Rattle.network.specs.Layout.{layout-told}
+use Rattle.network.specs.Node.{blocks-counted}
 use borrow.Author.Needs.{needs}
 use Rattle.network.proofs.header.Header.layout.Statement.{statement}
 use Rattle.network.proofs.header.Header.layout.Tie as tie
@@ -13,20 +16,26 @@ cast-arcs c = search needs
 cast-points : tie.Need-cast-points
 cast-points c = search needs
 
+cast-hours : tie.Need-cast-hours
+cast-hours c = search needs
+
+node-per-requires : tie.Need-node-per-requires
+node-per-requires c κs = search needs
+
 blocks-requires : tie.Need-blocks-requires
 blocks-requires c κs = search needs
 
 add-arcblock : tie.Need-add-arcblock
-add-arcblock c = search needs
+add-arcblock c = let h : c .blocks2 .result ≤ 7 = search blocks-counted in omega arith
 
 blocks-requires-2 : tie.Need-blocks-requires-2
 blocks-requires-2 c κs = search needs
 
 add-pointblock : tie.Need-add-pointblock
-add-pointblock c = search needs
+add-pointblock c = let h : c .before .blocks2 .result ≤ 7 = search blocks-counted in omega arith
 
-cast-t7 : tie.Need-cast-t7
-cast-t7 c = search needs
+cast-t9 : tie.Need-cast-t9
+cast-t9 c = search needs
 
 cast-t8 : tie.Need-cast-t8
 cast-t8 c = search needs
@@ -34,8 +43,9 @@ cast-t8 c = search needs
 blocks-requires-3 : tie.Need-blocks-requires-3
 blocks-requires-3 c κs = search needs
 
-add-t10 : tie.Need-add-t10
-add-t10 c = search needs
+add-t11 : tie.Need-add-t11
+add-t11 c =
+    let h : c .before .before .before .before .blocks2 .result ≤ 7 = search blocks-counted in omega arith
 
 returns : tie.Need-returns
 returns c = search layout-told
@@ -47,12 +57,14 @@ layout-spec =
     cast-nodes
     cast-arcs
     cast-points
+    cast-hours
+    node-per-requires
     blocks-requires
     add-arcblock
     blocks-requires-2
     add-pointblock
-    cast-t7
+    cast-t9
     cast-t8
     blocks-requires-3
-    add-t10
+    add-t11
     returns)

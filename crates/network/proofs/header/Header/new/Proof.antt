@@ -7,38 +7,39 @@ use Rattle.network.proofs.header.Header.new.Tie as tie
 
 returns : tie.Need-returns
 unfolding made
-returns c = search picks depth 12
+returns c = search picks depth 14
 
 returns-2 : tie.Need-returns-2
 unfolding made
-returns-2 c = search picks depth 12
+returns-2 c = search picks depth 14
 
 returns-3 : tie.Need-returns-3
 unfolding made
-returns-3 c = search picks depth 12
+returns-3 c = search picks depth 14
 
 returns-4 : tie.Need-returns-4
 unfolding made
-returns-4 c = search picks depth 12
+returns-4 c = search picks depth 14
 
 returns-5 : tie.Need-returns-5
 unfolding made
-returns-5 c = search picks depth 12
+returns-5 c = search picks depth 14
 
 returns-6 : tie.Need-returns-6
 unfolding made
-returns-6 c = search picks depth 12
+returns-6 c = search picks depth 14
 
 returns-7 : tie.Need-returns-7
 unfolding made
-returns-7 c = search picks depth 12
+returns-7 c = search picks depth 14
 
 returns-8 : tie.Need-returns-8
 unfolding made
-returns-8 c = search picks depth 12
+returns-8 c = search picks depth 14
 
-cast-t8 : tie.Need-cast-t8
-cast-t8 c = search needs
+returns-9 : tie.Need-returns-9
+unfolding made
+returns-9 c = search picks depth 14
 
 cast-t9 : tie.Need-cast-t9
 cast-t9 c = search needs
@@ -49,9 +50,15 @@ cast-t10 c = search needs
 cast-t11 : tie.Need-cast-t11
 cast-t11 c = search needs
 
-returns-9 : tie.Need-returns-9
+cast-t12 : tie.Need-cast-t12
+cast-t12 c = search needs
+
+cast-t13 : tie.Need-cast-t13
+cast-t13 c = search needs
+
+returns-10 : tie.Need-returns-10
 unfolding made
-returns-9 c = search picks depth 12
+returns-10 c = search picks depth 14
 
 pub new-spec : {M : Type 1} → statement M
 new-spec =
@@ -65,8 +72,10 @@ new-spec =
     returns-6
     returns-7
     returns-8
-    cast-t8
+    returns-9
     cast-t9
     cast-t10
     cast-t11
-    returns-9)
+    cast-t12
+    cast-t13
+    returns-10)

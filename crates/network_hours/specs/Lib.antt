@@ -1,0 +1,2 @@
+-- When a node is open (Hours).
+pub mod Hours

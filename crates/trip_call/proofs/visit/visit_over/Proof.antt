@@ -1,0 +1,27 @@
+-- `trip_call::visit::visit_over` meets its contract.
+use Rattle.trip_call.specs.Visit.{visit-early}
+use borrow.Author.Needs.{needs}
+use Rattle.trip_call.proofs.visit.visit_over.Statement.{statement}
+use Rattle.trip_call.proofs.visit.visit_over.Tie as tie
+
+drive-requires : tie.Need-drive-requires
+drive-requires c κs = search needs
+
+open-tick-requires : tie.Need-open-tick-requires
+open-tick-requires c κs =
+    let pre = c .before .before .before .before .before .before .before .before .before .before .before .pre in
+    let asked = pre .1 .0 in
+    (pre .0, (asked .to-node, visit-early (pre .0) asked (c .before .before .before .before .drive .ensures)))
+
+same-length : tie.Need-same-length
+same-length c = search needs
+
+same-length-2 : tie.Need-same-length-2
+same-length-2 c = search needs
+
+returns : tie.Need-returns
+returns c = search needs
+
+pub visit-over-spec : {M : Type 1} → statement M
+visit-over-spec =
+    tie.close (tie.spec drive-requires open-tick-requires same-length same-length-2 returns)
