@@ -35,8 +35,16 @@ pub fn first_points(file: &[u8], l: Layout, starts: &mut [u16; MOST_ARCS])
     }
 }
 
+// A point's number, as one of 32 bits: it is to be divided by the points of a block, in fewer steps then.
+fn short(q: usize) -> usize
+    requires { ⌜ q < 65536 ⌝ }
+    ensures { λ r. ⌜ r ≡ q ⌝ }
+{
+    (q as u32) as usize
+}
+
 // The last of `count` points from `from` on that is at or before x, counted from `from`. A step changes one
-// number by what it reads, so that no jump depends on it.
+// number by what it reads.
 fn segment(file: &[u8], l: Layout, from: usize, count: usize, x: usize) -> usize
     requires { ⌜ Laid (now file) l ⌝ }
     requires { ⌜ from + count ≤ l .points ⌝ }
@@ -48,7 +56,7 @@ fn segment(file: &[u8], l: Layout, from: usize, count: usize, x: usize) -> usize
     while 1 < left {
         let half = left / 2;
         let m = a + half;
-        if read::tick(file, l, from + m) <= x {
+        if read::tick(file, l, short(from + m)) <= x {
             a = m;
         }
         left -= half;

@@ -3,9 +3,10 @@
 use mathlib.Core.Path.{refl}
 use mathlib.Core.Logic.{⊎-elim}
 use Prim.Native.Nat.{_+_}
+use native.Mathlib.Omega.{arith}
 use Rattle.theory_travel.specs.Table.{entryAt}
 use Rattle.theory_travel.specs.Search.{Between}
-use Rattle.network.specs.Decode.{decode}
+use Rattle.network.specs.Decode.{decode, laid-small}
 use Rattle.search_arcs.specs.Halves.{left-up, left-down, halving}
 use borrow.Author.Needs.{needs}
 use Rattle.search_arcs.proofs.times.segment.Statement.{statement}
@@ -24,11 +25,14 @@ loop-holds c = search halving
 add-m : tie.Need-add-m Inv-loop μ-loop
 add-m c = search needs
 
-add-tick : tie.Need-add-tick Inv-loop μ-loop
-add-tick c = search needs
+add-short : tie.Need-add-short Inv-loop μ-loop
+add-short c = search needs
+
+short-requires : tie.Need-short-requires Inv-loop μ-loop
+short-requires c κs = omega (arith, laid-small (c .before .before .before .pre .0) .points-most)
 
 tick-requires : tie.Need-tick-requires Inv-loop μ-loop
-tick-requires c κs = (c .before .before .before .pre .0, search needs)
+tick-requires c κs = (c .before .before .before .before .pre .0, omega (arith, c .short .ensures))
 
 sub-left : tie.Need-sub-left Inv-loop μ-loop
 sub-left c = search needs
@@ -40,10 +44,10 @@ loop-again : tie.Need-loop-again Inv-loop μ-loop
 unfolding entryAt
 loop-again c =
     let t = c .before in
-    let k = t .before in
+    let k = t .before .before in
     let i = k .before .loop .inv in
     let l = k .loop-test .taken in
-    let e = t .tick .ensures .0 in
+    let e = rw (t .before .short .ensures) at (t .tick .ensures .0) in
     ⊎-elim (λ w. rw (w .1) (left-up _ _ _ _ _ _ _ _ i l refl refl e (w .0 .taken)))
     (λ w. rw (w .1) (left-down _ _ _ _ _ _ _ _ i l refl refl e (w .0 .left)))
     (c .if1 .came)
@@ -59,7 +63,8 @@ segment-spec =
     μ-loop
     loop-holds
     add-m
-    add-tick
+    add-short
+    short-requires
     tick-requires
     sub-left
     loop-less
