@@ -35,7 +35,7 @@ use std::time::Instant;
 
 /// The run without arguments: about 100 seconds of processor time.
 const DEFAULT_SEED: u64 = 20_261_115;
-const DEFAULT_CASES: u64 = 100_000;
+const DEFAULT_CASES: u64 = 90_000;
 const DEFAULT_LARGE: u64 = 550;
 const DEFAULT_IMPORTS: u64 = 20_000;
 const DEFAULT_PLANS: u64 = 1_200;
