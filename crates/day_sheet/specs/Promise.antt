@@ -101,7 +101,8 @@ not-listed : {A : Type 0} {r : Listing} {k : Count} {q : Refusal} → r ≡ list
 not-listed e f = let z : _≡_ {A = ℕ} 0 1 = cc in absurd (omega arith)
 
 begin-some : {n : ℕ} → BeginNumber n → (1 ≤ n) × (n ≢ 28)
-begin-some (inl k) = (k .0, λ e. omega arith)
+begin-some (inl (inl k)) = (k .0, λ e. omega (arith, k .1))
+begin-some (inl (inr k)) = (omega arith, λ e. omega arith)
 begin-some (inr (inl e)) = (omega arith, λ f. omega arith)
 begin-some (inr (inr (inl e))) = (omega arith, λ f. omega arith)
 begin-some (inr (inr (inr e))) = (omega arith, λ f. omega arith)
