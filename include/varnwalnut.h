@@ -15,9 +15,9 @@
  * numbers in lists of uint16_t and uint32_t are the machine's own.
  *
  * Threads: the functions have no state and may run at once on any number of threads, also on the same files.
- * Stack: below 24 KB for each function but three: varnwalnut_check_plan needs below 64 KB,
- * varnwalnut_make_plan below 56 KB, and varnwalnut_pack_network about 280 KB. varnwalnut_import_dimacs needs
- * below 1 KB.
+ * Stack: below 24 KB for each function but four: varnwalnut_check_plan needs below 64 KB,
+ * varnwalnut_make_plan below 56 KB, varnwalnut_day_sheet below 32 KB, and varnwalnut_pack_network about
+ * 280 KB. varnwalnut_import_dimacs needs below 1 KB.
  *
  * Link with libvarnwalnut.a: cc program.c -Iinclude target/staticlib/libvarnwalnut.a
  */
@@ -41,7 +41,7 @@ enum {
     VARNWALNUT_TRIP_BYTES = 1032,  /* the longest answer to a trip: 511 roads */
     VARNWALNUT_NETWORK_BYTES = 285696, /* the longest network file */
     VARNWALNUT_PLAN_BYTES = 7023616,   /* the longest plan file */
-    VARNWALNUT_WORK_ENTRIES = 1474560  /* the longest work list that making a plan needs: ticks x places */
+    VARNWALNUT_WORK_ENTRIES = 1474560  /* the longest work list that a call needs: ticks x places */
 };
 
 /* The arrival of a place that is not reached. */
@@ -94,9 +94,9 @@ enum {
     VARNWALNUT_NO_WAY = 28,         /* there is no way */
     VARNWALNUT_ROADS_SHORT = 29,    /* the list of roads is shorter than the chosen way */
     VARNWALNUT_TABLE_SHORT = 30,    /* a lent table is shorter than its count */
-    VARNWALNUT_ANSWER_SHORT = 31,   /* the answer, or the bytes for a file, are too few */
+    VARNWALNUT_ANSWER_SHORT = 31,   /* the answer, the bytes for a file or the day's list are too few */
 
-    /* making a plan */
+    /* making a plan; 34 also the day sheet */
     VARNWALNUT_PLAN_POINTS = 33,    /* the plan would have more than 1,048,576 profile points */
     VARNWALNUT_WORK_SHORT = 34,     /* the work list is shorter than ticks x places */
 
@@ -175,6 +175,26 @@ uint32_t varnwalnut_check_plan(const uint8_t *network, size_t network_length,
 uint32_t varnwalnut_make_plan(const uint8_t *network, size_t network_length,
                               uint32_t *work, size_t work_length,
                               uint8_t *out, size_t out_length,
+                              uint32_t *answer, size_t answer_length);
+
+/*
+ * The sheet for a whole day: the tick of arrival from one place to another, for every leaving tick. Entry t
+ * of `list` is for leaving at tick t. It is a full tick, the leaving tick plus the least travel, and may lie
+ * past the day's end; from a place to itself it is t. Each entry is the arrival of a plain trip that leaves
+ * then, and of a flagged trip under any plan that varnwalnut_check_plan accepts. No entry is below an earlier
+ * one, and none is more than a period above another.
+ *
+ * answer[0..4]: the places, then the period, which is how many entries are filled. `work` needs an entry for
+ * each tick of each place, at most VARNWALNUT_WORK_ENTRIES; `list` needs one for each tick, at most
+ * VARNWALNUT_MOST_TICKS. On a refusal, 28 among them, no entry of `list` changes; else its first entries
+ * become the arrivals and the others stay. On 1 to 10, 37, 25, 34 and 31 `work` stays as it was; on 28 and on
+ * success the entries that are needed end as 0, and those after them stay. Refusals: 1 to 10 with 37, 25,
+ * 34, 31, 28, in this order.
+ */
+uint32_t varnwalnut_day_sheet(const uint8_t *network, size_t network_length,
+                              uint32_t from, uint32_t to,
+                              uint32_t *work, size_t work_length,
+                              uint32_t *list, size_t list_length,
                               uint32_t *answer, size_t answer_length);
 
 /*

@@ -5,7 +5,7 @@ use crate::library;
 use crate::plain::blocks::{sums, BLOCK};
 use crate::plain::network::{self, Header, Tables};
 use crate::plain::trips::{self, Arrived, Ask};
-use crate::plain::{check, import, pack, Refusal};
+use crate::plain::{check, day, import, pack, Refusal};
 use crate::texts::{self, Text};
 use crate::town::{Dice, Town};
 
@@ -112,6 +112,44 @@ pub fn on_trips(files: &Files, asks: &[Ask]) {
         }
         byte_trips(&files.network, &files.plan, ask);
     }
+}
+
+/// What a day sheet leaves: its outcome, the work list and the list.
+type LeftDay = (Result<usize, Refusal>, Vec<u32>, Vec<u32>);
+
+fn leave_day(sheet: impl FnOnce(&mut [u32], &mut [u32]) -> Result<usize, Refusal>, work: usize, list: usize) -> LeftDay {
+    let (mut work, mut list) = (vec![7; work], vec![9; list]);
+    let outcome = sheet(&mut work, &mut list);
+    (outcome, work, list)
+}
+
+fn day_sheets(network: &[u8], from: u32, to: u32, work: usize, list: usize) -> LeftDay {
+    let left = leave_day(|work, list| library::day_sheet(network, from, to, work, list), work, list);
+    let ours = leave_day(|work, list| day::day_sheet(network, from, to, work, list), work, list);
+    assert!(left == ours, "day sheet from {from} to {to}, {work} and {list} entries");
+    left
+}
+
+/// Day sheets on a valid network: all answers and lists the same, with lists of every kind, and the entries the plain trips' arrivals.
+pub fn on_days(files: &Files, town: &Town, asks: &[Ask]) {
+    let (nodes, period) = (town.cells.len(), town.period as usize);
+    let size = nodes * period;
+    for ask in asks {
+        let (outcome, _, list) = day_sheets(&files.network, ask.from, ask.to, size + 1, period + 1);
+        assert!(outcome.is_ok_and(|entries| entries == period) && list[period] == 9);
+        for departure in (0..period).step_by(61) {
+            let ask = Ask { departure: departure as u32, ..*ask };
+            let trip = plain_trips(&files.network, &ask).0;
+            assert_eq!(trip.map(|(tick, _)| tick), Ok(list[departure]), "{ask:?}");
+        }
+    }
+    let number = |from, to, work, list| day_sheets(&files.network, from, to, work, list).0.map_err(|refusal| refusal.number);
+    let none = nodes as u32;
+    assert_eq!(number(none, none, 0, 0), Err(25));
+    assert_eq!(number(0, none, 0, 0), Err(25));
+    assert_eq!(number(0, 1, size - 1, 0), Err(34));
+    assert_eq!(number(0, 1, size, period - 1), Err(31));
+    assert_eq!(number(0, 0, size, period), Ok(period));
 }
 
 pub fn on_tables(town: &Town, files: &Files) {

@@ -94,6 +94,18 @@ mod entry {
             answer: *mut u32,
             answer_len: usize,
         ) -> u32;
+        pub fn varnwalnut_day_sheet(
+            network: *const u8,
+            network_len: usize,
+            from: u32,
+            to: u32,
+            work: *mut u32,
+            work_len: usize,
+            list: *mut u32,
+            list_len: usize,
+            answer: *mut u32,
+            answer_len: usize,
+        ) -> u32;
         pub fn varnwalnut_plain_trip_lists(
             network: *const u8,
             network_len: usize,
@@ -282,4 +294,23 @@ pub fn import(text: &[u8], number: u32, out: &mut [u8]) -> Result<usize, Refusal
         entry::varnwalnut_import_dimacs(text.as_ptr(), text.len(), number, out.as_mut_ptr(), out.len(), answer.as_mut_ptr(), answer.len())
     };
     outcome(refusal, &answer, answer[3] as usize)
+}
+
+pub fn day_sheet(network: &[u8], from: u32, to: u32, work: &mut [u32], list: &mut [u32]) -> Result<usize, Refusal> {
+    let mut answer = [0; 4];
+    let number = unsafe {
+        entry::varnwalnut_day_sheet(
+            network.as_ptr(),
+            network.len(),
+            from,
+            to,
+            work.as_mut_ptr(),
+            work.len(),
+            list.as_mut_ptr(),
+            list.len(),
+            answer.as_mut_ptr(),
+            answer.len(),
+        )
+    };
+    outcome(number, &answer, answer[3] as usize)
 }

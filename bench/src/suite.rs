@@ -3,7 +3,7 @@ use crate::agree::{self, Opened};
 use crate::files::{self, Files};
 use crate::measure::{interleave, spread, Work};
 use crate::plain::trips::{self, Ask};
-use crate::plain::{check, import, network, pack, Refusal};
+use crate::plain::{check, day, import, network, pack, Refusal};
 use crate::texts::Text;
 use crate::town::{self, Dice, Shape, Town};
 use crate::{finds, library, stack, table};
@@ -68,6 +68,7 @@ pub fn agree(medium: &Subject, full: &Subject, texts: &[Text]) {
     for subject in [medium, full] {
         agree::on_tables(&subject.town, &subject.files);
         agree::on_trips(&subject.files, &subject.asks);
+        agree::on_days(&subject.files, &subject.town, &subject.asks[..8]);
     }
     let trips = agree::on_damaged_files(&medium.files, &medium.asks, 2000);
     let hours = agree::on_hours(&medium.town, &medium.files, &medium.asks, 1000);
@@ -99,6 +100,9 @@ pub fn run(subject: &Subject, effort: &Effort, checks: usize) {
     }
     if wants("pack") {
         packs(subject, effort.rounds);
+    }
+    if wants("day sheet") {
+        day_sheets(subject, effort.rounds);
     }
     if wants("check") && checks > 0 {
         check_plans(subject, checks);
@@ -231,6 +235,35 @@ fn packs(subject: &Subject, rounds: usize) {
     table::print("pack", subject.name, &library, &rust);
 }
 
+/// The sheet for one pair of places, and a plain trip for each tick in its place.
+fn day_sheets(subject: &Subject, rounds: usize) {
+    let (network, period) = (&subject.files.network, subject.town.period);
+    let size = subject.town.cells.len() * period as usize;
+    let (mut work, mut our_work) = (vec![0; size], vec![0; size]);
+    let (mut list, mut our_list) = (vec![0; period as usize], vec![0; period as usize]);
+    let asks = &subject.asks;
+    let [library, rust] = interleave(
+        rounds,
+        8,
+        [
+            Box::new(|call| _ = black_box(library::day_sheet(network, asks[call].from, asks[call].to, &mut work, &mut list))),
+            Box::new(|call| _ = black_box(day::day_sheet(network, asks[call].from, asks[call].to, &mut our_work, &mut our_list))),
+        ],
+    );
+    table::print("day sheet", subject.name, &library, &rust);
+    let mut answer = [0; 1032];
+    let every: Vec<Ask> = (0..period as u32).map(|departure| Ask { departure, ..asks[0] }).collect();
+    let [sheet, trips] = interleave(
+        rounds / 10 + 1,
+        1,
+        [
+            Box::new(|_| _ = black_box(library::day_sheet(network, asks[0].from, asks[0].to, &mut work, &mut list))),
+            Box::new(|_| every.iter().for_each(|ask| _ = black_box(library::plain_trip(network, &mut answer, ask)))),
+        ],
+    );
+    table::print_factor("  a trip for each tick", subject.name, &trips, &sheet);
+}
+
 fn check_plans(subject: &Subject, rounds: usize) {
     let Files { network, plan, .. } = &subject.files;
     let accept = |verdict: Result<(), Refusal>| assert_eq!(black_box(verdict), Ok(()));
@@ -299,4 +332,6 @@ pub fn stacks(full: &Subject, medium: &Subject, text: &Text) {
     println!("  open                {}", stack::need(|| _ = library::open(network, opened.lend())));
     println!("  pack                {}", stack::need(|| _ = library::pack(&header, &lists, &mut out)));
     println!("  import              {}", stack::need(|| _ = library::import(&text.bytes, 1, &mut out)));
+    let (mut work, mut list) = (vec![0; 512 * 2880], vec![0; 2880]);
+    println!("  day sheet           {}", stack::need(|| _ = library::day_sheet(network, ask.from, ask.to, &mut work, &mut list)));
 }

@@ -46,3 +46,15 @@ pub fn print_text_rate(text: &str, bytes: usize, library: &Times, rust: &Times) 
 pub fn print_finds(town: &str, finds: u64, bound: &RangeInclusive<u64>) {
     println!("{:24} {town:6} {finds}, of {} to {} allowed", "  finds", bound.start(), bound.end());
 }
+
+/// A line below an operation: another way to the same, and how many times as long it takes.
+pub fn print_factor(way: &str, town: &str, other: &Times, library: &Times) {
+    let factors = spread(&other.over(library));
+    println!(
+        "{way:24} {town:6} {:26} {:.0} ({:.0} to {:.0}) times as long",
+        times(spread(&other.0)),
+        factors.median,
+        factors.low,
+        factors.high
+    );
+}

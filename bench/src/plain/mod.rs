@@ -1,7 +1,8 @@
-//! The operations of document 01 and the import in plain Rust, written for speed and without proofs, as the measure for the library:
+//! The operations of document 01, the import and the day sheet in plain Rust, written for speed and without proofs, as the measure for the library:
 //! the same bytes in place, the same validation on every call, the same answers.
 pub mod blocks;
 pub mod check;
+pub mod day;
 pub mod import;
 pub mod network;
 pub mod pack;

@@ -2,6 +2,6 @@
 //   trip      the tablet's answer to a trip, in bytes
 //   numbers   the desk's answers, in numbers
 // It may call `file_fields` for fields, and names what `network`, `plan_check`, `search_path`, `trip_call` and
-// the writers of files (`file_refusals`) answer.
+// operations that write files or fill lists (`file_refusals`) answer.
 pub mod numbers;
 pub mod trip;

@@ -1,5 +1,6 @@
 // The desk's answers in lent numbers: the three places of a refusal, then the answer's own values. Each
 // returns the refusal, or 0.
+use file_refusals::listing::Listing;
 use file_refusals::writing::Writing;
 use network::answer::Opening;
 use plan_check::answer::Checking;
@@ -12,6 +13,7 @@ ghost use lib.ListN.{length};
 ghost use Rattle.theory_loops.specs.Fill.{overwritten};
 ghost use Rattle.file_refusals.specs.Says.{numbersOf};
 ghost use Rattle.network.specs.Answer.{openingSays};
+ghost use Rattle.file_refusals.specs.Listing.{listingSays};
 ghost use Rattle.file_refusals.specs.Writing.{writingSays};
 ghost use Rattle.plan_check.specs.Answer.{reportSays};
 ghost use Rattle.search_path.specs.Says.{tripCount};
@@ -101,6 +103,27 @@ pub fn write_writing(packing: Writing, answer: &mut [u32]) -> u32
             0
         }
         Writing::Refused(r) => {
+            let numbers = [r.first, r.second, r.third, 0];
+            write(&numbers, answer);
+            r.number
+        }
+    }
+}
+
+// What an operation that fills a list answers.
+pub fn write_listing(listing: Listing, answer: &mut [u32]) -> u32
+    requires { ⌜ 4 ≤ length (now answer) ⌝ }
+    ensures code { λ r. ⌜ r ≡ listingSays listing .number ⌝ }
+    ensures numbers { λ _. ⌜ now (answer .exit)
+        ≡ overwritten (numbersOf (listingSays listing)) (now (answer .entry)) ⌝ }
+{
+    match listing {
+        Listing::Listed(c) => {
+            let numbers = [0, 0, 0, c.entries];
+            write(&numbers, answer);
+            0
+        }
+        Listing::Refused(r) => {
             let numbers = [r.first, r.second, r.third, 0];
             write(&numbers, answer);
             r.number

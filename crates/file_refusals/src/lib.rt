@@ -2,6 +2,8 @@
 // nothing.
 //   number    the numbers, by name
 //   writing   what an operation that writes a file answers
+//   listing   what an operation that fills a lent list answers
+pub mod listing;
 pub mod number;
 pub mod writing;
 

@@ -1,30 +1,23 @@
 -- Making a plan of a network: the answer, what becomes of the lent work list and of the lent bytes, and the
 -- call (`MakeCall`). The bytes that are written become the plan's file.
-use mathlib.Core.Path.{_≡_, refl}
+use mathlib.Core.Path.{_≡_}
 use mathlib.Core.Bool.{cond}
 use mathlib.Core.List.{List}
-use Prim.Native.Nat.{ℕ, _*_, _≤_, _<_}
+use Prim.Native.Nat.{ℕ}
 use lib.ListN.{length}
 use lib.Dec.{ltb}
-use borrow.Author.Tests.{lt-ltb, le-ltb}
-use Rattle.theory_loops.specs.Fill.{tab, overwritten}
-use Rattle.file_refusals.specs.declared.Refusal.{Refusal}
 use Rattle.file_refusals.specs.declared.writing.Writing.{Writing}
 use Rattle.file_refusals.specs.declared.writing.Writing.the-variants.{Refused}
-use Rattle.file_refusals.specs.Writing.{unwritten, writtenInto, bytesAfter, Writes, writes-refused}
+use Rattle.file_refusals.specs.Writing.{unwritten, writtenInto, bytesAfter}
 use Rattle.network.specs.declared.answer.Opening.{Opening}
 use Rattle.network.specs.declared.answer.Opening.the-variants as opening
-use Rattle.network.specs.declared.header.Header.{Header}
-use Rattle.network.specs.Network.{Network, nodes}
+use Rattle.network.specs.Network.{Network}
 use Rattle.network.specs.Decode.{decode}
 use Rattle.network.specs.Validate.{validated}
 use Rattle.plan.specs.PlanDecode.{pointTotal}
 use Rattle.plan.specs.PlanLimits.{mostProfilePoints}
 use Rattle.plan_made.specs.File.{madePlan, madeFile}
-
--- the entries of a work list: one for each node and tick
-abbrev pub workSize : Network → ℕ
-workSize n = nodes n * n .period
+use Rattle.toward_node.specs.Work.{workSize, cleared}
 
 -- 33: more points than a plan can hold; then 31
 unfoldable pub madeInto : Network → ℕ → Writing
@@ -47,7 +40,7 @@ making network work room = madeOver (validated network) (decode network) work ro
 
 -- the work list at exit: as it was up to 34, and past it the first entries are zero
 unfoldable pub zeroed : Network → List ℕ → List ℕ
-zeroed n old = cond (ltb (length old) (workSize n)) old (overwritten (tab (workSize n) (λ _. 0)) old)
+zeroed n old = cond (ltb (length old) (workSize n)) old (cleared n old)
 
 abbrev pub zeroedOver : Opening → Network → List ℕ → List ℕ
 zeroedOver (opening.Refused r) n old = old

@@ -3,10 +3,10 @@ use mathlib.Core.Path.{_≡_, refl, sym, _∙_, ap}
 use mathlib.Core.List.{List, _++_}
 use Prim.Native.Nat.{ℕ, zero, suc, _*_, _≤_, _<_}
 use native.Mathlib.Omega.{arith}
-use lib.ListN.{length, getD, take, drop, length-append}
-use lib.Seq.{drop-at, length-sets, length-take-le}
+use lib.ListN.{length, getD, take, drop}
+use lib.Seq.{length-sets}
 use borrow.Author.Tests.{lt-ltb, le-ltb}
-use Rattle.theory_loops.specs.Fill.{Filled, tab, length-tab, overwritten, filled-list}
+use Rattle.theory_loops.specs.Fill.{Filled, tab, overwritten}
 use Rattle.theory_loops.specs.Total.{total}
 use Rattle.file_fields.specs.Block.{blockSize}
 use Rattle.file_fields.specs.Fields.{byteOf}
@@ -26,11 +26,10 @@ use Rattle.network.specs.declared.answer.Opening.the-variants as opening
 use Rattle.network.specs.declared.header.Header.{Header}
 use Rattle.network.specs.declared.header.Layout.{Layout}
 use Rattle.network.specs.Network.{Network, nodes, arcs, start}
-use Rattle.network.specs.Layout.{layoutOf}
 use Rattle.network.specs.Decode.{decode}
 use Rattle.network.specs.Town.{partitionOf}
 use Rattle.network.specs.Validate.{validated}
-use Rattle.network.specs.Valid.{ValidFile, valid-laid, valid-exactly}
+use Rattle.network.specs.Valid.{ValidFile, valid-exactly}
 use Rattle.plan.specs.declared.header.PlanHeader.{PlanHeader}
 use Rattle.plan.specs.declared.header.PlanLayout.{PlanLayout}
 use Rattle.plan.specs.Border.{borderCount}
@@ -45,32 +44,25 @@ use Rattle.plan_encode.specs.PlanRoundTrip.{encode-plan-long}
 use Rattle.plan_encode.specs.PlanWritten.{plan-written}
 use Rattle.plan_made.specs.Made.{made-total, made-word, madeCount}
 use Rattle.plan_made.specs.File.{madePlan, madeHeader, madeFile, made-matches}
-use Rattle.plan_make.specs.Make.{workSize, madeInto, madeWith, zeroed, MakesOpened, MakeCall}
-use Rattle.search_arcs.specs.Town.{Town, town-of}
+use Rattle.toward_node.specs.Work.{workSize, primed-of, work-cleared}
+use Rattle.plan_make.specs.Make.{madeInto, madeWith, zeroed, MakesOpened, MakeCall}
+use Rattle.search_arcs.specs.Town.{Town}
 use Rattle.search_arcs.specs.Chain.{Chained, endOf}
 use Rattle.search_arcs.specs.declared.chain.End.the-variants.{Head}
-use Rattle.toward_row.specs.Arcs.{Primed}
 use Rattle.toward_node.specs.Leasts.{Leasts}
 use Rattle.plan.specs.Border
 use Rattle.plan.specs.Borders.{listed-front}
 use Rattle.plan_make.specs.Rounds.{Tables, Counted, Held, PutTo}
 
 -- THE TABLES
-pub valid-town : {file : List ℕ} {h : Header} {l : Layout} → ValidFile file h → l ≡ layoutOf h → Town file l
-valid-town v e = town-of (rw e (valid-laid v)) (v .sound)
-
 module _ {file : List ℕ} {l : Layout} (t : Town file l) where
-  pub primed-of : {old starts : List ℕ} → Filled 0 (l .arcs) (start (decode file)) old starts
-      → Primed file l starts
-  primed-of f = record { town = t; first = λ a h. f .written a (omega arith) h }
-
   pub tables-of : {old starts into next least borders : List ℕ} (before : List ℕ)
       → Filled 0 (l .arcs) (start (decode file)) old starts
       → Chained (endOf (decode file) Head) (l .nodes) (l .arcs) 0 into next → Leasts file l (l .arcs) least
       → borders ≡ overwritten (Border.borders (partitionOf (decode file))) before
       → Tables file l starts into next least borders
   tables-of before f c m e = record {
-    ready = record { primed = primed-of f; chained = c };
+    ready = record { primed = primed-of t f; chained = c };
     leasts = m;
     listed = listed-front (partitionOf (decode file)) before _ e;
   }
@@ -252,23 +244,13 @@ module _ {n : Network} {size : ℕ} (s : size ≡ workSize n) {out₀ : List ℕ
       → Writes (madeInto n (length out₀)) (madeFile n) out₀ out₁ r
       → MakesOpened n work new out₀ out₁ r
   unfolding madeWith zeroed
-  work-long {work} {mid} {new} ys l z e f w =
-      let y : length ys ≡ size =
-      z ∙ length-take-le size work l in
+  work-long {work} ys l z e f w =
       let t = le-ltb (length work) (workSize n) (omega arith) in
-      let d : drop size mid ≡ drop size work = rw e (drop-at ys (drop size work) size y) in
-      let m : size ≤ length mid = rw e (omega (arith, length-append ys (drop size work))) in
       record {
         answer = rw t (w .answer);
-        work = rw (t, ← s, length-tab size (λ _. 0)) (filled-list (λ _. 0) size mid new m f ∙ rw d);
+        work = rw t (work-cleared n work ys s l z e f);
         written = w .written;
       }
-
-pub size-is : {file : List ℕ} {h : Header} {l : Layout} → ValidFile file h → l ≡ layoutOf h
-    → l .nodes * l .period ≡ workSize (decode file)
-size-is v e =
-    let z = valid-town v e .sizes in
-    rw (z .nodes, z .period)
 
 -- 1 to 10
 module _ {network work₀ out₀ : List ℕ} {o : Opening} where

@@ -22,7 +22,8 @@ use Rattle.network.specs.Validate.{validated}
 use Rattle.plan.specs.PlanDecode.{pointTotal}
 use Rattle.plan.specs.PlanLimits.{mostProfilePoints}
 use Rattle.plan_made.specs.File.{madePlan, madeFile}
-use Rattle.plan_make.specs.Make.{workSize, madeInto, madeWith, madeOver, making}
+use Rattle.toward_node.specs.Work.{workSize}
+use Rattle.plan_make.specs.Make.{madeInto, madeWith, madeOver, making}
 
 -- document 02's numbers for Make plan
 abbrev pub MakeNumber : ℕ → Type 0

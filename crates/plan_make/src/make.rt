@@ -24,10 +24,11 @@ use search_arcs::chain;
 use search_arcs::chain::End;
 use search_arcs::times;
 use toward_node::leasts::least_of_arcs;
+use toward_node::work::zero;
 ghost use mathlib.Core.Path.{_≡_};
 ghost use Prim.Native.Nat.{_*_, _^_, _≤_, _<_};
 ghost use lib.ListN.{length};
-ghost use Rattle.theory_loops.specs.Fill.{Filled, overwritten};
+ghost use Rattle.theory_loops.specs.Fill.{overwritten};
 ghost use Rattle.file_refusals.specs.Writing.{Writes};
 ghost use Rattle.network.specs.Decode.{decode};
 ghost use Rattle.network.specs.Layout.{layoutOf};
@@ -177,16 +178,6 @@ fn make_listed(file: &[u8], h: Header, l: Layout, work: &mut [u32], out: &mut [u
         work,
         out,
     )
-}
-
-// The first entries of the work list become zero.
-fn zero(work: &mut [u32], size: usize)
-    requires { ⌜ size ≤ length (now work) ⌝ }
-    ensures { λ _. ⌜ Filled 0 size (λ _. 0) (now (work .entry)) (now (work .exit)) ⌝ }
-{
-    for i in 0..size {
-        work[i] = 0;
-    }
 }
 
 // Refusals 34, 33 and 31, or the plan written; past 34 the work list ends as zero.

@@ -3,12 +3,14 @@
 // row has fallen is dirty; the arcs into a dirty node lower the rows of their tails, whole rows at a time,
 // until no node is dirty. The order in which nodes are taken is free; the nearest dirty node is taken first.
 //   leasts   the least travel of each arc
+//   work     the lent list as a whole
 // Two tables stand beside the rows: `near`, 0 where a node is clean and else never less a number that no
 // entry of its row is below, and `room`, 0 where it has no number yet and else never less its greatest
 // (specs/Heights.antt). By them an arc that cannot lower its tail's row is passed over.
 // It may call `toward_row` for an arc lowered into a row and `network` for the entries of the file; it cites
 // `search_arcs`, `theory_loops`, `theory_paths` and `theory_travel`.
 pub mod leasts;
+pub mod work;
 
 use network::header::Layout;
 use network::limits::MOST_ARCS;

@@ -25,10 +25,10 @@ pub record Asked (h : Header) (from to departure room : ℕ) : Type 0 where
   pub early : departure < h .period
   pub long : h .nodes ≤ room
 
-not-opened : (number place : ℕ) (h : Header) → unopened number place ≡ Opened h → ⊥
+pub not-opened : (number place : ℕ) (h : Header) → unopened number place ≡ Opened h → ⊥
 not-opened number place h e = let z : _≡_ {A = ℕ} 0 1 = cc in omega arith
 
-one-header : (k h : Header) → Opened k ≡ Opened h → k ≡ h
+pub one-header : (k h : Header) → Opened k ≡ Opened h → k ≡ h
 one-header k h e = cc
 
 pub asked-passed : (k h : Header) (from to departure room : ℕ) → asked k from to departure room ≡ Opened h

@@ -23,6 +23,8 @@ use Rattle.plan_check.specs.Answer.{reportSays}
 use Rattle.plan_check.specs.CheckPlan.{checking}
 use Rattle.plan_check.specs.Finds.{Finds}
 use Rattle.plan_make.specs.Make.{MakeCall}
+use Rattle.file_refusals.specs.Listing.{listingSays}
+use Rattle.file_refusals.specs.declared.listing.Listing.{Listing}
 use Rattle.file_refusals.specs.declared.writing.Writing.{Writing}
 use Rattle.search_path.specs.declared.answer.Arrival.{Arrival}
 use Rattle.search_path.specs.declared.answer.Answer.{Answer}
@@ -37,11 +39,12 @@ use Rattle.trip.specs.Flagged.{flaggedArcs}
 use Rattle.trip.specs.Promise.{trip-arrived}
 use Rattle.trip.specs.Numbers.{plain-begins, flagged-begins}
 use Rattle.trip.specs.Calls.{plainAnswer, flaggedAnswer}
+use Rattle.day_sheet.specs.Sheet.{DaySheet}
 use Rattle.c_replies.specs.Reply.{tripSize, bytes, roadBytes, tripBytes}
 use Rattle.c_replies.specs.Writing.{trip-long}
 use Rattle.varnwalnut.specs.Room.{roomed, kept}
 use Rattle.varnwalnut.specs.Replies.{TripReply, DeskReply, CheckReply, OpenReply, WriteReply, MakeReply}
-use Rattle.varnwalnut.specs.Replies.{TripDesk}
+use Rattle.varnwalnut.specs.Replies.{SheetReply, TripDesk}
 
 -- ROOM
 module _ (w room : ℕ) where
@@ -138,6 +141,28 @@ module _ (network work₀ out₀ before : List ℕ) (r : ℕ) where
         reply = rw q at (desk-written 4 (writingSays o) before r after l e f);
         work = kept-enough 4 _ work₀ l (c .work);
         written = kept-enough 4 _ out₀ l (rw q at (c .written));
+      }
+
+-- THE DAY SHEET
+module _ (network : List ℕ) (from to : ℕ) (work₀ list₀ before : List ℕ) (r : ℕ) where
+  pub sheet-short : length before < 4 → r ≡ 31
+      → SheetReply network from to work₀ work₀ list₀ list₀ before before r
+  sheet-short l e = record {
+    reply = desk-short 4 _ before r l e;
+    work = kept-short 4 _ work₀ _ l;
+    list = kept-short 4 _ list₀ _ l;
+  }
+
+  pub sheet-written : (o : Listing) (work₁ list₁ after : List ℕ) → 4 ≤ length before
+      → DaySheet network from to work₀ work₁ list₀ list₁ o → r ≡ listingSays o .number
+      → after ≡ overwritten (numbersOf (listingSays o)) before
+      → SheetReply network from to work₀ work₁ list₀ list₁ before after r
+  sheet-written o work₁ list₁ after l c e f =
+      let q = c .answer in
+      record {
+        reply = rw q at (desk-written 4 (listingSays o) before r after l e f);
+        work = kept-enough 4 _ work₀ l (c .work);
+        list = kept-enough 4 _ list₀ l (rw q at (c .list));
       }
 
 -- THE TRIPS WITH LISTS

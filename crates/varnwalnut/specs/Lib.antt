@@ -1,6 +1,6 @@
 -- The C library: that too little room is refused first (Room), what a call returns and leaves (Replies), the
--- laws for the entries (Calling), a call that writes a file and returns 0 (Returned), what the check tells
--- (Checker), and what a plan that is made (Planner) and a text that is imported (Importer) are good for.
+-- laws for the entries (Calling), a call that returns 0 (Returned), what the check tells (Checker), and what
+-- a plan that is made (Planner), a text that is imported (Importer) and a day sheet (Lister) are good for.
 pub mod Room
 pub mod Replies
 pub mod Calling
@@ -8,3 +8,4 @@ pub mod Returned
 pub mod Checker
 pub mod Planner
 pub mod Importer
+pub mod Lister

@@ -19,6 +19,7 @@ use Rattle.network_open.specs.Open.{opening, tablesAfter}
 use Rattle.network_encode.specs.Encode.{encode}
 use Rattle.file_refusals.specs.declared.writing.Writing.{Writing}
 use Rattle.file_refusals.specs.Writing.{writingSays, bytesAfter}
+use Rattle.file_refusals.specs.Listing.{listingSays, listAfter}
 use Rattle.network_pack.specs.Pack.{packing}
 use Rattle.dimacs_import.specs.Import.{importing, importedFile}
 use Rattle.plan_check.specs.Answer.{reportSays}
@@ -33,6 +34,8 @@ use Rattle.trip_call.specs.Trip.{tripAnswer, tripArrivals, tripRoads}
 use Rattle.trip_call.specs.Visit.{openTick, visitSays}
 use Rattle.trip.specs.Plain.{plainBegin}
 use Rattle.trip.specs.Flagged.{flaggedBegin, flaggedArcs}
+use Rattle.day_sheet.specs.Sheet as sheet
+use Rattle.day_sheet.specs.Sheet.{sheetBegin, listing, dayArrivals}
 use Rattle.c_replies.specs.Reply.{tripSize, tripBytes}
 use Rattle.varnwalnut.specs.Room.{roomed, kept}
 
@@ -81,6 +84,17 @@ pub record MakeReply (network work₀ work₁ out₀ out₁ before after : List 
   pub work : work₁ ≡ kept 4 (length before) work₀ (workAfter network work₀)
   pub written : out₁ ≡ kept 4 (length before) out₀
       (bytesAfter (making network (length work₀) (length out₀)) (madeFile (decode network)) out₀)
+
+-- The day sheet: beside the reply, the work list, and the list of the day's arrivals
+pub record SheetReply (network : List ℕ) (from to : ℕ) (work₀ work₁ list₀ list₁ before after : List ℕ)
+    (returned : ℕ) : Type 0 where
+  pub reply : DeskReply 4 (listingSays (listing network from to (length work₀) (length list₀))) before after
+      returned
+  pub work : work₁ ≡ kept 4 (length before) work₀
+      (sheet.workAfter (sheetBegin network from to (length work₀) (length list₀)) (decode network) work₀)
+  pub list : list₁ ≡ kept 4 (length before) list₀
+      (listAfter (listing network from to (length work₀) (length list₀))
+      (dayArrivals (decode network) from to) list₀)
 
 -- A trip: beside the reply, the lists of arrivals and of roads. b is what comes before the search, from s to
 -- t over the permitted arcs of the network n, leaving at tick x.

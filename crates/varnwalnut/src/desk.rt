@@ -2,9 +2,11 @@
 // refusal, then the answer's own values. A list of numbers that is shorter than named gives 31 before all
 // else, and nothing is written.
 use c_replies::numbers::write_checking;
+use c_replies::numbers::write_listing;
 use c_replies::numbers::write_lists;
 use c_replies::numbers::write_opening;
 use c_replies::numbers::write_writing;
+use day_sheet::sheet::day_sheet;
 use dimacs_import::import::import_dimacs;
 use file_refusals::number::ANSWER_SHORT;
 use network_open::open::open_network;
@@ -16,7 +18,7 @@ use trip::plain::plain_trip;
 ghost use Rattle.network.specs.Tables.{tables};
 ghost use Rattle.network_pack.specs.Pack.{numbers};
 ghost use Rattle.varnwalnut.specs.Replies.{CheckReply, OpenReply, PackReply, ImportReply, MakeReply};
-ghost use Rattle.varnwalnut.specs.Replies.{PlainDesk, FlaggedDesk};
+ghost use Rattle.varnwalnut.specs.Replies.{SheetReply, PlainDesk, FlaggedDesk};
 
 // Is the plan one that the flagged trips of the network may trust? And how many finds that took.
 #[no_mangle]
@@ -154,6 +156,25 @@ pub extern "C" fn varnwalnut_make_plan(
         return ANSWER_SHORT;
     }
     write_writing(make_plan(network, work, out), answer)
+}
+
+// The arrivals of a whole day from one node to another, and how many there are.
+#[no_mangle]
+pub extern "C" fn varnwalnut_day_sheet(
+    network: &[u8],
+    from: u32,
+    to: u32,
+    work: &mut [u32],
+    list: &mut [u32],
+    answer: &mut [u32],
+) -> u32
+    ensures { λ r. ⌜ SheetReply (now (network .entry)) from to (now (work .entry)) (now (work .exit))
+        (now (list .entry)) (now (list .exit)) (now (answer .entry)) (now (answer .exit)) r ⌝ }
+{
+    if answer.len() < 4 {
+        return ANSWER_SHORT;
+    }
+    write_listing(day_sheet(network, from, to, work, list), answer)
 }
 
 // The plain trip with lent lists.

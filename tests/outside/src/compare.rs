@@ -1,8 +1,9 @@
-//! One input through all eight functions that work on networks: the reference predicts the returned number,
+//! One input through all nine functions that work on networks: the reference predicts the returned number,
 //! the answer and every entry of lent memory, and each difference becomes a line of text. The import has
 //! inputs of its own.
 
 mod check_plan;
+mod day_sheet;
 mod import;
 mod make_plan;
 
@@ -17,6 +18,7 @@ use crate::reference::{refuse, Refusal};
 use std::rc::Rc;
 
 pub use check_plan::{compare_check, TellsFinds};
+pub use day_sheet::{compare_day_sheet, DaySheetCall};
 pub use import::{compare_import, ImportCall, Imported};
 pub use make_plan::PlannerLengths;
 
@@ -36,6 +38,17 @@ pub struct Verdict {
 }
 
 impl Verdict {
+    /// The reference's reading of the files; no function is called.
+    pub fn of_files(input: &Input) -> Verdict {
+        let opened = network::open(&input.network);
+        let planned = match &opened {
+            Ok(network) => plan::open(network, &input.plan),
+            Err(refusal) => Err(*refusal),
+        };
+        let predicted = [None; ON_NETWORKS];
+        Verdict { predicted, differences: Vec::new(), opened, planned, finds: None, made: None }
+    }
+
     pub fn refusal(&self, operation: usize) -> u32 {
         self.predicted[operation].map_or(0, |refusal| refusal.number)
     }
@@ -61,11 +74,7 @@ pub fn compare(input: &Input) -> Verdict {
 
 /// These functions on an input.
 pub fn compare_all(functions: Functions, input: &Input) -> Verdict {
-    let opened = network::open(&input.network);
-    let planned = match &opened {
-        Ok(network) => plan::open(network, &input.plan),
-        Err(refusal) => Err(*refusal),
-    };
+    let Verdict { opened, planned, .. } = Verdict::of_files(input);
     let made = opened.as_ref().ok().map(|network| made::of(&input.network, network));
     let mut run = Run { functions, ..Run::new(input, &opened, &planned, made) };
     let (checked, finds) = run.check_plan();
@@ -78,6 +87,7 @@ pub fn compare_all(functions: Functions, input: &Input) -> Verdict {
         run.trip_lists(PLAIN_LISTS),
         run.trip_lists(FLAGGED_LISTS),
         run.make_plan(),
+        run.day_sheet(),
     ];
     let (made, differences) = (run.made, run.differences);
     Verdict { predicted, differences, opened, planned, finds, made }

@@ -1,8 +1,9 @@
-//! Inputs kept as files. A corpus file is the four bytes VWC4, 39 numbers of 32 bits, low byte first, the
+//! Inputs kept as files. A corpus file is the four bytes VWC5, 42 numbers of 32 bits, low byte first, the
 //! network's bytes and the plan's. The numbers: from, to, departure; pack's number, P, N, R, K, Q and hours;
 //! the lengths of the arrival list, the road list, the C trips' answer, the answers of the lists, the check,
 //! open and pack, pack's out-bytes, open's eight tables and pack's eight; the network's length and the
-//! plan's; the lengths of the planner's work list, out-bytes and answer.
+//! plan's; the lengths of the planner's work list, out-bytes and answer, and of the day sheet's work list,
+//! list and answer.
 //!
 //! Texts for the import are kept there too, written by hand. Such a file is a line with VWD1 and six decimal
 //! numbers, one space apart, and then the text's bytes. The numbers: network number, lengths of the out-bytes
@@ -11,6 +12,7 @@
 use crate::compare::{compare, compare_import, ImportCall, Verdict};
 use crate::input::{Input, Lengths, NO_LISTS};
 use crate::library::{import_dimacs, ON_NETWORKS};
+use crate::reference::day_sheet::DayLengths;
 use crate::reference::make_plan::MakeLengths;
 use crate::reference::network::{Header, TABLES};
 use crate::reference::trips::TripCall;
@@ -18,8 +20,8 @@ use crate::reference::Refusal;
 use std::path::{Path, PathBuf};
 use std::{fs, io};
 
-const MAGIC: &[u8; 4] = b"VWC4";
-const NUMBERS: usize = 39;
+const MAGIC: &[u8; 4] = b"VWC5";
+const NUMBERS: usize = 42;
 const TEXT_MAGIC: &[u8; 5] = b"VWD1 ";
 /// No lent list of a corpus file is longer: a plan's most bytes and some.
 const MOST_LENGTH: u32 = 8_000_000;
@@ -42,6 +44,7 @@ pub fn to_bytes(input: &Input) -> Vec<u8> {
     counts.extend(lengths.pack_tables);
     counts.extend([input.network.len(), input.plan.len()]);
     counts.extend([lengths.make.work, lengths.make.out, lengths.make_answer]);
+    counts.extend([lengths.day.work, lengths.day.list, lengths.day_answer]);
     numbers.extend(counts.iter().map(|&count| count as u32));
     let mut bytes = MAGIC.to_vec();
     bytes.extend(numbers.iter().flat_map(|number| number.to_le_bytes()));
@@ -97,11 +100,15 @@ pub fn from_bytes(bytes: &[u8]) -> Option<Input> {
         pack_tables: numbers.table_lengths()?,
         make: NO_LISTS,
         make_answer: 0,
+        day: DayLengths { work: 0, list: 0 },
+        day_answer: 0,
     };
     let (network, plan) = files.split_at_checked(numbers.length()?)?;
     (plan.len() == numbers.length()?).then_some(())?;
     lengths.make = MakeLengths { work: numbers.length()?, out: numbers.length()? };
     lengths.make_answer = numbers.length()?;
+    lengths.day = DayLengths { work: numbers.length()?, list: numbers.length()? };
+    lengths.day_answer = numbers.length()?;
     Some(Input { network: network.to_vec(), plan: plan.to_vec(), call, pack, lengths })
 }
 
@@ -200,7 +207,7 @@ fn import_differences(kept: &KeptText) -> Vec<String> {
     differences
 }
 
-/// The eight operations' refusals, in order.
+/// The nine operations' refusals, in order.
 fn refusals(verdict: &Verdict) -> String {
     (0..ON_NETWORKS).map(|operation| verdict.refusal(operation).to_string()).collect::<Vec<_>>().join(" ")
 }

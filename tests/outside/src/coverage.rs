@@ -147,16 +147,17 @@ fn possible(operation: usize) -> Vec<u32> {
         PLAIN_LISTS => network.chain(25..=29).chain([31]).collect(),
         FLAGGED_LISTS => network.chain(plan).chain(25..=29).chain([31]).collect(),
         MAKE => network.chain([31, 33, 34]).collect(),
+        DAY => network.chain([25, 28, 31, 34]).collect(),
         _ => vec![31, 35, 36],
     }
 }
 
 /// False where nothing that is refused later can stand beside it: 29 is the last of the lists' trips, and 28
-/// the last of the C trips, which have no road list that could be too short as well. All others are tried
-/// beside a second fault, if only one of the same number at another place.
+/// the last of the day sheet and of the C trips, which have no road list that could be too short as well. All
+/// others are tried beside a second fault, if only one of the same number at another place.
 fn can_win_over_a_second(operation: usize, refusal: u32) -> bool {
     match operation {
-        PLAIN | FLAGGED => refusal != 28,
+        PLAIN | FLAGGED | DAY => refusal != 28,
         PLAIN_LISTS | FLAGGED_LISTS => refusal != 29,
         _ => true,
     }

@@ -218,6 +218,7 @@ fn mutate(rng: &mut Rng, input: &mut Input) {
             if rng.once_in(2) {
                 input.pack_what_the_network_says(1);
                 input.plan_what_the_network_says(input.lengths.make, 1);
+                input.list_what_the_network_says(1);
             }
         }
     }
@@ -289,7 +290,7 @@ fn mutate_call(rng: &mut Rng, input: &mut Input) {
 fn mutate_lengths(rng: &mut Rng, input: &mut Input) {
     let lengths = &mut input.lengths;
     let table = rng.below(TABLES);
-    let length = match rng.below(13) {
+    let length = match rng.below(16) {
         0 => &mut lengths.arrivals,
         1 => &mut lengths.roads,
         2 => &mut lengths.trip_answer,
@@ -302,6 +303,9 @@ fn mutate_lengths(rng: &mut Rng, input: &mut Input) {
         9 => &mut lengths.make.work,
         10 => &mut lengths.make.out,
         11 => &mut lengths.make_answer,
+        12 => &mut lengths.day.work,
+        13 => &mut lengths.day.list,
+        14 => &mut lengths.day_answer,
         _ => &mut lengths.pack_tables[table],
     };
     *length = match rng.below(3) {

@@ -1,11 +1,14 @@
-//! One input for the eight functions on networks: two files, the numbers of a call, and how long each lent
+//! One input for the nine functions on networks: two files, the numbers of a call, and how long each lent
 //! list is. What pack gets is read out of the network file without judging it, so that every damage reaches
 //! pack too.
 
-use crate::library::{CHECK_ANSWER, LISTS_ANSWER, MAKE_ANSWER, OPEN_ANSWER, PACK_ANSWER, TRIP_ANSWER_BYTES};
+use crate::library::{
+    CHECK_ANSWER, DAY_ANSWER, LISTS_ANSWER, MAKE_ANSWER, OPEN_ANSWER, PACK_ANSWER, TRIP_ANSWER_BYTES,
+};
 use crate::made;
-use crate::reference::make_plan::MakeLengths;
-use crate::reference::network::{read_header, read_tables, Header, Tables, HOURS_AT, TABLES};
+use crate::reference::day_sheet::DayLengths;
+use crate::reference::make_plan::{work_entries, MakeLengths};
+use crate::reference::network::{self, read_header, read_tables, Header, Tables, HOURS_AT, TABLES};
 use crate::reference::trips::TripCall;
 
 /// How many entries each lent list has.
@@ -24,6 +27,9 @@ pub struct Lengths {
     /// The planner's work list and out-bytes.
     pub make: MakeLengths,
     pub make_answer: usize,
+    /// The day sheet's work list and list.
+    pub day: DayLengths,
+    pub day_answer: usize,
 }
 
 #[derive(Clone, PartialEq, Eq)]
@@ -63,6 +69,15 @@ impl Input {
         self.lengths.make = MakeLengths { work: needs.work + spare, out: needs.out + spare };
     }
 
+    /// Makes the day sheet's lists as long as the network file as it stands now needs them, and `spare`
+    /// entries longer; where it does not open they stay.
+    pub fn list_what_the_network_says(&mut self, spare: usize) {
+        if let Ok(network) = network::open(&self.network) {
+            let (work, list) = (work_entries(&network) + spare, network.header.period as usize + spare);
+            self.lengths.day = DayLengths { work, list };
+        }
+    }
+
     /// An input whose lists are all long enough for any town, `spare` entries beyond what is named.
     pub fn roomy(network: Vec<u8>, plan: Vec<u8>, call: TripCall, open_tables: [usize; TABLES], spare: usize) -> Input {
         let mut input = Input {
@@ -83,8 +98,11 @@ impl Input {
                 pack_tables: [0; TABLES],
                 make: NO_LISTS,
                 make_answer: MAKE_ANSWER + spare,
+                day: DayLengths { work: 0, list: 0 },
+                day_answer: DAY_ANSWER + spare,
             },
         };
+        input.list_what_the_network_says(spare);
         input.pack_what_the_network_says(spare);
         input.plan_what_the_network_says(NO_LISTS, spare);
         input

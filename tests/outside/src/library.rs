@@ -1,6 +1,6 @@
 //! The C functions under test, as the engine's C interface names them. A slice passes as a pointer and a
-//! count of elements; pointers are never null, also where the count is 0. The import is linked only if the feature
-//! `import` is on.
+//! count of elements; pointers are never null, also where the count is 0. The import is linked only if the
+//! feature `import` is on.
 
 /// Declares the functions on networks: their types, where they are linked, and the whole of them.
 macro_rules! functions {
@@ -94,6 +94,14 @@ functions! {
         out: *mut u8, out_length: usize,
         answer: *mut u32, answer_length: usize,
     );
+
+    day_sheet: DaySheet = varnwalnut_day_sheet(
+        network: *const u8, network_length: usize,
+        from: u32, to: u32,
+        work: *mut u32, work_length: usize,
+        list: *mut u32, list_length: usize,
+        answer: *mut u32, answer_length: usize,
+    );
 }
 
 /// The import's C function, or one that stands in for it.
@@ -127,8 +135,8 @@ pub fn import_dimacs() -> Option<Import> {
 
 /// The operations in the order of the tables printed at the end. All but the last take a network's file or
 /// its tables, and are tried together; the import takes a text.
-pub const COUNT: usize = 9;
-pub const ON_NETWORKS: usize = 8;
+pub const COUNT: usize = 10;
+pub const ON_NETWORKS: usize = 9;
 pub const OPERATIONS: [&str; COUNT] = [
     "open_network",
     "pack_network",
@@ -138,6 +146,7 @@ pub const OPERATIONS: [&str; COUNT] = [
     "plain_trip_lists",
     "flagged_trip_lists",
     "make_plan",
+    "day_sheet",
     "import_dimacs",
 ];
 pub const OPEN: usize = 0;
@@ -148,7 +157,8 @@ pub const FLAGGED: usize = 4;
 pub const PLAIN_LISTS: usize = 5;
 pub const FLAGGED_LISTS: usize = 6;
 pub const MAKE: usize = 7;
-pub const IMPORT: usize = 8;
+pub const DAY: usize = 8;
+pub const IMPORT: usize = 9;
 
 /// "Below 1,032 bytes it gives 31 before all else".
 pub const TRIP_ANSWER_BYTES: usize = 1_032;
@@ -158,4 +168,5 @@ pub const PACK_ANSWER: usize = 4;
 pub const CHECK_ANSWER: usize = 5;
 pub const LISTS_ANSWER: usize = 6;
 pub const MAKE_ANSWER: usize = 4;
+pub const DAY_ANSWER: usize = 4;
 pub const IMPORT_ANSWER: usize = 4;

@@ -6,6 +6,7 @@ mod compare;
 mod corpus;
 mod coverage;
 mod damage;
+mod day;
 mod draft;
 mod fuzz;
 mod generate;
@@ -34,11 +35,12 @@ use std::time::Instant;
 
 /// The run without arguments: about 100 seconds of processor time.
 const DEFAULT_SEED: u64 = 20_261_115;
-const DEFAULT_CASES: u64 = 100_000;
+const DEFAULT_CASES: u64 = 90_000;
 const DEFAULT_LARGE: u64 = 550;
 const DEFAULT_IMPORTS: u64 = 20_000;
 const DEFAULT_PLANS: u64 = 1_200;
 const DEFAULT_HOURS: u64 = 300;
+const DEFAULT_DAYS: u64 = 512;
 /// Below this many small cases a run may miss a refusal by chance, and is not held to all of them.
 const CASES_THAT_MEET_ALL: u64 = 40_000;
 /// Below this many towns with damaged plans the same holds of the verdicts on these.
@@ -61,6 +63,7 @@ struct Counts {
     imports: u64,
     plans: u64,
     hours: u64,
+    days: u64,
 }
 
 struct Arguments {
@@ -71,7 +74,7 @@ struct Arguments {
 fn main() -> ExitCode {
     let Some(arguments) = parse(std::env::args().skip(1)) else {
         println!("usage: outside [--seed S] [--cases N] [--large M] [--imports I] [--plans D] [--hours H]");
-        println!("               [--only CASE] [--planted N] [--replay DIR] [--fuzz DIR [--seconds T]]");
+        println!("               [--days Y] [--only CASE] [--planted N] [--replay DIR] [--fuzz DIR [--seconds T]]");
         return ExitCode::from(2);
     };
     watch::start(arguments.seed);
@@ -82,6 +85,7 @@ fn main() -> ExitCode {
             import::planted::run(arguments.seed, cases)
                 + plans::planted::run(arguments.seed, cases)
                 + hours::planted::run(arguments.seed, cases / 4)
+                + day::planted::run(arguments.seed, cases / 8)
         }
         Mode::Replay(folder) => corpus::replay(&folder).expect("the corpus folder can be read"),
         Mode::Fuzz { folder, seconds } => {
@@ -98,6 +102,7 @@ fn parse(mut words: impl Iterator<Item = String>) -> Option<Arguments> {
     let mut imports = None;
     let mut plans = None;
     let mut hours = None;
+    let mut days = None;
     let mut other = None;
     let mut seconds = None;
     while let Some(word) = words.next() {
@@ -109,6 +114,7 @@ fn parse(mut words: impl Iterator<Item = String>) -> Option<Arguments> {
             "--imports" => imports = Some(value.parse().ok()?),
             "--plans" => plans = Some(value.parse().ok()?),
             "--hours" => hours = Some(value.parse().ok()?),
+            "--days" => days = Some(value.parse().ok()?),
             "--planted" => other = Some(Mode::Planted(value.parse().ok()?)),
             "--only" => other = Some(Mode::Only(CaseName::parse(&value)?)),
             "--replay" => other = Some(Mode::Replay(PathBuf::from(value))),
@@ -121,7 +127,7 @@ fn parse(mut words: impl Iterator<Item = String>) -> Option<Arguments> {
         Some(Mode::Fuzz { folder, .. }) => Mode::Fuzz { folder, seconds },
         Some(mode) => mode,
         None => {
-            let nothing_said = [cases, large, imports, plans, hours].iter().all(Option::is_none);
+            let nothing_said = [cases, large, imports, plans, hours, days].iter().all(Option::is_none);
             let count = |said: Option<u64>, usual| said.unwrap_or(if nothing_said { usual } else { 0 });
             Mode::Cases(Counts {
                 cases: count(cases, DEFAULT_CASES),
@@ -129,6 +135,7 @@ fn parse(mut words: impl Iterator<Item = String>) -> Option<Arguments> {
                 imports: count(imports, DEFAULT_IMPORTS),
                 plans: count(plans, DEFAULT_PLANS),
                 hours: count(hours, DEFAULT_HOURS),
+                days: count(days, DEFAULT_DAYS),
             })
         }
     };
@@ -161,6 +168,7 @@ fn run_cases(seed: u64, counts: &Counts) -> u64 {
         (Series::Imports, counts.imports, "imports"),
         (Series::Plans, counts.plans, "towns with damaged plans"),
         (Series::Hours, counts.hours, "towns with hours"),
+        (Series::Days, counts.days, "towns with whole days"),
     ];
     for (series, count, what) in parts {
         let started = Instant::now();
@@ -198,8 +206,8 @@ fn missing(runner: &Runner, counts: &Counts) -> u64 {
     missing
 }
 
-/// The cases from 0 on, dealt out one by one to as many threads as there are cores. A case depends on its name and the
-/// seed alone, so the outcome is the same for any number of threads.
+/// The cases from 0 on, dealt out one by one to as many threads as there are cores. A case depends on its
+/// name and the seed alone, so the outcome is the same for any number of threads.
 fn run_in_threads(whole: &mut Runner, series: Series, count: u64) {
     let seed = whole.seed;
     let next = &AtomicU64::new(0);

@@ -2,6 +2,7 @@
 //! ways that wish 2 gives it and the travels and the plan that wish 5 does.
 
 mod damaged;
+mod day;
 mod hours;
 
 use crate::compare::compare;
@@ -53,6 +54,7 @@ pub fn failures() -> Vec<String> {
     altered_towns(&mut failures);
     damaged::damaged_plans(&mut failures);
     hours::hours(&mut failures);
+    day::days(&mut failures);
     failures
 }
 

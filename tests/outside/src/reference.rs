@@ -1,9 +1,10 @@
-//! Document 01 and wishes 1 to 6 of document 02, written down a second time and as naively as they read:
+//! Document 01 and wishes 1 to 7 of document 02, written down a second time and as naively as they read:
 //! files are plain lists, every rule stands in the document's order, and nothing here was taken from the
 //! proved crates. The documents' place is a node here and their road an arc, as the field calls them.
 
 pub mod blocks;
 pub mod check;
+pub mod day_sheet;
 pub mod finds;
 pub mod import;
 pub mod line;

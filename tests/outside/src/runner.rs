@@ -2,6 +2,7 @@
 //! functions and, where the town is small enough, past the oracles. Towns made on purpose are cases too, and
 //! so are the texts for the import.
 
+mod days;
 mod hours;
 mod plans;
 mod texts;
@@ -38,10 +39,12 @@ pub enum Series {
     Plans,
     /// Towns with hours.
     Hours,
+    /// Whole days.
+    Days,
 }
 
 impl Series {
-    pub const ALL: [Series; 8] = [
+    pub const ALL: [Series; 9] = [
         Series::Small,
         Series::Large,
         Series::Towns,
@@ -50,6 +53,7 @@ impl Series {
         Series::Imports,
         Series::Plans,
         Series::Hours,
+        Series::Days,
     ];
 
     pub fn letter(self) -> char {
@@ -62,13 +66,15 @@ impl Series {
             Series::Imports => 'i',
             Series::Plans => 'p',
             Series::Hours => 'h',
+            Series::Days => 'y',
         }
     }
 
     /// How many towns or texts there are, in a series of those made on purpose.
     pub fn made_on_purpose(self) -> Option<u64> {
         match self {
-            Series::Small | Series::Large | Series::Imports | Series::Plans | Series::Hours => None,
+            Series::Small | Series::Large | Series::Imports => None,
+            Series::Plans | Series::Hours | Series::Days => None,
             Series::Towns => Some(towns::COUNT),
             Series::Ways => Some(towns::ties::COUNT),
             Series::Texts => Some((import::by_hand::COUNT + import::every::COUNT) as u64),
@@ -113,6 +119,7 @@ impl CaseName {
             Series::Imports => self.number | 1 << 63,
             Series::Plans => self.number | 1 << 62,
             Series::Hours => self.number | 1 << 61,
+            Series::Days => self.number | 1 << 60,
             _ => self.number << 1 | u64::from(self.series == Series::Large),
         }
     }
@@ -254,6 +261,7 @@ impl Runner {
             Series::Imports => self.run_import(name),
             Series::Plans => self.run_plans(name),
             Series::Hours => self.run_hours(name),
+            Series::Days => self.run_days(name),
             Series::Small | Series::Large => self.run_generated(name),
         }
     }

@@ -34,6 +34,9 @@ pub fn kinds() -> Vec<Kind> {
         Kind { name: "open's answer too short", intended: Gives(OPEN, &[31]), make: open_answer_short },
         Kind { name: "pack's answer too short", intended: Gives(PACK, &[31]), make: pack_answer_short },
         Kind { name: "work list too short", intended: Gives(MAKE, &[34]), make: work_short },
+        Kind { name: "day's work list too short", intended: Any, make: day_work_short },
+        Kind { name: "day's list too short", intended: Any, make: day_list_short },
+        Kind { name: "day's answer too short", intended: Any, make: day_answer_short },
         Kind { name: "planner's out-bytes too short", intended: Gives(MAKE, &[31]), make: make_out_short },
         Kind { name: "planner's lists just enough", intended: Gives(MAKE, &[0]), make: make_just_enough },
         Kind { name: "planner's answer too short", intended: Gives(MAKE, &[31]), make: make_answer_short },
@@ -218,6 +221,21 @@ fn pack_answer_short(rng: &mut Rng, _case: &Case) -> Option<Fault> {
 fn work_short(rng: &mut Rng, case: &Case) -> Option<Fault> {
     let length = too_few(rng, case.make_needs.work);
     call(move |input| input.lengths.make.work = length)
+}
+
+fn day_work_short(rng: &mut Rng, case: &Case) -> Option<Fault> {
+    let length = too_few(rng, case.make_needs.work);
+    call(move |input| input.lengths.day.work = length)
+}
+
+fn day_list_short(rng: &mut Rng, case: &Case) -> Option<Fault> {
+    let length = too_few(rng, case.network.header.period as usize);
+    call(move |input| input.lengths.day.list = length)
+}
+
+fn day_answer_short(rng: &mut Rng, _case: &Case) -> Option<Fault> {
+    let length = rng.below(DAY_ANSWER);
+    call(move |input| input.lengths.day_answer = length)
 }
 
 fn make_out_short(rng: &mut Rng, case: &Case) -> Option<Fault> {

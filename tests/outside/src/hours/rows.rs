@@ -233,6 +233,13 @@ impl Rows<'_> {
                 drafts.network.tables.travels.push(1);
             });
         }
+        self.orders_with_lengths(hall, wrong);
+    }
+
+    /// 4 and 30 come before 37 in pack; 31 comes after it, and so does open's 30.
+    fn orders_with_lengths(&mut self, hall: usize, wrong: (u16, u16)) {
+        let nodes = self.case.network.nodes();
+        let wanted = Some((37, hall as u32));
         let mut drafts = self.case.drafts.clone();
         set(&mut drafts, hall, wrong);
         let mut input = self.case.input(&drafts);

@@ -2,6 +2,7 @@
 
 use super::errors::{OpenTick, Opened, Packed, Plans, Trips};
 use super::{file, trips, PLANTED};
+use crate::day::standin::day_sheet;
 use crate::library::{Functions, LISTS_ANSWER, OPEN_ANSWER, TRIP_ANSWER_BYTES};
 use crate::made;
 use crate::reference::finds::find_bounds;
@@ -21,6 +22,7 @@ pub const FUNCTIONS: Functions = Functions {
     plain_trip_lists,
     flagged_trip_lists,
     make_plan,
+    day_sheet,
 };
 
 /// Writes three places and then numbers, and gives the number to return.

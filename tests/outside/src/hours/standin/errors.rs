@@ -111,7 +111,7 @@ errors! {
         ByteAlways1
         Kind2ForHours
         Kind9ForAll
-        BlocksOf84
+        BlocksOf82
         OpensExchangedForCloses
         ClosesDropped
         OpensShortPass

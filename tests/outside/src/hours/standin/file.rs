@@ -327,24 +327,11 @@ fn write(planted: Planted, header: &Header, tables: &Tables) -> Vec<u8> {
     };
     let kind = match () {
         _ if planted.has(Packed::Kind2ForHours) => Kind { kind: 2, ..WITH },
-        _ if planted.has(Packed::BlocksOf84) => Kind { per_block: 82, ..WITH },
+        _ if planted.has(Packed::BlocksOf82) => Kind { per_block: 82, ..WITH },
         _ => WITH,
     };
-    let hours = |node: usize| match () {
-        _ if planted.has(Packed::OpensExchangedForCloses) => (tables.closes[node], tables.opens[node]),
-        _ if planted.has(Packed::ClosesDropped) => (tables.opens[node], 0),
-        _ => (tables.opens[node], tables.closes[node]),
-    };
-    let mut places = Vec::new();
     let with = holds || planted.has(Packed::Kind9ForAll);
-    for (node, cell) in tables.cells.iter().enumerate() {
-        places.extend_from_slice(&cell.to_le_bytes());
-        if with {
-            let (open, close) = hours(node);
-            places.extend_from_slice(&open.to_le_bytes());
-            places.extend_from_slice(&close.to_le_bytes());
-        }
-    }
+    let places = place_bytes(planted, tables, with);
     let mut first = header.number.to_le_bytes().to_vec();
     for number in [header.period, header.nodes, header.arcs, header.cells] {
         first.extend_from_slice(&(number as u16).to_le_bytes());
@@ -358,4 +345,23 @@ fn write(planted: Planted, header: &Header, tables: &Tables) -> Vec<u8> {
     let arcs = numbers(&[&tables.from, &tables.to, &tables.counts]);
     let points = numbers(&[&tables.ticks, &tables.travels]);
     write_file(1, &first, &[(if with { kind } else { WITHOUT }, places), (ARCS, arcs), (POINTS, points)])
+}
+
+/// The entries of places, with hours or without.
+fn place_bytes(planted: Planted, tables: &Tables, with_hours: bool) -> Vec<u8> {
+    let hours = |node: usize| match () {
+        _ if planted.has(Packed::OpensExchangedForCloses) => (tables.closes[node], tables.opens[node]),
+        _ if planted.has(Packed::ClosesDropped) => (tables.opens[node], 0),
+        _ => (tables.opens[node], tables.closes[node]),
+    };
+    let mut places = Vec::new();
+    for (node, cell) in tables.cells.iter().enumerate() {
+        places.extend_from_slice(&cell.to_le_bytes());
+        if with_hours {
+            let (open, close) = hours(node);
+            places.extend_from_slice(&open.to_le_bytes());
+            places.extend_from_slice(&close.to_le_bytes());
+        }
+    }
+    places
 }

@@ -105,15 +105,19 @@ fn told(
         Err(_) => {}
     }
     if planted.has(Trips::ArrivalsAtShutPlacesAreNever) {
-        for (node, arrival) in trip.arrivals.iter_mut().enumerate() {
-            let tick = u64::from(*arrival) % u64::from(opened.header.period);
-            let hours = u64::from(opened.tables.opens[node])..u64::from(opened.tables.closes[node]);
-            if node as u32 != call.to && !hours.contains(&tick) {
-                *arrival = NEVER;
-            }
-        }
+        hide_shut_places(opened, call, &mut trip.arrivals);
     }
     Told { trip, open }
+}
+
+fn hide_shut_places(opened: &Opened, call: TripCall, arrivals: &mut [u32]) {
+    for (node, arrival) in arrivals.iter_mut().enumerate() {
+        let tick = u64::from(*arrival) % u64::from(opened.header.period);
+        let hours = u64::from(opened.tables.opens[node])..u64::from(opened.tables.closes[node]);
+        if node as u32 != call.to && !hours.contains(&tick) {
+            *arrival = NEVER;
+        }
+    }
 }
 
 /// The day on which the van arrives, the tick of that day, and from there today or tomorrow.

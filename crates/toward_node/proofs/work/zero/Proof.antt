@@ -3,8 +3,8 @@ use Prim.Native.Nat.{_-_, _≤_}
 use Rattle.theory_loops.specs.Fill.{Filled, fills, fill-none, fill-up, fill-end}
 use native.Mathlib.Omega.{arith}
 use borrow.Author.Needs.{needs}
-use Rattle.plan_make.proofs.make.zero.Statement.{statement}
-use Rattle.plan_make.proofs.make.zero.Tie as tie
+use Rattle.toward_node.proofs.work.zero.Statement.{statement}
+use Rattle.toward_node.proofs.work.zero.Tie as tie
 
 abbrev Inv-loop : tie.InvT-loop
 Inv-loop work₀ size i₀ work i = (i ≤ size) × Filled 0 i (λ _. 0) work₀ work
