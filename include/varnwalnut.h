@@ -269,11 +269,11 @@ uint32_t varnwalnut_import_dimacs(const uint8_t *text, size_t text_length,
  * The trips with lent lists. answer[0..6]: the places, then the tick of arrival, the count of roads and the
  * open tick: the first tick from the arrival on at which the target is open. It counts on from the day of
  * leaving, as the arrival does, and may be the next day's; from a place to itself it is asked from the
- * departure on. Driving through a place that is shut is allowed. Up to 27 both lists stay as they were. On
- * arrival and on 29 the first arrivals, one for each place, hold the earliest arrival where it is before the
- * target's or the place is the target, else never; on 28 the earliest arrival of every place that can be
- * reached, and never for the others. `roads` changes only on arrival, in its first entries, as many as are
- * counted. Refusals: those of the tablet's trips, and 27 and 29.
+ * departure on. Driving through a place that is shut is allowed. On a refusal other than 28 and 29 both lists
+ * stay as they were. On arrival and on 29 the first arrivals, one for each place, hold the earliest arrival
+ * where it is before the target's or the place is the target, else never; on 28 the earliest arrival of every
+ * place that can be reached, and never for the others. `roads` changes only on arrival, in its first entries,
+ * as many as are counted. Refusals: those of the tablet's trips, and 27 and 29.
  */
 uint32_t varnwalnut_plain_trip_lists(const uint8_t *network, size_t network_length,
                                      uint32_t from, uint32_t to, uint32_t departure,
