@@ -140,7 +140,7 @@ pub fn on_days(files: &Files, town: &Town, asks: &[Ask]) {
         for departure in (0..period).step_by(61) {
             let ask = Ask { departure: departure as u32, ..*ask };
             let trip = plain_trips(&files.network, &ask).0;
-            assert_eq!(trip.map(|(tick, _)| tick), Ok(list[departure]), "{ask:?}");
+            assert_eq!(trip.map(|arrived| arrived.tick), Ok(list[departure]), "{ask:?}");
         }
     }
     let number = |from, to, work, list| day_sheets(&files.network, from, to, work, list).0.map_err(|refusal| refusal.number);

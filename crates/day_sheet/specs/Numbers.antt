@@ -57,7 +57,8 @@ pub begin-numbers : (network : List ℕ) (from to work list : ℕ) (r : Refusal)
     → sheetBegin network from to work list ≡ Refused r → BeginNumber (r .number)
 begin-numbers network from to work list = go (validated network) (validated-numbers network)
   where
-    go : (o : Opening) → Numbered Refused NetworkNumber o → Begins (andThen o (λ h. sheetAsked h from to work list))
+    go : (o : Opening) → Numbered Refused NetworkNumber o
+        → Begins (andThen o (λ h. sheetAsked h from to work list))
     go (Refused q) n r e = inl (n r e)
     go (Opened h) n r e = asked-begins h from to work list r e
 

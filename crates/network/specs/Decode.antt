@@ -49,7 +49,8 @@ closesIn (suc hours) period file v = entry16 file 1 hoursPer hoursSize 4 v
 pub opens-plain : (hours : ℕ) (file : List ℕ) (v : ℕ) → hours ≡ 0 → 0 ≡ opensIn hours file v
 opens-plain hours file v e = rw e
 
-pub closes-plain : (hours period : ℕ) (file : List ℕ) (v : ℕ) → hours ≡ 0 → period ≡ closesIn hours period file v
+pub closes-plain : (hours period : ℕ) (file : List ℕ) (v : ℕ) → hours ≡ 0
+    → period ≡ closesIn hours period file v
 closes-plain hours period file v e = rw e
 
 pub opens-there : (hours : ℕ) (file : List ℕ) (v : ℕ) → (hours ≡ 0 → ⊥)
@@ -260,5 +261,20 @@ module _ {file : List ℕ} {l : Layout} (s : Laid file l) where
     travel-is = entry-is le16 file pointPer pointSize 2 (laid-blocks .pointblock) (laid-blocks .points) h
 
 -- for `search reads` where code reads a field
-pub ruleset reads =
-    (cell-in, cell-is, opens-all, closes-all, hours-in, cell-held, opens-held, closes-held, arc-in, point-in, tail-is, head-is, count-is, tick-is, travel-is)
+pub ruleset reads = (
+  cell-in,
+  cell-is,
+  opens-all,
+  closes-all,
+  hours-in,
+  cell-held,
+  opens-held,
+  closes-held,
+  arc-in,
+  point-in,
+  tail-is,
+  head-is,
+  count-is,
+  tick-is,
+  travel-is,
+)

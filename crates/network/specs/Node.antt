@@ -1,7 +1,7 @@
 -- The entries of nodes, by the header's byte for hours: where it is 0 they are cells alone, else cells with
 -- the ticks at which a node opens and closes. What either kind needs is said here once, over that byte.
 use mathlib.Core.Path.{_≡_, refl}
-use Prim.Native.Nat.{ℕ, zero, suc, _+_, _*_, _≤_, _<_}
+use Prim.Native.Nat.{ℕ, zero, suc, _*_, _≤_, _<_}
 use native.Mathlib.Omega.{arith}
 use lib.Dec.{lit<, lit≤}
 use Rattle.file_fields.specs.Block.{entriesSize}

@@ -1,6 +1,6 @@
 -- The rules 7 to 10 and 37 that a network's tables keep, as tests and as one ladder, in which 37 stands
--- straight after 7: the first number that fails anywhere, then its lowest place. Points are numbered through all arcs, so the lowest point is the lowest of
--- the first arc that has one.
+-- straight after 7: the first number that fails anywhere, then its lowest place. Points are numbered through
+-- all arcs, so the lowest point is the lowest of the first arc that has one.
 use mathlib.Core.Path.{_≡_}
 use mathlib.Core.Bool.{Bool, false, cond, not, _||_}
 use mathlib.Core.List.{List}

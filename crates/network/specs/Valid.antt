@@ -75,8 +75,8 @@ module _ (file : List ℕ) (h : Header) where
   unfolding firstUnformed nodeBlocks
   all-formed l =
       let x = firstUnformed file h in
-      let (n, e) = formed-past file 1 (nodeKind (h .hours)) (nodePer (h .hours)) (nodeSize (h .hours)) (h .nodes)
-      _ x (omega arith) refl in
+      let (n, e) = formed-past file 1 (nodeKind (h .hours)) (nodePer (h .hours)) (nodeSize (h .hours))
+      (h .nodes) _ x (omega arith) refl in
       let (a, f) = formed-past file (arcBlock h) arcKind arcPer arcSize (h .arcs) _ x (omega arith) e in
       let (p, g) = formed-past file (pointBlock h) pointKind pointPer pointSize (h .points) _ x (omega arith)
       f in

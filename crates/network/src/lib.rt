@@ -1,6 +1,6 @@
 // network: network files. It owns the header and its limits, where the tables stand in a file, what its rules
-// are (refusals 1 to 10 and 37), and the meaning of a file: `Network`, `decode`, and the lawful graph of every file
-// that opens.
+// are (refusals 1 to 10 and 37), and the meaning of a file: `Network`, `decode`, and the lawful graph of
+// every file that opens.
 //   limits    the limits of a network's numbers
 //   header    the header's numbers with their limits, and where the tables stand
 //   node      the kind of a node's entries

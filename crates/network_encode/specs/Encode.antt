@@ -42,7 +42,8 @@ headerNumber h =
     * (h .nodes + 65536
     * (h .arcs + 65536 * (h .cells + 65536 * (h .points + 2 ^ 32 * h .hours)))))
 
--- byte r of the header, of a cell, of three fields (an arc's, or a node's cell with its hours), and of a point
+-- byte r of the header, of a cell, of three fields (an arc's, or a node's cell with its hours), and of a
+-- point
 unfoldable pub headerByte : Header → ℕ → ℕ
 headerByte h r = byteOf (headerNumber h) r
 
@@ -220,7 +221,8 @@ module _ (s t u : List ℕ) (i k : ℕ) where
       let z : 2 + k ≡ 2 + (0 + k) = omega arith in
       rw z (after _ _ (0 + k) m ∙ here _ _ k l)
 
-  pub third-byte : getD s i 0 < 65536 → getD t i 0 < 65536 → tripleByte s t u i (4 + k) ≡ byteOf (getD u i 0) k
+  pub third-byte : getD s i 0 < 65536 → getD t i 0 < 65536
+      → tripleByte s t u i (4 + k) ≡ byteOf (getD u i 0) k
   unfolding tripleByte
   third-byte m n =
       let z : 4 + k ≡ 2 + (2 + k) = omega arith in

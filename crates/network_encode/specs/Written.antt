@@ -20,15 +20,14 @@ use Rattle.network.specs.Layout.{arcBlock, pointBlock, allBlocks, mostBlocks, L
 use Rattle.network.specs.Network.{Network}
 use Rattle.network.specs.Tables.{Tables, networkOf}
 use Rattle.network_encode.specs.Encode.{headerOf, encodeBy, encode, headerNumber, headerByte, cellByte}
-use Rattle.network_encode.specs.Encode.{nodeByte}
-use Rattle.network_encode.specs.Encode.{tripleByte, pointByte, bodyBy, header-body, nodes-body, arcs-body}
-use Rattle.network_encode.specs.Encode.{points-body}
+use Rattle.network_encode.specs.Encode.{nodeByte, tripleByte, pointByte, bodyBy, header-body}
+use Rattle.network_encode.specs.Encode.{nodes-body, arcs-body, points-body}
 use Rattle.network_encode.specs.Entries.{partByte, InRun, entry-none, entry-put}
 use Rattle.network_encode.specs.BlockWritten.{same-block}
 use Rattle.network_encode.specs.Packable.{Packable}
 use Rattle.file_fields.specs.Block.{blockSize, headSize}
-use Rattle.network.specs.Node.{nodeKind, nodeSize, nodePer, nodeBlocks, node-fits, node-blocks-most, per-plain}
-use Rattle.network.specs.Node.{per-held}
+use Rattle.network.specs.Node.{nodeKind, nodeSize, nodePer, nodeBlocks, node-fits, node-blocks-most}
+use Rattle.network.specs.Node.{per-plain, per-held}
 use Rattle.file_blocks.specs.Place.{blocks}
 use Rattle.file_blocks.specs.Kind.{networkKind, networkSize, cellKind, cellSize, cellPer, arcKind, arcSize}
 use Rattle.file_blocks.specs.Kind.{arcPer, pointKind, pointSize, pointPer, hoursKind}

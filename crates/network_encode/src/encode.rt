@@ -243,8 +243,8 @@ fn write_block(
     ensures { λ _. ⌜ Filled (blockSize * b) (blockSize * (b + 1))
         (fileByte (bodyBy h (networkOf h
         (tables (now (cells .entry)) (now (opens .entry)) (now (closes .entry)) (now (tails .entry))
-        (now (heads .entry)) (now (counts .entry)) (now (ticks .entry)) (now (travels .entry)))))) (now (out .entry))
-        (now (out .exit)) ⌝ }
+        (now (heads .entry)) (now (counts .entry)) (now (ticks .entry)) (now (travels .entry))))))
+        (now (out .entry)) (now (out .exit)) ⌝ }
 {
     if b < 1 {
         header_block(out, h);
@@ -282,7 +282,8 @@ pub fn encode_network(
     ensures { λ _. ⌜ now (out .exit) ≡ overwritten
         (encode (networkOf h
         (tables (now (cells .entry)) (now (opens .entry)) (now (closes .entry)) (now (tails .entry))
-        (now (heads .entry)) (now (counts .entry)) (now (ticks .entry)) (now (travels .entry))))) (now (out .entry)) ⌝ }
+        (now (heads .entry)) (now (counts .entry)) (now (ticks .entry)) (now (travels .entry)))))
+        (now (out .entry)) ⌝ }
 {
     for b in 0..l.blocks {
         write_block(

@@ -122,7 +122,8 @@ module _ {h : Header} {l : Layout} (n : Network) (old s t : List ℕ) (w : Netwo
   plain : h .hours ≡ 0
   plain = ap (λ (y : Header). y .hours) e ∙ o
 
-  nodes-none : (i r : ℕ) → i < h .nodes → none i r ≡ nodeByte (h .hours) (n .cellOf) (n .opens) (n .closes) i r
+  nodes-none : (i r : ℕ) → i < h .nodes
+      → none i r ≡ nodeByte (h .hours) (n .cellOf) (n .opens) (n .closes) i r
   unfolding nodeByte cellByte
   nodes-none i r _ = sym (rw (plain, z i) (zero-byte r))
 
@@ -132,7 +133,7 @@ module _ {h : Header} {l : Layout} (n : Network) (old s t : List ℕ) (w : Netwo
   laying-whole x q =
       let f : t ≡ overwritten (encodeBy h n) old =
       runs-sealed (networkShape h) (network-fits h) (λ _. headerByte h)
-      (nodeByte (h .hours) (n .cellOf) (n .opens) (n .closes)) (arcsOf n) (pointsOf n) none (upTo (h .arcs) (arcsOf n)) (upTo (h .points) (pointsOf n)) old s t
-      (blocks-fit w) x nodes-none (upTo-below (arcsOf n) (h .arcs))
-      (upTo-below (pointsOf n) (h .points)) (rw (laid-by w .all) at q) in
+      (nodeByte (h .hours) (n .cellOf) (n .opens) (n .closes)) (arcsOf n) (pointsOf n) none
+      (upTo (h .arcs) (arcsOf n)) (upTo (h .points) (pointsOf n)) old s t (blocks-fit w) x nodes-none
+      (upTo-below (arcsOf n) (h .arcs)) (upTo-below (pointsOf n) (h .points)) (rw (laid-by w .all) at q) in
       subst (λ (y : Header). t ≡ overwritten (encodeBy y n) old) e f

@@ -11,7 +11,7 @@ use native.Mathlib.Omega.{arith}
 use lib.Dec.{ltb}
 use borrow.Author.Tests.{lt-ltb, le-ltb}
 use Rattle.network.specs.declared.header.Layout.{Layout}
-use Rattle.network.specs.Network.{Network, nodes, opensAt, closesAt}
+use Rattle.network.specs.Network.{Network, opensAt, closesAt}
 use Rattle.network.specs.Decode.{decode, Laid, laid-sizes}
 use Rattle.network.specs.Sound.{SoundHours}
 
@@ -37,8 +37,9 @@ abbrev pub openAfter : Network → ℕ → ℕ → ℕ
 openAfter n v x = openFrom (n .period) (opensAt n v) (closesAt n v) x
 
 -- FOR CODE that has read a node's hours
-pub open-told : {file : List ℕ} {l : Layout} → Laid file l → (v x : ℕ) {o c r : ℕ} → o ≡ opensAt (decode file) v
-    → c ≡ closesAt (decode file) v → r ≡ openFrom (l .period) o c x → r ≡ openAfter (decode file) v x
+pub open-told : {file : List ℕ} {l : Layout} → Laid file l → (v x : ℕ) {o c r : ℕ}
+    → o ≡ opensAt (decode file) v → c ≡ closesAt (decode file) v → r ≡ openFrom (l .period) o c x
+    → r ≡ openAfter (decode file) v x
 open-told s v x e f g = rw (laid-sizes s .period, e, f) at g
 
 -- WHAT THAT TICK IS, for a node whose hours are sound: ticks by their days and by what is left of them
@@ -68,7 +69,8 @@ module _ (n : Network) (v x : ℕ) (some : 1 ≤ n .period) (s : SoundHours n v)
   this-day : x % P < opensAt n v → FirstOpen n v x (x + (opensAt n v - x % P))
   this-day l = record {
     later = omega arith;
-    there = open-on (day x) (opensAt n v) _ (omega (arith, s)) (omega (arith, left x)) (omega arith) (s .some);
+    there = open-on (day x) (opensAt n v) _ (omega (arith, s)) (omega (arith, left x)) (omega arith)
+        (s .some);
     first = λ z h i. omega (arith, left x, left z, same-or-later z h, i .opened);
   }
 

@@ -37,8 +37,8 @@ tooShortBy h cells opens closes tails heads counts ticks travels =
 
 abbrev pub tooShort : Header → Tables → Bool
 tooShort h t =
-    tooShortBy h (length (t .cells)) (length (t .opens)) (length (t .closes)) (length (t .tails)) (length (t .heads))
-    (length (t .counts)) (length (t .ticks)) (length (t .travels))
+    tooShortBy h (length (t .cells)) (length (t .opens)) (length (t .closes)) (length (t .tails))
+    (length (t .heads)) (length (t .counts)) (length (t .ticks)) (length (t .travels))
 
 -- the answer for lent tables, short or not, after validation
 abbrev pub openedIn : Opening → (Header → Bool) → Opening
@@ -113,7 +113,8 @@ module _ {file : List ℕ} {l : Layout} (s : Laid file l) (old new : List ℕ) w
       → new ≡ overwritten (tab (headerAt file .nodes) g) old
   node-table f g e w h =
       let q = laid-blocks s in
-      table-is _ g (rw (q .nodes) at h) (rw (q .nodes) at (fill-within f g 0 (l .nodes) old new (λ v a b. e v) w))
+      table-is _ g (rw (q .nodes) at h)
+      (rw (q .nodes) at (fill-within f g 0 (l .nodes) old new (λ v a b. e v) w))
 
   module _ (z : l .hours ≡ 0) where
     none : headerAt file .hours ≡ 0

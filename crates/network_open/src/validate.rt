@@ -1,5 +1,5 @@
-// Validation of a network file: refusals 1 to 10 and 37, in place, each fault found as the first in its order.
-// Nothing is copied, and every call ends at the first refusal.
+// Validation of a network file: refusals 1 to 10 and 37, in place, each fault found as the first in its
+// order. Nothing is copied, and every call ends at the first refusal.
 use file_blocks::form::first_unformed;
 use file_blocks::form::is_bad_length;
 use file_blocks::form::is_formed;

@@ -9,8 +9,8 @@ use native.Mathlib.Omega.{arith}
 use lib.ListN.{length, getD}
 use lib.Dec.{lit<, lit≤}
 use Rattle.theory_loops.specs.Fill.{tab, getD-tab}
-use Rattle.file_fields.specs.Fields.{Bytes, le8, le16, le32, number, byteOf, byteOf-number, le16-number, le16-is}
-use Rattle.file_fields.specs.Fields.{le32-is}
+use Rattle.file_fields.specs.Fields.{Bytes, le8, le16, le32, number, byteOf, byteOf-number, le16-number}
+use Rattle.file_fields.specs.Fields.{le16-is, le32-is}
 use Rattle.file_blocks.specs.Place.{offset, blocks}
 use Rattle.file_blocks.specs.Form.{formed, RunFormed}
 use Rattle.file_blocks.specs.Run.{RunLaid}
@@ -24,9 +24,9 @@ use Rattle.network.specs.Decode.{headerAt, opensIn, closesIn, decodeBy, decode}
 use Rattle.network.specs.Node.{nodeKind, nodeSize, nodePer, nodeBlocks, node-fits, node-blocks-most}
 use Rattle.network_encode.specs.Encode.{headerOf, headerByte, cellByte, tripleByte, pointByte, nodeByte}
 use Rattle.network_encode.specs.Encode.{Words, Proper, heldOpens, heldCloses, held, hours-byte}
-use Rattle.network_encode.specs.Encode.{node-first, first-byte, second-byte, third-byte, tick-byte, travel-byte}
-use Rattle.network_encode.specs.Encode.{number-byte, period-byte, nodes-byte, arcs-byte, cells-byte}
-use Rattle.network_encode.specs.Encode.{points-byte}
+use Rattle.network_encode.specs.Encode.{node-first, first-byte, second-byte, third-byte, tick-byte}
+use Rattle.network_encode.specs.Encode.{travel-byte, number-byte, period-byte, nodes-byte, arcs-byte}
+use Rattle.network_encode.specs.Encode.{cells-byte, points-byte}
 use Rattle.file_fields.specs.Block.{headSize, entriesSize}
 use Rattle.file_blocks.specs.Kind.{networkKind, networkSize, cellSize, cellPer, arcKind, arcSize, arcPer}
 use Rattle.file_blocks.specs.Kind.{pointKind, pointSize, pointPer, hoursKind, hoursSize, hoursPer}
@@ -38,7 +38,8 @@ module _ {file : List ℕ} {h : Header} {n : Network} (w : WithinLimits h) (d : 
   header-formed = formed-run file 0 networkKind 1 networkSize 1 (λ _. headerByte h) (lit< tt) (lit< tt)
       (lit≤ tt) 0 (lit< tt) (d .header)
 
-  pub nodes-formed : RunFormed file 1 (nodeKind (h .hours)) (nodePer (h .hours)) (nodeSize (h .hours)) (h .nodes)
+  pub nodes-formed : RunFormed file 1 (nodeKind (h .hours)) (nodePer (h .hours)) (nodeSize (h .hours))
+      (h .nodes)
   unfolding nodeBlocks
   nodes-formed j l =
       let f = node-fits (h .hours) in

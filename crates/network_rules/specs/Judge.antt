@@ -1,4 +1,5 @@
--- The ladder of the rules 7, 37, 8, 9 and 10 as code climbs it on a file in place: each rung is taken, or passed.
+-- The ladder of the rules 7, 37, 8, 9 and 10 as code climbs it on a file in place: each rung is taken, or
+-- passed. And the same where a node's hours stand in tables.
 use mathlib.Core.Path.{_≡_, sym, _∙_}
 use mathlib.Core.List.{List}
 use lib.ListN.{take}

@@ -59,7 +59,8 @@ same-planning q r e = cc
 
 plan-numbered : (number place : ℕ) → 11 ≤ number → number ≤ 19
     → Plans (planning.Refused (refusal number place))
-plan-numbered number place l h = numbered planning.Refused (Between 11 19) same-planning (refusal number place) (l, h)
+plan-numbered number place l h =
+    numbered planning.Refused (Between 11 19) same-planning (refusal number place) (l, h)
 
 by-rules : (k : PlanHeader) (j : Judged) → Judges j → Plans (plannedRules k j)
 by-rules k Sound n = λ r e. let z : _≡_ {A = ℕ} 0 1 = cc in absurd (omega arith)

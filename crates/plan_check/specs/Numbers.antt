@@ -1,4 +1,5 @@
--- The numbers of refusals: those of the tests lie between 20 and 24, and those of the check are 1 to 24 and 37.
+-- The numbers of refusals: those of the tests lie between 20 and 24, and those of the check are 1 to 24 and
+-- 37.
 use mathlib.Core.Path.{_≡_, refl}
 use mathlib.Core.Logic.{_⊎_, inl, inr, ⊎-elim}
 use mathlib.Core.List.{List}

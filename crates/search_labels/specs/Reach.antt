@@ -199,7 +199,8 @@ module _ {g : Graph} {p : Permit} {s x : ℕ} where
     pub search-small : Small Q n
     search-small = record {
       below = λ k h.
-          omega (arith, c .front .keyed k h, c .kept .early (nodeAt Q k) (c .front .known k h), c .left .early);
+          let early = c .kept .early (nodeAt Q k) (c .front .known k h) in
+          omega (arith, c .front .keyed k h, early, c .left .early);
     }
 
     -- u is the node of the least key

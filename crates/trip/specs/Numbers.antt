@@ -7,7 +7,7 @@ use mathlib.Core.Path.{_≡_, refl, sym, ap}
 use mathlib.Core.Logic.{_⊎_, inl, inr, ⊎-elim}
 use mathlib.Core.Bool.{cond}
 use mathlib.Core.List.{List}
-use Prim.Native.Nat.{ℕ, _≤_, _<_}
+use Prim.Native.Nat.{ℕ, _≤_}
 use native.Mathlib.Omega.{arith}
 use lib.Dec.{leb, ltb, lit≤}
 use borrow.Author.Tests.{le-ltb}
@@ -23,7 +23,7 @@ use Rattle.network.specs.Limits.{mostNodes, mostRoads}
 use Rattle.network.specs.Decode.{decode}
 use Rattle.network.specs.Town.{graphOf}
 use Rattle.network.specs.Validate.{validated}
-use Rattle.network.specs.Valid.{ValidFile, valid-exactly}
+use Rattle.network.specs.Valid.{valid-exactly}
 use Rattle.network.specs.Numbers.{NetworkNumber, validated-numbers}
 use Rattle.plan.specs.declared.answer.Planning.{Planning}
 use Rattle.plan.specs.declared.answer.Planning.the-variants as planning
@@ -90,8 +90,8 @@ module _ (high : ℕ) (most : 26 ≤ high) where
         → FlaggedNumber (r .number) ⊎ Between 25 high (r .number)
     flagged-before plan = go (validated network) refl (validated-numbers network)
       where
-        by : (h : Header) → validated network ≡ Opened h → (m : Planning) → Numbered planning.Refused (Between 11 19) m
-            → (r : Refusal)
+        by : (h : Header) → validated network ≡ Opened h → (m : Planning)
+            → Numbered planning.Refused (Between 11 19) m → (r : Refusal)
             → plannedThen m (asked h from to departure room) ≡ Refused r
             → FlaggedNumber (r .number) ⊎ Between 25 high (r .number)
         by h f (planning.Refused q) n r e =

@@ -1,5 +1,5 @@
--- A trip with the hours of its target: the first tick at or after the arrival at which the target is open, and
--- what is told of both. On a refusal that tick is 0. That it is the first such tick is `visit-open`.
+-- A trip with the hours of its target: the first tick at or after the arrival at which the target is open,
+-- and what is told of both. On a refusal that tick is 0. That it is the first such tick is `visit-open`.
 use mathlib.Core.Path.{_≡_, ap, _∙_}
 use mathlib.Core.List.{List, [], _∷_}
 use Prim.Native.Nat.{ℕ, _^_, _≤_, _<_}
@@ -46,7 +46,8 @@ module _ {file : List ℕ} {h : Header} {p : Permit} {s t x room : ℕ}
       leaves : Leaving (graphOf (decode file)) s x
       leaves = valid-leaving v s x (q .from-node) (q .early)
 
-      told : {b : Answer} → searched (graphOf (decode file)) p s t x (length roads₀) ≡ b → tripTick a ≡ tripTick b
+      told : {b : Answer} → searched (graphOf (decode file)) p s t x (length roads₀) ≡ b
+          → tripTick a ≡ tripTick b
       told e = ap tripTick (c .answer ∙ e)
 
       go : Means (graphOf (decode file)) p s t x (length roads₀)

@@ -22,8 +22,8 @@ frame-run-requires-2 c κs =
 
 frame-run-requires-3 : tie.Need-frame-run-requires-3
 frame-run-requires-3 c κs =
-    let pre = c .before .before .before .before .before .before .before .before .before .before .before .before .pre in
-    arcs-room pre (omega arith)
+    let far = c .before .before .before .before .before .before .before .before .before .before in
+    arcs-room (far .before .before .pre) (omega arith)
 
 frame-run-requires-4 : tie.Need-frame-run-requires-4
 frame-run-requires-4 c κs =

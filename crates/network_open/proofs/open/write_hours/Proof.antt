@@ -10,7 +10,9 @@ fill-requires : tie.Need-fill-requires
 fill-requires c κs = search needs
 
 cast-fill : tie.Need-cast-fill
-cast-fill c = omega (arith, laid-small (c .before .before .before .before .before .before .before .before .before .before .pre .0))
+cast-fill c =
+    let far = c .before .before .before .before .before .before .before .before .before .before in
+    omega (arith, laid-small (far .pre .0))
 
 fill-requires-2 : tie.Need-fill-requires-2
 fill-requires-2 c κs = search needs

@@ -15,7 +15,10 @@ node-size-requires : tie.Need-node-size-requires
 node-size-requires c κs = search needs
 
 first-unformed-requires : tie.Need-first-unformed-requires
-first-unformed-requires c κs = (search nodes-stored-by, omega (arith, laid-small (c .before .before .before .before .pre)))
+first-unformed-requires c κs = (
+  search nodes-stored-by,
+  omega (arith, laid-small (c .before .before .before .before .pre)),
+)
 
 returns : tie.Need-returns
 returns c =

@@ -13,7 +13,9 @@ enum-told : tie.Need-enum-told
 enum-told c = search needs
 
 write-out-requires : tie.Need-write-out-requires
-write-out-requires c κs = omega (arith, laid-bytes (c .before .before .before .before .before .before .before .before .pre .0))
+write-out-requires c κs =
+    let far = c .before .before .before .before .before .before .before .before in
+    omega (arith, laid-bytes (far .pre .0))
 
 enum-known-r : tie.Need-enum-known-r
 enum-known-r c = search needs

@@ -18,39 +18,49 @@ fields : (c : tie.After-shared-slice-known8)
     → Fields (tables (now (start c .args .cellof)) (now (start c .args .opens)) (now (start c .args .closes))
     (now (start c .args .tails)) (now (start c .args .heads)) (now (start c .args .counts))
     (now (start c .args .ticks)) (now (start c .args .travels)))
-fields c = record {
-  cells-fit = record { word = λ k. omega (arith, c .before .before .before .before .before .before .before .shared-slice-known .given k) };
-  opens-fit = record { word = λ k. omega (arith, c .before .before .before .before .before .before .shared-slice-known2 .given k) };
-  closes-fit = record { word = λ k. omega (arith, c .before .before .before .before .before .shared-slice-known3 .given k) };
-  tails-fit = record { word = λ k. omega (arith, c .before .before .before .before .shared-slice-known4 .given k) };
-  heads-fit = record { word = λ k. omega (arith, c .before .before .before .shared-slice-known5 .given k) };
-  counts-fit = record { word = λ k. omega (arith, c .before .before .shared-slice-known6 .given k) };
-  ticks-fit = record { word = λ k. omega (arith, c .before .shared-slice-known7 .given k) };
-  travels-fit = record { word = λ k. omega (arith, c .shared-slice-known8 .given k) };
-}
+fields c =
+    let g = c .before in
+    let f = g .before in
+    let e = f .before in
+    let d = e .before in
+    let b = d .before in
+    let a = b .before in
+    record {
+      cells-fit = record { word = λ k. omega (arith, a .before .shared-slice-known .given k) };
+      opens-fit = record { word = λ k. omega (arith, a .shared-slice-known2 .given k) };
+      closes-fit = record { word = λ k. omega (arith, b .shared-slice-known3 .given k) };
+      tails-fit = record { word = λ k. omega (arith, d .shared-slice-known4 .given k) };
+      heads-fit = record { word = λ k. omega (arith, e .shared-slice-known5 .given k) };
+      counts-fit = record { word = λ k. omega (arith, f .shared-slice-known6 .given k) };
+      ticks-fit = record { word = λ k. omega (arith, g .shared-slice-known7 .given k) };
+      travels-fit = record { word = λ k. omega (arith, c .shared-slice-known8 .given k) };
+    }
 
 encode-network-requires : tie.Need-encode-network-requires
 encode-network-requires c κs = search needs
 
 mul-long : tie.Need-mul-long
-mul-long c = omega (
-  arith,
-  blocks-few _ _ (c .before .before .before .before .before .before .before .before .before .before .before .before .before .before .before .pre .0 .within) (c .before .before .before .before .before .before .before .before .before .before .before .before .before .before .before .pre .0 .is),
-)
+mul-long c =
+    let far = c .before .before .before .before .before .before .before .before .before .before in
+    let pre = far .before .before .before .before .before .pre in
+    omega (arith, blocks-few _ _ (pre .0 .within) (pre .0 .is))
 
 slice-reshare-prefix-pack-file : tie.Need-slice-reshare-prefix-pack-file
 slice-reshare-prefix-pack-file c = search needs
 
 slice-aggregate-pack-file : tie.Need-slice-aggregate-pack-file
 slice-aggregate-pack-file c =
-    let pre = c .before .before .before .before .before .before .before .before .before .before .before .before .before .before .before .before .pre in
-    sym (ap length (front-is _ (pre .0) _ _ (c .before .before .before .before .encode-network .ensures)) ∙ packed-long _ (pre .0))
+    let far = c .before .before .before .before .before .before .before .before .before .before in
+    let pre = far .before .before .before .before .before .before .pre in
+    sym (ap length (front-is _ (pre .0) _ _ (c .before .before .before .before .encode-network .ensures))
+    ∙ packed-long _ (pre .0))
 
 pack-file-requires : tie.Need-pack-file-requires
 pack-file-requires c κs =
-    let known = c .before .before .before .before .before .before .before .before .before in
+    let encoded = c .before .before .before .before .before in
+    let known = encoded .before .before .before .before in
     let pre = start known .pre in
-    (front-laid _ (pre .0) _ _ (c .before .before .before .before .before .encode-network .ensures) (fields known), search needs)
+    (front-laid _ (pre .0) _ _ (encoded .encode-network .ensures) (fields known), search needs)
 
 same-length : tie.Need-same-length
 same-length c = search needs
@@ -60,8 +70,9 @@ same-length-2 c = search needs
 
 returns : tie.Need-returns
 returns c =
-    let known = c .before .before .before .before .before .before .before .before .before .before .before .before in
-    front-packs _ (start known .pre .0) _ _ (c .before .before .before .before .before .before .before .before .encode-network .ensures) (fields known) _ _ _
+    let encoded = c .before .before .before .before .before .before .before .before in
+    let known = encoded .before .before .before .before in
+    front-packs _ (start known .pre .0) _ _ (encoded .encode-network .ensures) (fields known) _ _ _
     (c .before .before .pack-file .ensures)
 
 pub pack-tables-spec : {M : Type 1} → statement M

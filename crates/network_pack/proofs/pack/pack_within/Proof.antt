@@ -20,10 +20,13 @@ layout-requires c κs = search needs
 
 pack-tables-requires : tie.Need-pack-tables-requires
 pack-tables-requires c κs =
-    let laid = c .before .before .layout .ensures in
-    let pre = c .before .before .before .before .before .before .before .before .before .before .before .before .before .before .pre in (
-      now-packable _ _ _ _ (pre .0) (pre .1) laid (c .before .before .before .before .is-short .ensures) (c .before .before .before .if1 .left),
-      omega (arith, blocks-few _ _ (pre .0) laid),
+    let laid = c .before .before in
+    let left = laid .before in
+    let far = left .before .before .before .before .before .before .before .before .before .before in
+    let pre = far .before .pre in (
+      now-packable _ _ _ _ (pre .0) (pre .1) (laid .layout .ensures) (left .before .is-short .ensures)
+          (left .if1 .left),
+      omega (arith, blocks-few _ _ (pre .0) (laid .layout .ensures)),
     )
 
 same-length : tie.Need-same-length

@@ -22,7 +22,9 @@ first-bad-hours-in-requires : tie.Need-first-bad-hours-in-requires
 first-bad-hours-in-requires c κs = search needs
 
 cast-faulty-2 : tie.Need-cast-faulty-2
-cast-faulty-2 c = omega (arith, laid-small (c .before .before .before .before .before .before .before .before .before .pre .0))
+cast-faulty-2 c =
+    let far = c .before .before .before .before .before .before .before .before .before in
+    omega (arith, laid-small (far .pre .0))
 
 faulty-requires-2 : tie.Need-faulty-requires-2
 faulty-requires-2 c κs = search needs

@@ -9,9 +9,10 @@ drive-requires c κs = search needs
 
 open-tick-requires : tie.Need-open-tick-requires
 open-tick-requires c κs =
-    let pre = c .before .before .before .before .before .before .before .before .before .before .before .pre in
+    let driven = c .before .before .before .before in
+    let pre = driven .before .before .before .before .before .before .before .pre in
     let asked = pre .1 .0 in
-    (pre .0, (asked .to-node, visit-early (pre .0) asked (c .before .before .before .before .drive .ensures)))
+    (pre .0, (asked .to-node, visit-early (pre .0) asked (driven .drive .ensures)))
 
 same-length : tie.Need-same-length
 same-length c = search needs

@@ -38,7 +38,8 @@ same-length-4 c =
     far .before .before .before .from .given
 
 same-length-5 : tie.Need-same-length-5
-same-length-5 c = c .before .before .before .before .before .before .before .before .before .before .before .to .given
+same-length-5 c =
+    c .before .before .before .before .before .before .before .before .before .before .before .to .given
 
 same-length-6 : tie.Need-same-length-6
 same-length-6 c = c .before .before .before .before .before .before .before .before .before .points .given
