@@ -1,19 +1,19 @@
 -- How the borders are found in one pass over the arcs: after k arcs a node is marked where one of them enters
--- it from another cell. The laws of the loop that marks, and of the loop that lists what is marked.
+-- it from another cell. The laws of the loop that marks, and of those that list and count what is marked.
 use mathlib.Core.Path.{_≡_, refl, sym, _∙_, ap}
 use mathlib.Core.Bool.{Bool, true, false, cond, not, _&&_}
-use mathlib.Core.List.{List}
+use mathlib.Core.List.{List, [], _∷_}
 use Prim.Native.Nat.{ℕ, suc, _+_, _≤_, _<_}
 use native.Mathlib.Numerals.{add-one}
 use native.Mathlib.Omega.{arith}
 use native.Mathlib.Decide.{ℕ-discrete}
-use lib.ListN.{length, getD, set, replicate, length-set, length-replicate, getD-replicate}
+use lib.ListN.{length, getD, set, replicate, length-set, length-append, length-replicate, getD-replicate}
 use lib.Seq.{getD-set-same, getD-set-other}
 use lib.Dec.{eqb, ltb}
 use borrow.Author.Tests.{eq-eqb, ne-eqb, le-ltb, lt-ltb}
 use Rattle.theory_loops.specs.First.{first, any, first-le, yes-any, none-yet, first-more}
 use Rattle.theory_loops.specs.Fill.{overwritten}
-use Rattle.theory_loops.specs.Select.{Chosen}
+use Rattle.theory_loops.specs.Select.{select, Chosen}
 use Rattle.theory_paths.specs.Partition.{Partition}
 use Rattle.network.specs.Network.{Network, nodes, arcs, cell, tail, head}
 use Rattle.network.specs.Decode.{decode, Laid, laid-sizes}
@@ -127,3 +127,31 @@ pub borders-listed : (G : Partition) (c : ℕ) (old new : List ℕ)
     → (c ≡ borderCount G) × (new ≡ overwritten (borders G) old)
 unfolding borders
 borders-listed G c old new h = (h .count, h .list)
+
+-- THE LOOP THAT COUNTS: c of the first v nodes are borders
+pub record Counted (G : Partition) (v c : ℕ) : Type 0 where
+  pub count : c ≡ length (select v (isBorder G))
+  pub few : c ≤ v
+
+module _ (G : Partition) where
+  pub count-none : Counted G 0 0
+  unfolding select
+  count-none = record { count = refl; few = omega arith }
+
+  pub count-yes : (v c : ℕ) → Counted G v c → isBorder G v ≡ true → Counted G (v + 1) (c + 1)
+  unfolding select
+  count-yes v c h t = record {
+    count = rw (add-one v, t, select, length-append) (omega (arith, h .count));
+    few = omega (arith, h .few);
+  }
+
+  pub count-no : (v c : ℕ) → Counted G v c → isBorder G v ≡ false → Counted G (v + 1) c
+  unfolding select
+  count-no v c h t = record {
+    count = rw (add-one v, t, select) (h .count);
+    few = omega (arith, h .few);
+  }
+
+  pub count-end : (v m c : ℕ) → Counted G v c → v ≤ m → m ≤ v → m ≡ G .graph .nodes → c ≡ borderCount G
+  unfolding borders
+  count-end v m c h a b e = let q : v ≡ G .graph .nodes = omega arith in rw q at (h .count)

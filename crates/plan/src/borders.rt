@@ -1,5 +1,5 @@
 // The borders of a network file, found in one pass over its arcs: a node is marked where an arc enters it
-// from another cell, and the marked nodes are then listed by rising number.
+// from another cell, and the marked nodes are then listed by rising number, or counted.
 use network::header::Layout;
 use network::limits::MOST_NODES;
 use network::read;
@@ -58,6 +58,23 @@ pub fn list_borders(network: &[u8], l: Layout, out: &mut [u16; MOST_NODES]) -> u
     for v in 0..l.nodes {
         if marks[v] != 0 {
             out[count] = v as u16;
+            count += 1;
+        }
+    }
+    count
+}
+
+// How many borders there are, where no list of them is needed.
+pub fn count_borders(network: &[u8], l: Layout) -> usize
+    requires { ⌜ Laid (now network) l ⌝ }
+    requires { ⌜ SoundNetwork (decode (now network)) ⌝ }
+    ensures { λ r. ⌜ r ≡ borderCount (partitionOf (decode (now (network .entry)))) ⌝ }
+{
+    let mut marks = [0u8; MOST_NODES];
+    mark_heads(network, l, &mut marks);
+    let mut count = 0;
+    for v in 0..l.nodes {
+        if marks[v] != 0 {
             count += 1;
         }
     }

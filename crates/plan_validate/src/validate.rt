@@ -13,10 +13,9 @@ use file_refusals::Judged;
 use file_refusals::number;
 use network::header::Header;
 use network::header::Layout;
-use network::limits::MOST_NODES;
 use plan::answer::Planning;
 use plan::answer::refused;
-use plan::borders::list_borders;
+use plan::borders;
 use plan::header::PlanHeader;
 use plan::header::PlanLayout;
 use plan::limits;
@@ -162,8 +161,7 @@ fn count_borders(network: &[u8], h: Header, l: Layout) -> usize
     requires { ⌜ l ≡ layoutOf h ⌝ }
     ensures { λ r. ⌜ r ≡ borderCount (partitionOf (decode (now (network .entry)))) ⌝ }
 {
-    let mut borders = [0u16; MOST_NODES];
-    list_borders(network, l, &mut borders)
+    borders::count_borders(network, l)
 }
 
 // Refusals 14 to 19.

@@ -1,0 +1,91 @@
+-- `plan::borders::count_borders` meets its contract: the marked nodes passed are counted. The two arms of the
+-- branch meet, so each is taken by itself.
+use mathlib.Core.Logic.{⊎-elim}
+use mathlib.Core.Path.{_≡_}
+use Prim.Native.Nat.{_≤_, _-_}
+use native.Mathlib.Omega.{arith}
+use borrow.Author.Needs.{needs}
+use Rattle.network.specs.Limits.{mostNodes}
+use Rattle.network.specs.Network.{nodes, arcs}
+use Rattle.network.specs.Decode.{decode, laid-sizes, laid-small}
+use Rattle.network.specs.Town.{partitionOf}
+use Rattle.plan.specs.Marks.{
+  Marked,
+  mark-none,
+  border-yes,
+  border-no,
+  Counted,
+  count-none,
+  count-yes,
+  count-no,
+  count-end,
+}
+use Rattle.plan.proofs.borders.count_borders.Statement.{statement}
+use Rattle.plan.proofs.borders.count_borders.Tie as tie
+
+abbrev Inv-loop : tie.InvT-loop
+Inv-loop network marks count₀ v₀ v-end count v =
+    (v ≤ v-end)
+    × (v-end ≡ nodes (decode network))
+    × (v-end ≤ mostNodes)
+    × Marked (decode network) (arcs (decode network)) marks
+    × Counted (partitionOf (decode network)) v count
+
+abbrev μ-loop : tie.MeasureT-loop
+μ-loop network marks count₀ v₀ v-end count v = v-end - v
+
+mark-heads-requires : tie.Need-mark-heads-requires Inv-loop μ-loop
+mark-heads-requires c κs = (search needs, (search needs, mark-none _))
+
+loop-holds : tie.Need-loop-holds Inv-loop μ-loop
+loop-holds c = let s = c .before .before .before .pre .0 in (
+  search needs,
+  laid-sizes s .nodes,
+  laid-small s .nodes-most,
+  search needs,
+  count-none _,
+)
+
+array-read-if1 : tie.Need-array-read-if1 Inv-loop μ-loop
+array-read-if1 c = search needs
+
+add-count : tie.Need-add-count Inv-loop μ-loop
+add-count c = omega (arith, c .before .before .loop .inv .4 .few)
+
+add-v : tie.Need-add-v Inv-loop μ-loop
+add-v c = search needs
+
+loop-less : tie.Need-loop-less Inv-loop μ-loop
+loop-less c = search needs
+
+loop-again : tie.Need-loop-again Inv-loop μ-loop
+loop-again c =
+    let t = c .before in
+    let i = t .before .loop .inv in
+    let m = i .3 in (
+      search needs,
+      i .1,
+      i .2,
+      m,
+      ⊎-elim (λ w. rw (w .1) (count-yes _ _ _ (i .4) (border-yes _ _ m _ (omega arith) (w .0 .taken))))
+          (λ w. rw (w .1) (count-no _ _ _ (i .4) (border-no _ _ m _ (omega arith) (w .0 .left))))
+          (c .if1 .came),
+    )
+
+returns : tie.Need-returns Inv-loop μ-loop
+returns c = let i = c .before .loop .inv in count-end _ _ _ _ (i .4) (i .0) (c .loop-test .left) (i .1)
+
+pub count-borders-spec : {M : Type 1} → statement M
+count-borders-spec =
+    tie.close
+    (tie.spec
+    Inv-loop
+    μ-loop
+    mark-heads-requires
+    loop-holds
+    array-read-if1
+    add-count
+    add-v
+    loop-less
+    loop-again
+    returns)
