@@ -76,7 +76,7 @@ pub fn agree(medium: &Subject, full: &Subject, texts: &[Text]) {
     let imports = agree::on_texts(texts, 20_000);
     // Each ask of each town, and of the medium one with hours, is a plain and two flagged trips in lists, and a plain and a flagged one in bytes.
     println!("alike: {} trips; on damaged files, in checks and in imports, refusal:times", 5 * ASKS * 3);
-    println!("  files {}\n  files with hours {}", told(&trips), told(&hours));
+    println!("  files {}\n  with hours {}", told(&trips), told(&hours));
     println!("  checks {}\n  imports {}", told(&checks), told(&imports));
 }
 

@@ -40,7 +40,7 @@ sheetAsked h from to work list =
     (cond (ltb list (h .period)) (unopened 31 0)
     (Opened h))))
 
--- what comes before the work: 1 to 10, then these, by the lengths of the two lists
+-- what comes before the work: 1 to 10 with 37, then these, by the lengths of the two lists
 abbrev pub sheetBegin : List ℕ → ℕ → ℕ → ℕ → ℕ → Opening
 sheetBegin network from to work list = andThen (validated network) (λ h. sheetAsked h from to work list)
 

@@ -28,7 +28,7 @@ fn ask_sheet(h: Header, from: u32, to: u32, work: usize, list: usize) -> Opening
     Opening::Opened(h)
 }
 
-// 1 to 10, then 25, 34 and 31.
+// 1 to 10 with 37, then 25, 34 and 31.
 pub fn begin_sheet(network: &[u8], from: u32, to: u32, work: usize, list: usize) -> Opening
     ensures { λ r. ⌜ r ≡ sheetBegin (now (network .entry)) from to work list ⌝ }
 {

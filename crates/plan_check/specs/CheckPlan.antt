@@ -1,6 +1,6 @@
--- The check of a plan file against a network file: 1 to 10, 11 to 19, then 20 to 24. It accepts exactly the
--- plans whose profiles are the true least travels and whose flags are enough (`accepts-exactly`), for every
--- network that opens and every plan that is well-formed for it.
+-- The check of a plan file against a network file: 1 to 10 with 37, 11 to 19, then 20 to 24. It accepts
+-- exactly the plans whose profiles are the true least travels and whose flags are enough (`accepts-exactly`),
+-- for every network that opens and every plan that is well-formed for it.
 use mathlib.Core.Path.{_≡_, refl, sym, _∙_}
 use mathlib.Core.Logic.{_↔_}
 use mathlib.Core.List.{List}

@@ -29,7 +29,7 @@ madeInto n room =
 unfoldable pub madeWith : Network → ℕ → ℕ → Writing
 madeWith n work room = cond (ltb work (workSize n)) (unwritten 34) (madeInto n room)
 
--- 1 to 10
+-- 1 to 10 with 37
 abbrev pub madeOver : Opening → Network → ℕ → ℕ → Writing
 madeOver (opening.Refused r) n work room = Refused r
 madeOver (opening.Opened h) n work room = madeWith n work room

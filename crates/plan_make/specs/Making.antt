@@ -252,7 +252,7 @@ module _ {n : Network} {size : ℕ} (s : size ≡ workSize n) {out₀ : List ℕ
         written = w .written;
       }
 
--- 1 to 10
+-- 1 to 10 with 37
 module _ {network work₀ out₀ : List ℕ} {o : Opening} where
   pub made-refused : {q : Refusal} {r : Writing} → o ≡ validated network → o ≡ opening.Refused q → r ≡
       Refused q

@@ -1,4 +1,4 @@
-// Make plan: refusals 1 to 10, then 34, 33 and 31, or the plan of the network written.
+// Make plan: refusals 1 to 10 with 37, then 34, 33 and 31, or the plan of the network written.
 use crate::rounds::count_points;
 use crate::rounds::put_borders;
 use file_fields::BLOCK;

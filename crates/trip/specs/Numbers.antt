@@ -1,8 +1,8 @@
--- Which numbers a trip refuses with. Before the search: 1 to 10 for the network, 11 to 19 for the plan, 25 to
--- 27 for the call, and not 27 where the list of arrivals has room for the nodes of every network. So what
--- comes before a search is as `Promise` needs it (`plain-begins`, `flagged-begins`); a refusal of the plain
--- trip is 1 to 10 or 25 to 29, one of the flagged trip 1 to 19 or 25 to 29, and the calls with fresh lists
--- never say 27 or 29.
+-- Which numbers a trip refuses with. Before the search: 1 to 10 with 37 for the network, 11 to 19 for the
+-- plan, 25 to 27 for the call, and not 27 where the list of arrivals has room for the nodes of every network.
+-- So what comes before a search is as `Promise` needs it (`plain-begins`, `flagged-begins`); a refusal of the
+-- plain trip is 1 to 10, 37 or 25 to 29, one of the flagged trip 1 to 19, 37 or 25 to 29, and the calls with
+-- fresh lists never say 27 or 29.
 use mathlib.Core.Path.{_≡_, refl, sym, ap}
 use mathlib.Core.Logic.{_⊎_, inl, inr, ⊎-elim}
 use mathlib.Core.Bool.{cond}
