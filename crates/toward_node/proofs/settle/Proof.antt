@@ -10,11 +10,11 @@ use Rattle.toward_node.proofs.settle.Statement.{statement}
 use Rattle.toward_node.proofs.settle.Tie as tie
 
 abbrev Inv-loop : tie.InvT-loop
-Inv-loop file l starts into next least v hs work₀ near₀ room₀ reach a₀ work near room a =
-    Walking file l v a reach hs work₀ near₀ work near room
+Inv-loop file l starts into next least v bar hs work₀ near₀ room₀ reach a₀ work near room a =
+    Walking file l v a reach bar hs work₀ near₀ room₀ work near room
 
 abbrev μ-loop : tie.MeasureT-loop
-μ-loop file l starts into next least v hs work₀ near₀ room₀ reach a₀ work near room a = l .arcs - a
+μ-loop file l starts into next least v bar hs work₀ near₀ room₀ reach a₀ work near room a = l .arcs - a
 
 copy-row-requires : tie.Need-copy-row-requires Inv-loop μ-loop
 copy-row-requires c κs = search needs
