@@ -4,7 +4,7 @@
 -- at most a period more; after that they only fall. So no number comes to a period for each node that has
 -- some.
 use mathlib.Core.Path.{_≡_, sym, _∙_, ap}
-use mathlib.Core.Bool.{Bool, true}
+use mathlib.Core.Bool.{Bool, true, false}
 use mathlib.Core.Logic.{_≢_}
 use mathlib.Core.List.{List}
 use Prim.Native.Nat.{ℕ, _+_, _-_, _*_, _≤_, _<_, min}
@@ -112,13 +112,19 @@ module _ {l : Layout} (s : Small l) {W D H : List ℕ} (o : Heights l W D H) whe
 
   -- FOR CODE that lowers the row of node u
   pub heights-fresh : {u : ℕ} {first : Bool} → u < l .nodes → (first ≡ true → getD H u 0 ≡ 0)
-      → Fresh first W (u * l .period) (u * l .period + l .period)
+      → (first ≡ false → getD H u 0 ≢ 0) → Fresh first W (u * l .period) (u * l .period + l .period)
   unfolding gridAt
-  heights-fresh {u} n e = record {
-    entry = λ t k lo hi.
-        let q : u * l .period + (k - u * l .period) ≡ k = omega arith in
-        rw q at (o .bare u (k - u * l .period) n (omega arith) (e t));
+  heights-fresh {u} n e f = record {
+    none = λ t k lo hi. rw (place k lo) at (o .bare u (k - u * l .period) n (omega arith) (e t));
+    known = λ t. record {
+      entry = λ k lo hi.
+          let z = rw (place k lo) at (number-early u (k - u * l .period) n (omega arith) (f t)) in
+          omega (arith, numbered-early);
+    };
   }
+    where
+      place : (k : ℕ) → u * l .period ≤ k → u * l .period + (k - u * l .period) ≡ k
+      place k lo = omega arith
 
   -- node u's row has fallen to what a node with numbers gives
   module _ {M : List ℕ} {u near high : ℕ} (n : u < l .nodes) (long : length M ≡ length W)

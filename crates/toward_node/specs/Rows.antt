@@ -154,11 +154,16 @@ row-lent w h W ys p s n r e l c =
 pub fresh-lent : {first : Bool} {W : List ℕ} {p s n : ℕ} → p ≡ s → Fresh first W s (s + n)
     → Fresh first (take (p + n - p) (drop p W)) 0 n
 fresh-lent {W = W} {p = p} {n = n} e f = record {
-  entry = λ t x _ h.
-      let q : p + x - p ≡ x = omega arith in
-      (rw q at (part-was W p (p + n) (p + x) (omega arith) (omega arith)))
-      ∙ f .entry t (p + x) (omega arith) (omega arith);
+  none = λ t x _ h. was x h ∙ f .none t (p + x) (omega arith) (omega arith);
+  known = λ t. record {
+    entry = λ x _ h. omega (arith, was x h, f .known t .entry (p + x) (omega arith) (omega arith));
+  };
 }
+  where
+    was : (x : ℕ) → x < n → getD (take (p + n - p) (drop p W)) x 0 ≡ getD W (p + x) 0
+    was x h =
+        let q : p + x - p ≡ x = omega arith in
+        rw q at (part-was W p (p + n) (p + x) (omega arith) (omega arith))
 
 -- nothing fell: the list is as it was
 pub row-same : {p e r : ℕ} {f : ℕ → ℕ} {W M : List ℕ} → Cut p e f W M r → r ≡ 0 → M ≡ W
