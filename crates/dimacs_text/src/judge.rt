@@ -4,11 +4,10 @@ use crate::reading::Reading;
 use crate::reading::begun;
 use crate::reading::step;
 use dimacs_line::line::Sizes;
-use dimacs_line::line::shape_of;
+use dimacs_line::next::next_line;
 use file_refusals::Refusal;
 use file_refusals::number;
 use file_refusals::refuse;
-use text_numbers::lines::line_end;
 ghost use mathlib.Core.Path.{_≡_};
 ghost use Rattle.text_numbers.specs.Lines.{linesOf};
 ghost use Rattle.dimacs_text.specs.Reading as readings;
@@ -62,8 +61,10 @@ fn read(text: &[u8]) -> Reading
     let mut r = begun();
     let mut at = 0;
     while at < text.len() {
-        let end = line_end(text, at);
-        r = step(r, shape_of(&text[at..end]));
+        let line = next_line(text, at);
+        let shape = line.shape;
+        let end = line.end;
+        r = step(r, shape);
         if r.stopped {
             return r;
         }

@@ -18,20 +18,8 @@ begun-requires c κs = search needs
 loop-holds : tie.Need-loop-holds Inv-loop μ-loop
 loop-holds c = search (needs, reads)
 
-line-end-requires : tie.Need-line-end-requires Inv-loop μ-loop
-line-end-requires c κs = search needs
-
-sub-shape-of : tie.Need-sub-shape-of Inv-loop μ-loop
-sub-shape-of c = search needs
-
-part-shape-of-start : tie.Need-part-shape-of-start Inv-loop μ-loop
-part-shape-of-start c = search needs
-
-part-shape-of-end : tie.Need-part-shape-of-end Inv-loop μ-loop
-part-shape-of-end c = search needs
-
-shape-of-requires : tie.Need-shape-of-requires Inv-loop μ-loop
-shape-of-requires c κs = search needs
+next-line-requires : tie.Need-next-line-requires Inv-loop μ-loop
+next-line-requires c κs = search needs
 
 step-requires : tie.Need-step-requires Inv-loop μ-loop
 step-requires c κs = search needs
@@ -59,11 +47,7 @@ read-spec =
     μ-loop
     begun-requires
     loop-holds
-    line-end-requires
-    sub-shape-of
-    part-shape-of-start
-    part-shape-of-end
-    shape-of-requires
+    next-line-requires
     step-requires
     returns
     add-at
