@@ -14,7 +14,6 @@ use Rattle.text_numbers.specs.Lines.{Unended, LineTo, unended-join, unended-byt
 use Rattle.text_numbers.specs.Spaced.{Spaced, one, more}
 use Rattle.text_numbers.specs.Digits.{part, DigitsAt, part-split, part-first, digits-numeral, digits-unended}
 use Rattle.dimacs_line.specs.declared.line.Arc.{Arc}
-use Rattle.dimacs_line.specs.declared.line.Shape.{Shape}
 use Rattle.dimacs_line.specs.declared.line.Shape.the-variants.{Remark}
 use Rattle.dimacs_line.specs.declared.line.Shape.the-variants.{Arc as ArcLine}
 use Rattle.dimacs_line.specs.declared.next.Line.{Line}

@@ -8,7 +8,7 @@ use text_numbers::lines::line_end;
 ghost use mathlib.Core.Path.{_≡_};
 ghost use mathlib.Core.Bool.{true};
 ghost use Prim.Native.Nat.{_≤_, _<_};
-ghost use lib.ListN.{length, getD};
+ghost use lib.ListN.{length};
 ghost use Rattle.dimacs_line.specs.Next.{NextLine, ArcStart, EndedBy};
 
 // The shape of a line, and where it ends: at its line feed, or at the end of the text.
