@@ -31,7 +31,8 @@ use Rattle.dimacs_text.specs.Reading.{judging}
 use Rattle.dimacs_text.specs.Noting.{lowered, shortened, tailOf, headOf, travelOf, TablesLong, Column, Noted}
 use Rattle.dimacs_text.specs.Noting.{JudgedInto}
 use Rattle.dimacs_import.specs.Import.{networkBy, ImportCall, import-accepted}
-use Rattle.dimacs_import.specs.Imported.{tail-at, head-at, travel-at, accepted-fit, headerFor, header-within}
+use Rattle.dimacs_import.specs.Imported.{tail-at, head-at, travel-at, accepted-fit, headerFor}
+use Rattle.dimacs_import.specs.Imported.{header-within}
 
 -- each node in cell 0 and open all day, and each arc with one point, at tick 0
 abbrev pub roadTables : List ℕ → List ℕ → List ℕ → Tables
@@ -42,6 +43,10 @@ roadTables tails heads travels =
 abbrev pub roadsFile : ℕ → Sizes → List ℕ → List ℕ → List ℕ → List ℕ
 roadsFile number k tails heads travels =
     encode (networkOf (headerFor number k) (roadTables tails heads travels))
+
+pub roads-few : (number : ℕ) (k : Sizes) (l : Layout) → Within k → l ≡ layoutOf (headerFor number k)
+    → l .blocks ≤ mostBlocks
+roads-few number k l w is = blocks-few (headerFor number k) l (header-within number k w) is
 
 -- FOR THE CODE: its writing
 module _ (number : ℕ) (k : Sizes) (l : Layout) (tails heads travels : List ℕ) (w : Within k)
@@ -71,9 +76,6 @@ module _ (number : ℕ) (k : Sizes) (l : Layout) (tails heads travels : List ℕ
   pub roads-long : blockSize * l .blocks ≡ length (roadsFile number k tails heads travels)
   roads-long = sym (packed-long (roadTables tails heads travels) roads-packable)
 
-  pub roads-few : l .blocks ≤ mostBlocks
-  roads-few = blocks-few (headerFor number k) l (header-within number k w) is
-
   module _ (before : List ℕ) where
     pub roads-short : (r : Writing) → length before < blockSize * l .blocks → r ≡ unwritten 31
         → Writes (writtenInto (length (roadsFile number k tails heads travels)) (length before))
@@ -86,7 +88,8 @@ module _ (number : ℕ) (k : Sizes) (l : Layout) (tails heads travels : List ℕ
         (roadsFile number k tails heads travels) before after
         (Written (record { bytes = blockSize * l .blocks }))
     roads-whole after m e =
-        rw roads-long (into-whole (roadsFile number k tails heads travels) before after (rw roads-long at m) e)
+        rw roads-long
+        (into-whole (roadsFile number k tails heads travels) before after (rw roads-long at m) e)
 
 -- AN ACCEPTED TEXT: a column of a table is the network's list, where each number fits its entry
 take-alike : (n m v : ℕ) → n ≤ m → take n (replicate {A = ℕ} m v) ≡ replicate n v
@@ -123,7 +126,8 @@ module _ (number : ℕ) (k : Sizes) (arcs : List Arc) (f : Fit k arcs) where
   travel-is : (i : ℕ) → i < length arcs
       → travelOf (arcAt arcs i) ≡ travel (networkBy number (k .nodes) arcs) i
   travel-is i l =
-      let z : shortened (arcAt arcs i .weight) ≡ arcAt arcs i .weight = omega (arith, f .fits i l .weight-most) in
+      let z : shortened (arcAt arcs i .weight) ≡ arcAt arcs i .weight =
+      omega (arith, f .fits i l .weight-most) in
       z ∙ sym (travel-at number (k .nodes) arcs i)
 
   pub roads-network : (tails heads travels : List ℕ) → Noted arcs (k .arcs) tails heads travels
@@ -164,7 +168,8 @@ roads-imported text number k tails heads travels before after j r h e w =
     let a : judging text ≡ Accepted k = sym (h .told) ∙ e in
     import-accepted text number before k a (roadsFile number k tails heads travels)
     (ap encode
-    (roads-network number k (arcsOf (linesOf text)) (accepted-fit text k a) tails heads travels (h .noted k e)))
+    (roads-network number k (arcsOf (linesOf text)) (accepted-fit text k a) tails heads travels
+    (h .noted k e)))
     after r w
 
 pub accepted-within : (text : List ℕ) (k : Sizes) (tails heads travels : List ℕ) (j : Judgement)

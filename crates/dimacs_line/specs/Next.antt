@@ -17,12 +17,17 @@ use Rattle.dimacs_line.specs.declared.line.Arc.{Arc}
 use Rattle.dimacs_line.specs.declared.line.Shape.the-variants.{Remark}
 use Rattle.dimacs_line.specs.declared.line.Shape.the-variants.{Arc as ArcLine}
 use Rattle.dimacs_line.specs.declared.next.Line.{Line}
+use Rattle.dimacs_line.specs.declared.next.Met.{Met}
 use Rattle.dimacs_line.specs.Shape.{shapeOf}
 use Rattle.dimacs_line.specs.ShapeExact.{remark-exactly, arc-exactly}
 
 pub record NextLine (text : List ℕ) (at : ℕ) (l : Line) : Type 0 where
   pub to : LineTo text at (l .end)
   pub is : l .shape ≡ shapeOf (part text at (l .end))
+
+-- the line of an arc that is met
+abbrev pub lineBy : Met → Line
+lineBy m = record { shape = ArcLine (m .arc); end = m .end }
 
 -- `a `, with room for three numbers of nine digits; and bytes with this one behind them
 pub record ArcStart (text : List ℕ) (at : ℕ) : Type 0 where
@@ -134,6 +139,9 @@ module _ (text : List ℕ) (at tail tailEnd head headEnd weight end : ℕ) (star
 -- FOR A TEST that answers a bool: what holds if the answer is yes
 pub never : {P : Type 0} → _≡_ {A = Bool} false true → P
 never e = let z : _≡_ {A = ℕ} 0 1 = cc in absurd (omega arith)
+
+pub unmet : {P : Type 0} (at end : ℕ) → end ≡ at → at < end → P
+unmet at end e l = absurd (omega arith)
 
 pub ended-so : (text : List ℕ) (from end byte : ℕ) → from < end → eqb (getD text end 0) byte ≡ true
     → EndedBy text from end byte

@@ -1,6 +1,6 @@
-// The arcs of a text, noted in tables as its lines are read: an arc's ends lowered by one, since the nodes of a
-// network's file are numbered from 0 on, and its weight. What does not fit an entry's 16 bits is no part of an
-// accepted text.
+// The arcs of a text, noted in tables as its lines are read: an arc's ends lowered by one, since the nodes of
+// a network's file are numbered from 0 on, and its weight. What does not fit an entry's 16 bits is no part of
+// an accepted text.
 use dimacs_line::line::Arc;
 use dimacs_line::line::Shape;
 use network::limits::MOST_ARCS;

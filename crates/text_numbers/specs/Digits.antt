@@ -1,5 +1,5 @@
--- Digits that stand at a place of a text: the bytes from one place to another, all of them digits, and their
--- value. There are no more than nine of them.
+-- Digits that stand at a place of a text: the bytes from one place to another, up to nine and all of them
+-- digits, and their value.
 use mathlib.Core.Path.{_≡_, _∙_}
 use mathlib.Core.Logic.{_≢_}
 use mathlib.Core.Bool.{true, and-eq-true-iff}
@@ -54,9 +54,10 @@ part-first text at end l m =
 abbrev pub DigitBy : ℕ → ℕ → Type 0
 DigitBy byte digit = (digit + 48) % 2 ^ 32 ≡ byte
 
-more : (text : List ℕ) (at i value digit : ℕ) → DigitsAt text at i value → i < at + 9 → i < length text
-    → DigitBy (getD text i 0) digit → digit ≤ 9 → DigitsAt text at (i + 1) (10 * value + digit)
-more text at i value digit h f l by d =
+pub digits-more : (text : List ℕ) (at i value digit : ℕ) → DigitsAt text at i value → i < at + 9
+    → i < length text → DigitBy (getD text i 0) digit → digit ≤ 9
+    → DigitsAt text at (i + 1) (10 * value + digit)
+digits-more text at i value digit h f l by d =
     let b : isDigit (getD text i 0) ≡ true =
     rw (le-leb 48 (getD text i 0) (omega arith), le-leb (getD text i 0) 57 (omega arith)) in
     let w : getD text i 0 - 48 ≡ digit = omega arith in
@@ -70,7 +71,7 @@ more text at i value digit h f l by d =
       small = rw p (omega (arith, h .small));
     }
 
--- FOR THE CODE: no digits, and one to four
+-- FOR THE CODE: no digits, a value that has room for one more, and all nine
 pub digits-none : (text : List ℕ) (at : ℕ) → DigitsAt text at at 0
 unfolding areDigits valueFrom
 digits-none text at =
@@ -83,31 +84,42 @@ digits-none text at =
       small = rw z (omega arith);
     }
 
+pub digits-below : (text : List ℕ) (at i value : ℕ) → DigitsAt text at i value → i < at + 9 → value < 10 ^ 8
+digits-below text at i value h l =
+    let m : i - at ≤ 8 = omega arith in
+    omega (arith, h .small, pow-le-pow-right {n = 10} (omega arith) {i = i - at} {j = 8} m)
+
+pub digits-nine : (text : List ℕ) (at i value : ℕ) → DigitsAt text at i value → at + 9 ≤ i
+    → DigitsAt text at (at + 9) value
+digits-nine text at i value h l = let z : i ≡ at + 9 = omega (arith, h .few) in rw z at h
+
+-- and one to four
 module _ (text : List ℕ) (at : ℕ) (room : at + 9 ≤ length text) (a : ℕ) (by₁ : DigitBy (getD text at 0) a)
     (l₁ : a ≤ 9) where
   pub digits-one : DigitsAt text at (at + 1) a
   digits-one =
       let z : 10 * 0 + a ≡ a = omega arith in
-      rw z at (more text at at 0 a (digits-none text at) (omega arith) (omega arith) by₁ l₁)
+      rw z at (digits-more text at at 0 a (digits-none text at) (omega arith) (omega arith) by₁ l₁)
 
   module _ (b : ℕ) (by₂ : DigitBy (getD text (at + 1) 0) b) (l₂ : b ≤ 9) where
     pub digits-two : DigitsAt text at (at + 2) (10 * a + b)
     digits-two =
         let z : at + 1 + 1 ≡ at + 2 = omega arith in
-        rw z at (more text at (at + 1) a b digits-one (omega arith) (omega arith) by₂ l₂)
+        rw z at (digits-more text at (at + 1) a b digits-one (omega arith) (omega arith) by₂ l₂)
 
     module _ (c : ℕ) (by₃ : DigitBy (getD text (at + 2) 0) c) (l₃ : c ≤ 9) where
       pub digits-three : DigitsAt text at (at + 3) (10 * (10 * a + b) + c)
       digits-three =
           let z : at + 2 + 1 ≡ at + 3 = omega arith in
-          rw z at (more text at (at + 2) (10 * a + b) c digits-two (omega arith) (omega arith) by₃ l₃)
+          rw z at (digits-more text at (at + 2) (10 * a + b) c digits-two (omega arith) (omega arith) by₃ l₃)
 
       pub digits-four : (d : ℕ) → DigitBy (getD text (at + 3) 0) d → d ≤ 9
           → DigitsAt text at (at + 4) (10 * (10 * (10 * a + b) + c) + d)
       digits-four d by₄ l₄ =
           let z : at + 3 + 1 ≡ at + 4 = omega arith in
           rw z at
-          (more text at (at + 3) (10 * (10 * a + b) + c) d digits-three (omega arith) (omega arith) by₄ l₄)
+          (digits-more text at (at + 3) (10 * (10 * a + b) + c) d digits-three (omega arith) (omega arith) by₄
+          l₄)
 
 -- for `search digits-read`
 pub ruleset digits-read = (digits-none, digits-one, digits-two, digits-three, digits-four)

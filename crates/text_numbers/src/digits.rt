@@ -1,9 +1,8 @@
 // Digits that stand at a place of a text, with the number that they are.
 use std::num::wrapping_sub_u32;
-ghost use mathlib.Core.Path.{_≡_};
-ghost use Prim.Native.Nat.{_+_, _%_, _^_, _≤_};
+ghost use Prim.Native.Nat.{_+_, _≤_};
 ghost use lib.ListN.{length};
-ghost use Rattle.text_numbers.specs.Digits.{DigitsAt};
+ghost use Rattle.text_numbers.specs.Digits.{DigitsAt, DigitBy};
 
 // A number, and the place behind its last digit.
 pub struct Number {
@@ -13,12 +12,28 @@ pub struct Number {
 
 // The digit that a byte is, or a number above 9.
 fn digit(byte: u8) -> u32
-    ensures { λ r. ⌜ (r + 48) % 2 ^ 32 ≡ byte ⌝ }
+    ensures { λ r. ⌜ DigitBy byte r ⌝ }
 {
     wrapping_sub_u32(byte as u32, 48)
 }
 
-// The first digits from byte `at` on, up to four. There may be none, and there may be further ones.
+// The first digits from byte `at` on, up to nine. There may be none, and there may be further ones.
+fn digits_at(text: &[u8], at: usize) -> Number
+    requires { ⌜ at + 9 ≤ length (now text) ⌝ }
+    ensures { λ r. ⌜ DigitsAt (now (text .entry)) at (r .end) (r .value) ⌝ }
+{
+    let mut value: u32 = 0;
+    for i in at..at + 9 {
+        let next = digit(text[i]);
+        if 9 < next {
+            return Number { value, end: i };
+        }
+        value = 10 * value + next;
+    }
+    Number { value, end: at + 9 }
+}
+
+// The same, with no loop where there are at most four, as those of a town's roads are.
 pub fn number_at(text: &[u8], at: usize) -> Number
     requires { ⌜ at + 9 ≤ length (now text) ⌝ }
     ensures { λ r. ⌜ DigitsAt (now (text .entry)) at (r .end) (r .value) ⌝ }
@@ -50,8 +65,11 @@ pub fn number_at(text: &[u8], at: usize) -> Number
             end: at + 3,
         };
     }
-    Number {
-        value: 10 * three + fourth,
-        end: at + 4,
+    if 9 < digit(text[at + 4]) {
+        return Number {
+            value: 10 * three + fourth,
+            end: at + 4,
+        };
     }
+    digits_at(text, at)
 }

@@ -1,6 +1,5 @@
 -- `dimacs_import::import::import_sized` meets its contract.
 use native.Mathlib.Omega.{arith}
-use denote.Ref.{now}
 use Rattle.dimacs_import.specs.Roads.{roads-packable, roads-few, roads-short, roads-whole}
 use borrow.Author.Needs.{needs}
 use Rattle.dimacs_import.proofs.import.import_sized.Statement.{statement}
@@ -18,53 +17,28 @@ layout-requires c κs = search needs
 mul-long : tie.Need-mul-long
 mul-long c =
     let s = c .before .before .before .before .before in
-    let is = c .before .layout .ensures in
-    let T = now (s .args .tails) in
-    let H = now (s .args .heads) in
-    let W = now (s .args .travels) in
-    omega (arith, roads-few (s .args .number) (s .args .k) _ T H W (s .pre .0) (s .pre .1) (search needs) is)
+    omega (arith, roads-few (s .args .number) (s .args .k) _ (s .pre .0) (c .before .layout .ensures))
 
 unwritten-requires : tie.Need-unwritten-requires
 unwritten-requires c κs = search needs
 
 returns : tie.Need-returns
-returns c =
-    let s = c .before .before .before .before .before .before .before in
-    let is = c .before .before .before .layout .ensures in
-    let T = now (s .args .tails) in
-    let H = now (s .args .heads) in
-    let W = now (s .args .travels) in
-    roads-short (s .args .number) (s .args .k) _ T H W (s .pre .0) (s .pre .1) (search needs) is _ _ (search needs) (c .unwritten .ensures)
+returns c = search (needs, roads-short)
 
 write-network-requires : tie.Need-write-network-requires
-write-network-requires c κs =
-    let s = c .before .before .before .before .before .before .before in
-    let is = c .before .before .before .layout .ensures in
-    let T = now (s .args .tails) in
-    let H = now (s .args .heads) in
-    let W = now (s .args .travels) in
-    (roads-packable (s .args .number) (s .args .k) _ T H W (s .pre .0) (s .pre .1) (search needs) is, search needs)
+write-network-requires c κs = (search (needs, roads-packable), search needs)
 
 cast-t17 : tie.Need-cast-t17
 cast-t17 c =
-    let s = c .before .before .before .before .before .before .before .before .before .before in
-    let is = c .before .before .before .before .before .before .layout .ensures in
-    let T = now (s .args .tails) in
-    let H = now (s .args .heads) in
-    let W = now (s .args .travels) in
-    omega (arith, roads-few (s .args .number) (s .args .k) _ T H W (s .pre .0) (s .pre .1) (search needs) is)
+    let s = c .before .before .before .before .before .before in
+    let t = s .before .before .before .before in
+    omega (arith, roads-few (t .args .number) (t .args .k) _ (t .pre .0) (s .layout .ensures))
 
 same-length : tie.Need-same-length
 same-length c = search needs
 
 returns-2 : tie.Need-returns-2
-returns-2 c =
-    let s = c .before .before .before .before .before .before .before .before .before .before in
-    let is = c .before .before .before .before .before .before .layout .ensures in
-    let T = now (s .args .tails) in
-    let H = now (s .args .heads) in
-    let W = now (s .args .travels) in
-    roads-whole (s .args .number) (s .args .k) _ T H W (s .pre .0) (s .pre .1) (search needs) is _ _ (search needs) (c .before .before .write-network .ensures)
+returns-2 c = search (needs, roads-whole)
 
 pub import-sized-spec : {M : Type 1} → statement M
 import-sized-spec =

@@ -16,11 +16,11 @@ returns c = remark-next _ _ _ (search needs) (search needs) (c .line-end .ensure
 is-arc-start-requires : tie.Need-is-arc-start-requires
 is-arc-start-requires c κs = search needs
 
-arc-line-requires : tie.Need-arc-line-requires
-arc-line-requires c κs = c .before .is-arc-start .ensures (search needs)
+arc-at-requires : tie.Need-arc-at-requires
+arc-at-requires c κs = c .before .is-arc-start .ensures (search needs)
 
 returns-2 : tie.Need-returns-2
-returns-2 c = search needs
+returns-2 c = c .before .before .arc-at .ensures (search needs)
 
 whole-line-requires : tie.Need-whole-line-requires
 whole-line-requires c κs = search needs
@@ -36,7 +36,7 @@ next-line-spec =
     line-end-requires
     returns
     is-arc-start-requires
-    arc-line-requires
+    arc-at-requires
     returns-2
     whole-line-requires
     returns-3)

@@ -70,17 +70,32 @@ add-t19 c = search needs
 returns-4 : tie.Need-returns-4
 returns-4 c = search (needs, digits-read)
 
-mul-t15 : tie.Need-mul-t15
-mul-t15 c = search needs
+add-digit-4 : tie.Need-add-digit-4
+add-digit-4 c = search needs
 
-add-t20 : tie.Need-add-t20
-add-t20 c = search needs
+shared-slice-read-digit-5 : tie.Need-shared-slice-read-digit-5
+shared-slice-read-digit-5 c = search needs
 
-add-t12 : tie.Need-add-t12
-add-t12 c = search needs
+digit-requires-5 : tie.Need-digit-requires-5
+digit-requires-5 c κs = search needs
+
+mul-t21 : tie.Need-mul-t21
+mul-t21 c = search needs
+
+add-t22 : tie.Need-add-t22
+add-t22 c = search needs
+
+add-t23 : tie.Need-add-t23
+add-t23 c = search needs
 
 returns-5 : tie.Need-returns-5
 returns-5 c = search (needs, digits-read)
+
+digits-at-requires : tie.Need-digits-at-requires
+digits-at-requires c κs = search needs
+
+returns-6 : tie.Need-returns-6
+returns-6 c = search needs
 
 pub number-at-spec : {M : Type 1} → statement M
 number-at-spec =
@@ -108,7 +123,12 @@ number-at-spec =
     digit-requires-4
     add-t19
     returns-4
-    mul-t15
-    add-t20
-    add-t12
-    returns-5)
+    add-digit-4
+    shared-slice-read-digit-5
+    digit-requires-5
+    mul-t21
+    add-t22
+    add-t23
+    returns-5
+    digits-at-requires
+    returns-6)

@@ -29,8 +29,8 @@ first-feed-requires c κs = search needs
 returns : tie.Need-returns Inv-loop μ-loop
 returns c =
     let s = c .before .before .before .before in
-    line-behind (now (s .before .before .args .text)) (s .before .before .args .at) (s .loop .i) _ (s .loop .inv .2)
-    (search needs) (c .first-feed .ensures)
+    line-behind (now (s .before .before .args .text)) (s .before .before .args .at) (s .loop .i) _
+    (s .loop .inv .2) (search needs) (c .first-feed .ensures)
 
 add-i : tie.Need-add-i Inv-loop μ-loop
 add-i c = search needs
@@ -43,8 +43,8 @@ loop-again c =
     let s = c .before .before .before in (
       search needs,
       search needs,
-      unended-join (now (s .before .before .args .text)) (s .before .before .args .at) (s .loop .i) _ (s .loop .inv .2)
-          (c .before .may-end .ensures (search needs)),
+      unended-join (now (s .before .before .args .text)) (s .before .before .args .at) (s .loop .i) _
+          (s .loop .inv .2) (c .before .may-end .ensures (search needs)),
     )
 
 first-feed-requires-2 : tie.Need-first-feed-requires-2 Inv-loop μ-loop
@@ -53,8 +53,8 @@ first-feed-requires-2 c κs = search needs
 returns-2 : tie.Need-returns-2 Inv-loop μ-loop
 returns-2 c =
     let s = c .before .before in
-    line-behind (now (s .before .before .args .text)) (s .before .before .args .at) (s .loop .i) _ (s .loop .inv .2)
-    (search needs) (c .first-feed2 .ensures)
+    line-behind (now (s .before .before .args .text)) (s .before .before .args .at) (s .loop .i) _
+    (s .loop .inv .2) (search needs) (c .first-feed2 .ensures)
 
 pub line-end-spec : {M : Type 1} → statement M
 line-end-spec =

@@ -33,13 +33,16 @@ loop-less c = search needs
 
 loop-again : tie.Need-loop-again Inv-loop μ-loop
 loop-again c =
-    let s = c .before .before in
-    (search needs, unfound-more (now (s .before .args .text)) (s .before .args .at) _ (s .loop .k) (s .loop .inv .1))
+    let s = c .before .before in (
+      search needs,
+      unfound-more (now (s .before .args .text)) (s .before .args .at) _ (s .loop .k) (s .loop .inv .1),
+    )
 
 returns : tie.Need-returns Inv-loop μ-loop
 returns c =
     let s = c .before in
-    unfound-all (now (s .before .args .text)) (s .before .args .at) _ (s .loop .k) (s .loop .inv .1) 16 (search needs) (search needs)
+    unfound-all (now (s .before .args .text)) (s .before .args .at) _ (s .loop .k) (s .loop .inv .1) 16
+    (search needs) (search needs)
 
 pub may-end-spec : {M : Type 1} → statement M
 may-end-spec =
