@@ -118,8 +118,8 @@ pub columns-end : (s : List ℕ) (i a₀ a₁ a₂ a₃ b₀ b₁ b₂ b₃ x y 
     → Columns s i a₀ a₁ a₂ a₃ b₀ b₁ b₂ b₃
     → i ≤ 63 → 63 ≤ i → x ≡ le16 s 504 → y ≡ le16 s 506
     → (r .a ≡ (1 + a₀ + a₁ + a₂ + a₃ + x + y) % 65535)
-    × (r .b
-    ≡ (252 + 4 * (b₀ + b₁ + b₂ + b₃) - (a₁ + 2 * a₂ + 3 * a₃) + 2 * (1 + a₀ + a₁ + a₂ + a₃) + 2 * x + y) % 65535)
+    × (r .b ≡ (252 + 4 * (b₀ + b₁ + b₂ + b₃) - (a₁ + 2 * a₂ + 3 * a₃) + 2 * (1 + a₀ + a₁ + a₂ + a₃)
+    + 2 * x + y) % 65535)
     → r ≡ sums s summedWords
 columns-end s i a₀ a₁ a₂ a₃ b₀ b₁ b₂ b₃ x y r h l m e f o =
     let n : i ≡ 63 = omega arith in

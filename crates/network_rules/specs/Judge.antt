@@ -1,5 +1,5 @@
--- The ladder of the rules 7, 37, 8, 9 and 10 as code climbs it that knows a network's sizes, whether it reads a
--- file in place or tables: each rung is taken, or passed.
+-- The ladder of the rules 7, 37, 8, 9 and 10 as code climbs it that knows a network's sizes, on a file in
+-- place or on tables: each rung is taken, or passed.
 use mathlib.Core.Path.{_≡_, sym, _∙_}
 use Prim.Native.Nat.{ℕ, _≤_, _<_}
 use native.Mathlib.Omega.{arith}

@@ -106,4 +106,7 @@ module _ (period : ℕ) (t v : ℕ → ℕ) where
       ]
 
       pub steady-end : Scanned period t v m (record { bad = m; late = m })
-      steady-end = record { bad = sym (all-clear _ m steady-fine); late = λ _. sym (all-clear _ m steady-kept) }
+      steady-end = record {
+        bad = sym (all-clear _ m steady-fine);
+        late = λ _. sym (all-clear _ m steady-kept);
+      }

@@ -1,9 +1,9 @@
--- Tables that are as long as a header says (`Cut`) with their network (`whole`), and the tests of the rules by
--- the tables that they read. What the rules 9 and 10 say needs the points of the arcs alone (`bare`).
-use mathlib.Core.Path.{_≡_, refl, sym, _∙_, ap}
+-- Tables that are as long as a header says (`Cut`) with their network (`whole`), and the tests of the rules
+-- by the tables that they read. What the rules 9 and 10 say needs the points of the arcs alone (`bare`).
+use mathlib.Core.Path.{_≡_, sym, _∙_, ap}
 use mathlib.Core.Bool.{Bool}
 use mathlib.Core.List.{List, []}
-use Prim.Native.Nat.{ℕ, _≤_, _<_}
+use Prim.Native.Nat.{ℕ}
 use lib.ListN.{length, getD, take}
 use lib.Seq.{length-take-le}
 use lib.Dec.{leb}
@@ -16,7 +16,8 @@ use Rattle.network.specs.Layout.{layoutOf, LaidBlocks, layout-blocks}
 use Rattle.network.specs.Network.{Network, nodes, arcs, start}
 use Rattle.network.specs.Tables.{Tables, tables, networkOf}
 use Rattle.network.specs.Decode.{Sizes, Small, layout-small}
-use Rattle.network.specs.Rules.{badCell, badHours, badHoursOf, badEnds, badArc, firstPoint, judgedPoints, judged}
+use Rattle.network.specs.Rules.{badCell, badHours, badHoursOf, badEnds, badArc, firstPoint, judgedPoints}
+use Rattle.network.specs.Rules.{judged}
 use Rattle.network.specs.FirstPoint.{Counted}
 use Rattle.network_encode.specs.Packable.{Packable}
 

@@ -1,6 +1,6 @@
 -- Two points side by side, as code holds one against the next in numbers of 16 bits, and the loop over all of
 -- them.
-use mathlib.Core.Path.{_≡_, refl, sym, _∙_, ap}
+use mathlib.Core.Path.{_≡_, refl, _∙_}
 use mathlib.Core.Bool.{Bool, true, false, cond}
 use mathlib.Core.List.{List}
 use Prim.Native.Nat.{ℕ, _+_, _-_, _*_, _≤_, _<_, min}
@@ -20,8 +20,8 @@ lessOne x = x - 1 + 65535 * (1 - x)
 unfoldable pub countOn : ℕ → Bool → ℕ
 countOn c test = cond test (c + 1) c
 
--- a point with tick t and travel v before one with tick u and travel w: its travel is 1 to the period, and where
--- the next starts no arc, its tick and its end are in order with the next
+-- a point with tick t and travel v before one with tick u and travel w: its travel is 1 to the period, and
+-- where the next starts no arc, its tick and its end are in order with the next
 pub record Ordered (period t v u w : ℕ) : Type 0 where
   pub some : 1 ≤ v
   pub most : v ≤ period
@@ -77,34 +77,35 @@ module _ (period : ℕ) (ticks travels : List ℕ) where
   pub pair-none : Paired period ticks travels 0 (record { starts = 0; fault = 0 })
   pair-none = record { starts = count-none _; ordered = λ _ q h. absurd (omega arith) }
 
-  module _ (m starts fault : ℕ) (s : Paired period ticks travels m (record { starts = starts; fault = fault }))
-    where
-      pub pair-few : starts ≤ m
-      pair-few = omega (arith, s .starts, count-few (startAfter ticks) m)
+  module _ (m starts fault : ℕ)
+      (s : Paired period ticks travels m (record { starts = starts; fault = fault })) where
+    pub pair-few : starts ≤ m
+    pair-few = omega (arith, s .starts, count-few (startAfter ticks) m)
 
-      pub pair-more : (x y : ℕ) (one : ℕ) → x ≡ countOn starts (eqb (getD ticks (m + 1) 0) 0)
-          → (one ≡ 0
-          → Ordered period (getD ticks m 0) (getD travels m 0) (getD ticks (m + 1) 0) (getD travels (m + 1) 0))
-          → (fault ≤ y) × (one ≤ y)
-          → Paired period ticks travels (m + 1) (record { starts = x; fault = y })
-      unfolding countOn
-      pair-more x y one e f g = record {
-        starts = e ∙ go (startAfter ticks m) refl;
-        ordered = λ z q h. elim (decLt q m) [
-          | yes l ↦ s .ordered (omega arith) q l
-          | no l ↦ let i : m ≡ q = omega arith in
-              rw i at (f (omega arith))
-        ];
-      }
-        where
-          go : (b : Bool) → startAfter ticks m ≡ b → cond b (starts + 1) starts ≡ count (m + 1) (startAfter ticks)
-          go true h = count-yes (startAfter ticks) starts m (s .starts) h
-          go false h = count-no (startAfter ticks) starts m (s .starts) h
+    pub pair-more : (x y : ℕ) (one : ℕ) → x ≡ countOn starts (eqb (getD ticks (m + 1) 0) 0)
+        → (one ≡ 0
+        → Ordered period (getD ticks m 0) (getD travels m 0) (getD ticks (m + 1) 0) (getD travels (m + 1) 0))
+        → (fault ≤ y) × (one ≤ y)
+        → Paired period ticks travels (m + 1) (record { starts = x; fault = y })
+    unfolding countOn
+    pair-more x y one e f g = record {
+      starts = e ∙ go (startAfter ticks m) refl;
+      ordered = λ z q h. elim (decLt q m) [
+        | yes l ↦ s .ordered (omega arith) q l
+        | no l ↦ let i : m ≡ q = omega arith in
+            rw i at (f (omega arith))
+      ];
+    }
+      where
+        go : (b : Bool) → startAfter ticks m ≡ b
+            → cond b (starts + 1) starts ≡ count (m + 1) (startAfter ticks)
+        go true h = count-yes (startAfter ticks) starts m (s .starts) h
+        go false h = count-no (startAfter ticks) starts m (s .starts) h
 
-      -- at the end
-      pub pair-all : (k : ℕ) → m ≤ k → k ≤ m
-          → Paired period ticks travels k (record { starts = starts; fault = fault })
-      pair-all k h l = let q : m ≡ k = omega arith in rw q at s
+    -- at the end
+    pub pair-all : (k : ℕ) → m ≤ k → k ≤ m
+        → Paired period ticks travels k (record { starts = starts; fault = fault })
+    pair-all k h l = let q : m ≡ k = omega arith in rw q at s
 
 -- for `search pairs` at the needs of that loop
 pub ruleset pairs = (pair-none, pair-more, pair-all)

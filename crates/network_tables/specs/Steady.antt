@@ -1,20 +1,19 @@
 -- Why the points of all arcs keep the rules 9 and 10 where each of them is in order with the one after it
--- (Pairs), the days of all arcs close (`Closed`), and no more points than arcs have tick 0: then only the first
--- points of arcs have it.
-use mathlib.Core.Path.{_≡_, refl, sym, _∙_, ap}
+-- (Pairs), the days of all arcs close (`Closed`), and no more points than arcs have tick 0: then only the
+-- first points of arcs have it.
+use mathlib.Core.Path.{_≡_, refl, sym, ap}
 use mathlib.Core.Bool.{Bool, true, false}
-use mathlib.Core.List.{List}
 use Prim.Native.Nat.{ℕ, zero, suc, _+_, _-_, _≤_, _<_}
 use native.Mathlib.Nat.{le-of-lt}
 use native.Mathlib.Numerals.{add-one}
 use native.Mathlib.Omega.{arith}
 use native.Mathlib.Decide.{decLt}
-use lib.ListN.{length, getD}
+use lib.ListN.{getD}
 use borrow.Author.Tests.{eq-eqb}
 use Rattle.theory_loops.specs.Count.{count, count-grows, count-rises}
 use Rattle.theory_loops.specs.Total.{total-none, total-more}
 use Rattle.theory_travel.specs.Points.{climbs}
-use Rattle.theory_travel.specs.Table.{entryAt, entry-first}
+use Rattle.theory_travel.specs.Table.{entryAt}
 use Rattle.file_refusals.specs.declared.Judged.the-variants.{Sound}
 use Rattle.network.specs.Network.{Network, arcs, points, start}
 use Rattle.network.specs.Network as net
@@ -130,7 +129,11 @@ module _ (n : Network) (c : Counted n) (d : AllClosed n (arcs n)) (m : ℕ) (who
       let i : a + 1 ≡ suc a = add-one a in
       let s : 0 < net.count n a = c .some a (omega arith) in
       let q : a + 1 ≤ count (start n (a + 1)) p =
-      omega (arith, head a (omega arith), rises a (start n a) (omega arith) (omega (arith, start-more n a))) in
+      omega (
+        arith,
+        head a (omega arith),
+        rises a (start n a) (omega arith) (omega (arith, start-more n a)),
+      ) in
       rw i at q
 
   tail : (k a x : ℕ) → a + k + 1 ≡ arcs n → x < start n (a + 1) → count x p + k ≤ count m p
@@ -191,7 +194,8 @@ module _ (n : Network) (c : Counted n) (d : AllClosed n (arcs n)) (m : ℕ) (who
       rise i h = at i h .rise (above i h)
 
       last : (i : ℕ) → i < K → t i ≤ t (K - 1)
-      last i h = climbs t (K - 1) (λ j g. le-of-lt (rise j (omega arith))) i (K - 1) (omega arith) (omega arith)
+      last i h =
+          climbs t (K - 1) (λ j g. le-of-lt (rise j (omega arith))) i (K - 1) (omega arith) (omega arith)
 
       some : (i : ℕ) → i < K → 1 ≤ v i
       some i h = elim (decLt (suc i) K) [

@@ -1,6 +1,6 @@
 // The rules 7 to 10 and 37, on tables that are as long as the header says. The points of all arcs are first
-// asked whether they keep rules 9 and 10 (steady.rt). Where they do not, one scan finds the places, as it does in
-// a file (`network_rules`).
+// asked whether they keep rules 9 and 10 (steady.rt). Where they do not, one scan finds the places, as in a
+// file (`network_rules`).
 use crate::steady::is_steady;
 use file_refusals::Judged;
 use file_refusals::faulty;
@@ -100,18 +100,18 @@ fn is_bad_arc(
     ensures { λ r. ⌜ r
         ≡ badArcIn nodes period (now (tails .entry)) (now (heads .entry)) (now (counts .entry)) a ⌝ }
 {
-    bad_ends(nodes, period, entry(tails, a), entry(heads, a), entry(counts, a))
+    bad_ends(
+        nodes,
+        period,
+        entry(tails, a),
+        entry(heads, a),
+        entry(counts, a),
+    )
 }
 
 // The first arc that breaks rule 8, or the count of arcs; and where there is none, the points of all arcs,
 // added up.
-fn scan_arcs(
-    nodes: usize,
-    period: usize,
-    tails: &[u16],
-    heads: &[u16],
-    counts: &[u16],
-) -> Arcs
+fn scan_arcs(nodes: usize, period: usize, tails: &[u16], heads: &[u16], counts: &[u16]) -> Arcs
     requires { ⌜ (length (now heads) ≡ length (now tails)) × (length (now counts) ≡ length (now tails)) ⌝ }
     requires { ⌜ length (now tails) ≤ mostArcs ⌝ }
     ensures { λ r. ⌜ (r .bad ≡ first (length (now (tails .entry)))
@@ -133,13 +133,7 @@ fn scan_arcs(
 }
 
 // The faults of one arc, whose points stand from point `from` on.
-fn find_faults(
-    period: usize,
-    from: usize,
-    count: usize,
-    ticks: &[u16],
-    travels: &[u16],
-) -> Scan
+fn find_faults(period: usize, from: usize, count: usize, ticks: &[u16], travels: &[u16]) -> Scan
     requires { ⌜ (from + count ≤ length (now ticks)) × (from + count ≤ length (now travels)) ⌝ }
     requires { ⌜ (0 < count) × (period ≤ mostPeriod) ⌝ }
     ensures { λ r. ⌜ Scanned period (entryAt (now (ticks .entry)) from) (entryAt (now (travels .entry)) from)
@@ -170,7 +164,8 @@ fn scan_points(period: usize, counts: &[u16], ticks: &[u16], travels: &[u16]) ->
     requires { ⌜ Counted (bare period (now counts) (now ticks) (now travels)) ⌝ }
     requires { ⌜ (length (now travels) ≡ length (now ticks)) × (length (now ticks) ≤ mostPoints) ⌝ }
     requires { ⌜ period ≤ mostPeriod ⌝ }
-    ensures { λ r. ⌜ ScannedAll (bare period (now (counts .entry)) (now (ticks .entry)) (now (travels .entry))) r ⌝ }
+    ensures { λ r. ⌜ ScannedAll
+        (bare period (now (counts .entry)) (now (ticks .entry)) (now (travels .entry))) r ⌝ }
 {
     let points = ticks.len();
     let mut from = 0;

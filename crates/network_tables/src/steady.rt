@@ -1,7 +1,7 @@
-// Whether the points of all arcs keep the rules 9 and 10, yes or no: what good tables are asked. A point is held
-// against the one after it without asking whether that starts an arc: at a tick of 0 the comparisons hold, and
-// there are as many such ticks as arcs. So one loop with no way out goes over all points, and a compiler makes
-// vector code of it. Where the answer is no, rules.rt finds the rule and the point.
+// Whether the points of all arcs keep the rules 9 and 10, yes or no: what good tables are asked. A point is
+// held against the one after it without asking whether that starts an arc: at a tick of 0 the comparisons
+// hold, and there are as many such ticks as arcs. So one loop with no way out goes over all points, and a
+// compiler makes vector code of it. Where the answer is no, rules.rt finds the rule and the point.
 use crate::rules::entry;
 ghost use mathlib.Core.Path.{_≡_};
 ghost use mathlib.Core.Bool.{true};

@@ -25,10 +25,14 @@ faulty-requires-2 : tie.Need-faulty-requires-2
 faulty-requires-2 c κs = search needs
 
 returns-2 : tie.Need-returns-2
-returns-2 c = search (judgings, laid-sizes (c .before .before .before .before .before .before .before .pre .0) .points)
+returns-2 c =
+    let pre = c .before .before .before .before .before .before .before .pre in
+    search (judgings, laid-sizes (pre .0) .points)
 
 returns-3 : tie.Need-returns-3
-returns-3 c = search (judgings, laid-sizes (c .before .before .before .before .before .before .pre .0) .points)
+returns-3 c =
+    let pre = c .before .before .before .before .before .before .pre in
+    search (judgings, laid-sizes (pre .0) .points)
 
 pub judge-points-spec : {M : Type 1} → statement M
 judge-points-spec =

@@ -1,14 +1,10 @@
+-- `network_tables::rules::find_faults` meets its contract.
 use Prim.Native.Nat.{_-_}
 use Rattle.theory_travel.specs.Table.{entryAt}
 use Rattle.network_rules.specs.Scan.{Scanning, scan-more, scans}
 use borrow.Author.Needs.{needs}
 use Rattle.network_tables.proofs.rules.find_faults.Statement.{statement}
 use Rattle.network_tables.proofs.rules.find_faults.Tie as tie
-use Rattle.network_tables.proofs.rules.find_faults.Reads as reads
-use Rattle.network_tables.proofs.rules.find_faults.Lts as lts
-use Rattle.network_rules.proofs.rules.bad_point.Reads as bad-point-reads
-use Rattle.network_rules.proofs.rules.late_at.Reads as late-at-reads
-use Rattle.network_tables.proofs.rules.entry.Reads as entry-reads
 
 abbrev Inv-loop : tie.InvT-loop
 Inv-loop period from count ticks travels tick₀ end₀ late₀ i₀ tick end late i =

@@ -1,3 +1,4 @@
+-- `network_tables::rules::first_bad_cell` meets its contract.
 use mathlib.Core.Path.{_≡_}
 use Prim.Native.Nat.{_-_, _≤_}
 use lib.ListN.{length}
@@ -6,9 +7,6 @@ use Rattle.network_tables.specs.Cut.{badCellIn}
 use borrow.Author.Needs.{needs}
 use Rattle.network_tables.proofs.rules.first_bad_cell.Statement.{statement}
 use Rattle.network_tables.proofs.rules.first_bad_cell.Tie as tie
-use Rattle.network_tables.proofs.rules.first_bad_cell.Reads as reads
-use Rattle.network_tables.proofs.rules.first_bad_cell.Lts as lts
-use Rattle.network_tables.proofs.rules.is_bad_cell.Reads as is-bad-cell-reads
 
 abbrev Inv-loop : tie.InvT-loop
 Inv-loop cells cellof v₀ v-end v = (v ≤ length cellof) × (first v (badCellIn cells cellof) ≡ v)

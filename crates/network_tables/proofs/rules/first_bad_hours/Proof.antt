@@ -1,3 +1,4 @@
+-- `network_tables::rules::first_bad_hours` meets its contract.
 use mathlib.Core.Path.{_≡_}
 use Prim.Native.Nat.{_-_, _≤_}
 use lib.ListN.{length}
@@ -6,9 +7,6 @@ use Rattle.network_tables.specs.Cut.{badHoursIn}
 use borrow.Author.Needs.{needs}
 use Rattle.network_tables.proofs.rules.first_bad_hours.Statement.{statement}
 use Rattle.network_tables.proofs.rules.first_bad_hours.Tie as tie
-use Rattle.network_tables.proofs.rules.first_bad_hours.Reads as reads
-use Rattle.network_tables.proofs.rules.first_bad_hours.Lts as lts
-use Rattle.network_tables.proofs.rules.is_bad_hours.Reads as is-bad-hours-reads
 
 abbrev Inv-loop : tie.InvT-loop
 Inv-loop hours period opens closes v₀ v-end v =

@@ -1,11 +1,8 @@
+-- `network_tables::rules::is_bad_arc` meets its contract.
 use Rattle.network_tables.specs.Cut.{reads}
 use borrow.Author.Needs.{needs}
 use Rattle.network_tables.proofs.rules.is_bad_arc.Statement.{statement}
 use Rattle.network_tables.proofs.rules.is_bad_arc.Tie as tie
-use Rattle.network_tables.proofs.rules.is_bad_arc.Reads as reads
-use Rattle.network_tables.proofs.rules.is_bad_arc.Lts as lts
-use Rattle.network_rules.proofs.rules.bad_ends.Reads as bad-ends-reads
-use Rattle.network_tables.proofs.rules.entry.Reads as entry-reads
 
 entry-requires : tie.Need-entry-requires
 entry-requires c κs = search needs

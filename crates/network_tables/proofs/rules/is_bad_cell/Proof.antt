@@ -1,10 +1,8 @@
+-- `network_tables::rules::is_bad_cell` meets its contract.
 use Rattle.network_tables.specs.Cut.{reads}
 use borrow.Author.Needs.{needs}
 use Rattle.network_tables.proofs.rules.is_bad_cell.Statement.{statement}
 use Rattle.network_tables.proofs.rules.is_bad_cell.Tie as tie
-use Rattle.network_tables.proofs.rules.is_bad_cell.Reads as reads
-use Rattle.network_tables.proofs.rules.is_bad_cell.Lts as lts
-use Rattle.network_tables.proofs.rules.entry.Reads as entry-reads
 
 entry-requires : tie.Need-entry-requires
 entry-requires c κs = search needs

@@ -1,11 +1,8 @@
+-- `network_tables::rules::is_bad_hours` meets its contract.
 use Rattle.network_tables.specs.Cut.{reads}
 use borrow.Author.Needs.{needs}
 use Rattle.network_tables.proofs.rules.is_bad_hours.Statement.{statement}
 use Rattle.network_tables.proofs.rules.is_bad_hours.Tie as tie
-use Rattle.network_tables.proofs.rules.is_bad_hours.Reads as reads
-use Rattle.network_tables.proofs.rules.is_bad_hours.Lts as lts
-use Rattle.network_rules.proofs.rules.bad_hours.Reads as bad-hours-reads
-use Rattle.network_tables.proofs.rules.entry.Reads as entry-reads
 
 entry-requires : tie.Need-entry-requires
 entry-requires c κs = search needs

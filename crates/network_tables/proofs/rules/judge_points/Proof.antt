@@ -1,13 +1,9 @@
+-- `network_tables::rules::judge_points` meets its contract.
 use mathlib.Core.Path.{refl, sym}
 use Rattle.network_rules.specs.Judge.{point-taken, late-taken, points-passed}
 use borrow.Author.Needs.{needs}
 use Rattle.network_tables.proofs.rules.judge_points.Statement.{statement}
 use Rattle.network_tables.proofs.rules.judge_points.Tie as tie
-use Rattle.network_tables.proofs.rules.judge_points.Reads as reads
-use Rattle.network_tables.proofs.rules.judge_points.Lts as lts
-use Rattle.file_refusals.proofs.faulty.Reads as faulty-reads
-use Rattle.network_tables.proofs.rules.scan_points.Reads as scan-points-reads
-use Rattle.network_tables.proofs.steady.is_steady.Reads as is-steady-reads
 
 is-steady-requires : tie.Need-is-steady-requires
 is-steady-requires c κs = search needs
@@ -26,7 +22,8 @@ faulty-requires c κs = search needs
 
 returns-2 : tie.Need-returns-2
 returns-2 c =
-    point-taken refl _ _ (c .before .before .scan-points .ensures) (c .before .if2 .taken) (c .faulty .ensures)
+    point-taken refl _ _ (c .before .before .scan-points .ensures) (c .before .if2 .taken)
+    (c .faulty .ensures)
 
 cast-faulty-2 : tie.Need-cast-faulty-2
 cast-faulty-2 c = search needs
@@ -41,7 +38,8 @@ returns-3 c =
 
 returns-4 : tie.Need-returns-4
 returns-4 c =
-    points-passed refl _ _ (c .before .before .scan-points .ensures) (c .before .if2 .left) (c .if3 .left) refl
+    points-passed refl _ _ (c .before .before .scan-points .ensures) (c .before .if2 .left) (c .if3 .left)
+    refl
 
 pub judge-points-spec : {M : Type 1} → statement M
 judge-points-spec =

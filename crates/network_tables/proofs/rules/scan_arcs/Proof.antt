@@ -1,3 +1,4 @@
+-- `network_tables::rules::scan_arcs` meets its contract.
 use mathlib.Core.Path.{_≡_}
 use Prim.Native.Nat.{_-_, _*_, _≤_}
 use lib.ListN.{length, getD}
@@ -7,10 +8,6 @@ use Rattle.network_tables.specs.Cut.{badArcIn}
 use borrow.Author.Needs.{needs}
 use Rattle.network_tables.proofs.rules.scan_arcs.Statement.{statement}
 use Rattle.network_tables.proofs.rules.scan_arcs.Tie as tie
-use Rattle.network_tables.proofs.rules.scan_arcs.Reads as reads
-use Rattle.network_tables.proofs.rules.scan_arcs.Lts as lts
-use Rattle.network_tables.proofs.rules.entry.Reads as entry-reads
-use Rattle.network_tables.proofs.rules.is_bad_arc.Reads as is-bad-arc-reads
 
 abbrev Inv-loop : tie.InvT-loop
 Inv-loop nodes period tails heads counts sum₀ a₀ a-end sum a =

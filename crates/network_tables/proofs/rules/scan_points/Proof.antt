@@ -1,3 +1,4 @@
+-- `network_tables::rules::scan_points` meets its contract.
 use mathlib.Core.Path.{refl}
 use Prim.Native.Nat.{_-_}
 use native.Mathlib.Omega.{arith}
@@ -7,11 +8,6 @@ use Rattle.network_tables.specs.Cut.{bare}
 use borrow.Author.Needs.{needs}
 use Rattle.network_tables.proofs.rules.scan_points.Statement.{statement}
 use Rattle.network_tables.proofs.rules.scan_points.Tie as tie
-use Rattle.network_tables.proofs.rules.scan_points.Reads as reads
-use Rattle.network_tables.proofs.rules.scan_points.Lts as lts
-use Rattle.network_rules.proofs.rules.late_in.Reads as late-in-reads
-use Rattle.network_tables.proofs.rules.entry.Reads as entry-reads
-use Rattle.network_tables.proofs.rules.find_faults.Reads as find-faults-reads
 
 abbrev Inv-loop : tie.InvT-loop
 Inv-loop period counts ticks travels points from₀ late₀ a₀ a-end from late a =
@@ -32,9 +28,10 @@ find-faults-requires : tie.Need-find-faults-requires Inv-loop μ-loop
 find-faults-requires c κs =
     let s = c .before .before .loop .inv in
     let l = c .before .loop-test .taken in
-    let room = all-room _ _ _ _ _ _ _ _ s l (c .entry .ensures .0) in
-    ((omega (arith, room), omega (arith, room)),
-    (all-some _ _ _ _ _ _ _ _ s l (c .entry .ensures .0), search needs))
+    let room = all-room _ _ _ _ _ _ _ _ s l (c .entry .ensures .0) in (
+      (omega (arith, room), omega (arith, room)),
+      (all-some _ _ _ _ _ _ _ _ s l (c .entry .ensures .0), search needs),
+    )
 
 add-t14 : tie.Need-add-t14 Inv-loop μ-loop
 add-t14 c = omega (

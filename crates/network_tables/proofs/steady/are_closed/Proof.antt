@@ -1,3 +1,4 @@
+-- `network_tables::steady::are_closed` meets its contract.
 use native.Mathlib.Omega.{arith}
 use borrow.Author.Tests.{not-false}
 use Rattle.network_tables.specs.Steady.{closing-some, closing-room, closing-more}
@@ -8,10 +9,6 @@ use Rattle.network_tables.specs.Steady.{Closing, closings}
 use borrow.Author.Needs.{needs}
 use Rattle.network_tables.proofs.steady.are_closed.Statement.{statement}
 use Rattle.network_tables.proofs.steady.are_closed.Tie as tie
-use Rattle.network_tables.proofs.steady.are_closed.Reads as reads
-use Rattle.network_tables.proofs.steady.are_closed.Lts as lts
-use Rattle.network_tables.proofs.rules.entry.Reads as entry-reads
-use Rattle.network_tables.proofs.steady.is_closed_at.Reads as is-closed-at-reads
 
 abbrev Inv-loop : tie.InvT-loop
 Inv-loop period counts ticks travels from₀ a₀ a-end from a =
@@ -30,9 +27,10 @@ is-closed-at-requires : tie.Need-is-closed-at-requires Inv-loop μ-loop
 is-closed-at-requires c κs =
     let s = c .before .before .loop .inv .1 in
     let l = c .before .loop-test .taken in
-    let room = closing-room _ _ _ _ s l (c .entry .ensures .0) in
-    ((omega (arith, room), omega (arith, room)),
-    (omega (arith, closing-some _ _ _ _ s l (c .entry .ensures .0)), search needs))
+    let room = closing-room _ _ _ _ s l (c .entry .ensures .0) in (
+      (omega (arith, room), omega (arith, room)),
+      (omega (arith, closing-some _ _ _ _ s l (c .entry .ensures .0)), search needs),
+    )
 
 returns : tie.Need-returns Inv-loop μ-loop
 returns c = search closings

@@ -1,9 +1,8 @@
+-- `network_tables::steady::count_on` meets its contract.
 use Rattle.network_tables.specs.Pairs.{countOn}
 use borrow.Author.Needs.{needs}
 use Rattle.network_tables.proofs.steady.count_on.Statement.{statement}
 use Rattle.network_tables.proofs.steady.count_on.Tie as tie
-use Rattle.network_tables.proofs.steady.count_on.Reads as reads
-use Rattle.network_tables.proofs.steady.count_on.Lts as lts
 
 add-result : tie.Need-add-result
 add-result c = search needs

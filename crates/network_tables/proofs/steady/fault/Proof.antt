@@ -1,14 +1,9 @@
+-- `network_tables::steady::fault` meets its contract.
 use mathlib.Core.Path.{sym, _∙_}
 use Rattle.network_tables.specs.Pairs.{both-none, ordered-by}
-use native.Mathlib.Omega.{arith}
 use borrow.Author.Needs.{needs}
 use Rattle.network_tables.proofs.steady.fault.Statement.{statement}
 use Rattle.network_tables.proofs.steady.fault.Tie as tie
-use Rattle.network_tables.proofs.steady.fault.Reads as reads
-use Rattle.network_tables.proofs.steady.fault.Lts as lts
-use Rattle.network_tables.proofs.steady.less_one.Reads as less-one-reads
-use Rattle.network_tables.proofs.steady.minus.Reads as minus-reads
-use Rattle.network_tables.proofs.steady.plus.Reads as plus-reads
 
 less-one-requires : tie.Need-less-one-requires
 less-one-requires c κs = search needs
@@ -47,7 +42,8 @@ returns c = λ z.
     let less = both .before .before in
     let (late, far) = both-none (c .plus4 .ensures) z in
     let (early, over) = both-none (sum .plus3 .ensures) late in
-    let ends = rw (both .plus .ensures, sum .before .before .plus2 .ensures) at (sum .before .minus2 .ensures) in
+    let ends = rw (both .plus .ensures, sum .before .before .plus2 .ensures) at
+    (sum .before .minus2 .ensures) in
     ordered-by _ _ _ _ _ _ _ (less .before .less-one .ensures) (less .less-one2 .ensures)
     (less .before .before .pre) (sym (c .before .minus3 .ensures) ∙ far)
     (sym (both .before .minus .ensures) ∙ early) (sym ends ∙ over)

@@ -1,11 +1,10 @@
+-- `network_tables::steady::is_closed` meets its contract.
 use native.Mathlib.Omega.{arith}
 use borrow.Author.Tests.{leb-true}
 use Rattle.network_tables.specs.Steady.{not-closed}
 use borrow.Author.Needs.{needs}
 use Rattle.network_tables.proofs.steady.is_closed.Statement.{statement}
 use Rattle.network_tables.proofs.steady.is_closed.Tie as tie
-use Rattle.network_tables.proofs.steady.is_closed.Reads as reads
-use Rattle.network_tables.proofs.steady.is_closed.Lts as lts
 
 returns : tie.Need-returns
 returns c = not-closed _ _ _ _ _

@@ -1,11 +1,8 @@
+-- `network_tables::steady::is_closed_at` meets its contract.
 use Rattle.network_tables.specs.Steady.{closed-read}
 use borrow.Author.Needs.{needs}
 use Rattle.network_tables.proofs.steady.is_closed_at.Statement.{statement}
 use Rattle.network_tables.proofs.steady.is_closed_at.Tie as tie
-use Rattle.network_tables.proofs.steady.is_closed_at.Reads as reads
-use Rattle.network_tables.proofs.steady.is_closed_at.Lts as lts
-use Rattle.network_tables.proofs.rules.entry.Reads as entry-reads
-use Rattle.network_tables.proofs.steady.is_closed.Reads as is-closed-reads
 
 add-last : tie.Need-add-last
 add-last c = search needs

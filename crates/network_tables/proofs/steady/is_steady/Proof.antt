@@ -1,12 +1,9 @@
+-- `network_tables::steady::is_steady` meets its contract.
 use native.Mathlib.Omega.{arith}
 use Rattle.network_tables.specs.Steady.{no-points, not-steady, steady-told}
 use borrow.Author.Needs.{needs}
 use Rattle.network_tables.proofs.steady.is_steady.Statement.{statement}
 use Rattle.network_tables.proofs.steady.is_steady.Tie as tie
-use Rattle.network_tables.proofs.steady.is_steady.Reads as reads
-use Rattle.network_tables.proofs.steady.is_steady.Lts as lts
-use Rattle.network_tables.proofs.steady.are_closed.Reads as are-closed-reads
-use Rattle.network_tables.proofs.steady.pair_up.Reads as pair-up-reads
 
 returns : tie.Need-returns
 returns c = λ _. no-points _ (c .before .before .before .before .pre .0) (c .if1 .taken)
@@ -34,9 +31,9 @@ are-closed-requires c κs = search needs
 
 returns-4 : tie.Need-returns-4
 returns-4 c = λ e.
-    let some = c .before .before .before .before .before .before in
-    let pre = some .before .before .before .before .pre in
-    steady-told _ _ (pre .0) (pre .1 .0 .1) (omega arith) (c .before .before .before .before .before .pair-up .ensures)
+    let paired = c .before .before .before .before .before in
+    let pre = paired .before .before .before .before .before .pre in
+    steady-told _ _ (pre .0) (pre .1 .0 .1) (omega arith) (paired .pair-up .ensures)
     (c .before .before .before .if2 .left) (c .before .if3 .left) (c .are-closed .ensures e)
 
 pub is-steady-spec : {M : Type 1} → statement M

@@ -1,3 +1,4 @@
+-- `network_tables::steady::pair_up` meets its contract.
 use native.Mathlib.Omega.{arith}
 use Rattle.network_tables.specs.Pairs.{pair-more}
 use Prim.Native.Nat.{_-_, _≤_}
@@ -6,11 +7,6 @@ use Rattle.network_tables.specs.Pairs.{Paired, pair-few, pairs}
 use borrow.Author.Needs.{needs}
 use Rattle.network_tables.proofs.steady.pair_up.Statement.{statement}
 use Rattle.network_tables.proofs.steady.pair_up.Tie as tie
-use Rattle.network_tables.proofs.steady.pair_up.Reads as reads
-use Rattle.network_tables.proofs.steady.pair_up.Lts as lts
-use Rattle.network_tables.proofs.steady.count_on.Reads as count-on-reads
-use Rattle.network_tables.proofs.steady.fault.Reads as fault-reads
-use Rattle.network_tables.proofs.steady.larger.Reads as larger-reads
 
 abbrev Inv-loop : tie.InvT-loop
 Inv-loop period ticks travels starts₀ over₀ q₀ q-end starts over q =
