@@ -28,11 +28,21 @@ pub record Ordered (period t v u w : ℕ) : Type 0 where
   pub rise : 0 < u → t < u
   pub kept : 0 < u → u + w ≤ 65535 → t + v ≤ u + w
 
--- numbers whose sum is none are none
+-- the point after point q has tick 0
+abbrev pub startAfter : List ℕ → ℕ → Bool
+startAfter ticks q = eqb (getD ticks (q + 1) 0) 0
+
+-- what is seen of the first m points, each with the one after it
+pub record Paired (period : ℕ) (ticks travels : List ℕ) (m : ℕ) (r : Pairs) : Type 0 where
+  pub starts : r .starts ≡ count m (startAfter ticks)
+  pub ordered : r .fault ≡ 0 → (q : ℕ) → q < m
+      → Ordered period (getD ticks q 0) (getD travels q 0) (getD ticks (q + 1) 0) (getD travels (q + 1) 0)
+
+-- FOR THE CODE, which works with one less of the next tick and of the travel: numbers whose sum is none are
+-- none, and two points of which nothing is over are in order
 pub both-none : {x y r : ℕ} → r ≡ min (x + y) 65535 → r ≡ 0 → (x ≡ 0) × (y ≡ 0)
 both-none e z = (omega arith, omega arith)
 
--- FOR THE CODE, which works with one less of the next tick and of the travel
 travel-by : (period v over : ℕ) → over ≡ lessOne v → over - (period - 1) ≡ 0
     → (0 < period) × (period ≤ mostPeriod) → over + 1 ≡ v
 travel-by period v over e s l = omega arith
@@ -62,16 +72,6 @@ ordered-by period t v u w low over e f l s g h =
       kept = λ k m. kept-by t v u w low over (next-by u low e k) o h m;
     }
 
--- the point after point q has tick 0
-abbrev pub startAfter : List ℕ → ℕ → Bool
-startAfter ticks q = eqb (getD ticks (q + 1) 0) 0
-
--- what is seen of the first m points, each with the one after it
-pub record Paired (period : ℕ) (ticks travels : List ℕ) (m : ℕ) (r : Pairs) : Type 0 where
-  pub starts : r .starts ≡ count m (startAfter ticks)
-  pub ordered : r .fault ≡ 0 → (q : ℕ) → q < m
-      → Ordered period (getD ticks q 0) (getD travels q 0) (getD ticks (q + 1) 0) (getD travels (q + 1) 0)
-
 -- FOR THE LOOP
 module _ (period : ℕ) (ticks travels : List ℕ) where
   pub pair-none : Paired period ticks travels 0 (record { starts = 0; fault = 0 })
@@ -82,7 +82,7 @@ module _ (period : ℕ) (ticks travels : List ℕ) where
     pub pair-few : starts ≤ m
     pair-few = omega (arith, s .starts, count-few (startAfter ticks) m)
 
-    pub pair-more : (x y : ℕ) (one : ℕ) → x ≡ countOn starts (eqb (getD ticks (m + 1) 0) 0)
+    pub pair-more : (x y one : ℕ) → x ≡ countOn starts (eqb (getD ticks (m + 1) 0) 0)
         → (one ≡ 0
         → Ordered period (getD ticks m 0) (getD travels m 0) (getD ticks (m + 1) 0) (getD travels (m + 1) 0))
         → (fault ≤ y) × (one ≤ y)
