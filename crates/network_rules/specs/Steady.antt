@@ -89,15 +89,15 @@ module _ (period : ℕ) (t v : ℕ → ℕ) where
             s .low-is (m - 1) last,
           )
 
-      fine : (i : ℕ) → i < m → badPoint period t v i ≡ false
+      pub steady-fine : (i : ℕ) → i < m → badPoint period t v i ≡ false
       unfolding badPoint
-      fine i g =
+      steady-fine i g =
           let day : Day t m period = record { some = h; start = z; rise = s .rise; below = below } in
           rw (ticks-day period t m h .1 day i g, le-ltb _ _ (s .some i g), le-ltb _ _ (s .most i g))
 
-      in-turn : (i : ℕ) → i < m → overtaken period t v m i ≡ false
+      pub steady-kept : (i : ℕ) → i < m → overtaken period t v m i ≡ false
       unfolding overtaken
-      in-turn i g = elim (decLt (suc i) m) [
+      steady-kept i g = elim (decLt (suc i) m) [
         | yes k ↦ rw (closed-in m t period (suc i) k, closed-in m v (v 0) (suc i) k)
             (le-ltb _ _ (s .kept i k))
         | no k ↦ let q : t i + v i ≤ period + v 0 = omega (arith, s .end-is i (omega arith)) in
@@ -106,4 +106,7 @@ module _ (period : ℕ) (t v : ℕ → ℕ) where
       ]
 
       pub steady-end : Scanned period t v m (record { bad = m; late = m })
-      steady-end = record { bad = sym (all-clear _ m fine); late = λ _. sym (all-clear _ m in-turn) }
+      steady-end = record {
+        bad = sym (all-clear _ m steady-fine);
+        late = λ _. sym (all-clear _ m steady-kept);
+      }

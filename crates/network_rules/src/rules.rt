@@ -13,10 +13,8 @@ ghost use Rattle.theory_loops.specs.First.{first};
 ghost use Rattle.theory_travel.specs.Table.{entryAt};
 ghost use Rattle.network.specs.Network;
 ghost use Rattle.network.specs.Decode.{decode, Laid};
-ghost use lib.ListN.{length, take};
 ghost use Rattle.network.specs.Rules.{badCell, partOfDay, badHours, badHoursOf, badEnds, badArc};
 ghost use Rattle.network.specs.Rules.{judgedPoints, judgedArcs, judged};
-ghost use Rattle.network_rules.specs.Hours.{badHoursIn, withHours};
 ghost use Rattle.network_rules.specs.Scan.{misplaced, badPointBy, lateAt, Scanned};
 ghost use Rattle.network.specs.FirstPoint.{Counted};
 ghost use Rattle.network_rules.specs.ScanAll.{ScannedAll, lateIn};
@@ -72,7 +70,7 @@ fn is_part_of_day(hours: usize, period: usize, opens: usize, closes: usize) -> b
 }
 
 // Rule 37 for a node that opens and closes at these ticks.
-fn bad_hours(hours: usize, period: usize, opens: usize, closes: usize) -> bool
+pub fn bad_hours(hours: usize, period: usize, opens: usize, closes: usize) -> bool
     ensures { λ r. ⌜ r ≡ badHours hours period opens closes ⌝ }
 {
     if closes <= opens {
@@ -112,51 +110,8 @@ fn first_bad_hours(file: &[u8], l: Layout) -> usize
     nodes
 }
 
-// An entry as a wider number.
-fn wide(x: u16) -> usize
-    ensures { λ r. ⌜ r ≡ x ⌝ }
-{
-    x as usize
-}
-
-// Rule 37 at node v of so many, whose hours stand in tables.
-fn is_bad_hours_in(
-    hours: usize,
-    period: usize,
-    nodes: usize,
-    opens: &[u16],
-    closes: &[u16],
-    v: usize,
-) -> bool
-    requires { ⌜ (nodes ≤ length (now opens)) × (nodes ≤ length (now closes)) × (v < nodes) ⌝ }
-    ensures { λ r. ⌜ r
-        ≡ badHoursIn hours period (take nodes (now (opens .entry))) (take nodes (now (closes .entry))) v ⌝ }
-{
-    bad_hours(hours, period, wide(opens[v]), wide(closes[v]))
-}
-
-// The first of so many nodes, whose hours stand in tables, that breaks rule 37, or their count.
-fn first_bad_hours_in(
-    hours: usize,
-    period: usize,
-    nodes: usize,
-    opens: &[u16],
-    closes: &[u16],
-) -> usize
-    requires { ⌜ (nodes ≤ length (now opens)) × (nodes ≤ length (now closes)) ⌝ }
-    ensures { λ r. ⌜ r ≡ first nodes
-        (badHoursIn hours period (take nodes (now (opens .entry))) (take nodes (now (closes .entry)))) ⌝ }
-{
-    for v in 0..nodes {
-        if is_bad_hours_in(hours, period, nodes, opens, closes, v) {
-            return v;
-        }
-    }
-    nodes
-}
-
 // Rule 8 for an arc of these ends and this count of points.
-fn bad_ends(nodes: usize, period: usize, tail: usize, head: usize, count: usize) -> bool
+pub fn bad_ends(nodes: usize, period: usize, tail: usize, head: usize, count: usize) -> bool
     ensures { λ r. ⌜ r ≡ badEnds nodes period tail head count ⌝ }
 {
     if nodes <= tail {
@@ -215,7 +170,7 @@ fn is_misplaced(i: usize, p: usize, t: usize) -> bool
 }
 
 // Rule 9 for point i of an arc, after a point with tick p.
-fn bad_point(period: usize, i: usize, p: usize, t: usize, v: usize) -> bool
+pub fn bad_point(period: usize, i: usize, p: usize, t: usize, v: usize) -> bool
     ensures { λ r. ⌜ r ≡ badPointBy period i p t v ⌝ }
 {
     if is_misplaced(i, p, t) {
@@ -232,7 +187,7 @@ fn bad_point(period: usize, i: usize, p: usize, t: usize, v: usize) -> bool
 
 // The first late point of i points, by the first of the i - 1 before: the last of them ends at `end`, and the
 // one after it at `next`.
-fn late_at(late: usize, i: usize, end: usize, next: usize) -> usize
+pub fn late_at(late: usize, i: usize, end: usize, next: usize) -> usize
     ensures { λ r. ⌜ r ≡ lateAt late i end next ⌝ }
 {
     if i == 0 {
@@ -292,7 +247,7 @@ fn scan_arc(file: &[u8], l: Layout, from: usize, count: usize) -> Scan
 
 // The first late point of one arc more: `count` points from `from` on, of which `at` is the first late one;
 // `points` stands for none.
-fn late_in(late: usize, points: usize, from: usize, count: usize, at: usize) -> usize
+pub fn late_in(late: usize, points: usize, from: usize, count: usize, at: usize) -> usize
     requires { ⌜ from + count ≤ points ⌝ }
     ensures { λ r. ⌜ r ≡ lateIn late points from count at ⌝ }
 {
@@ -377,24 +332,6 @@ pub fn judge(file: &[u8], l: Layout) -> Judged
     let u = first_bad_hours(file, l);
     if u < l.nodes {
         return faulty(number::NETWORK_HOURS, u as u32);
-    }
-    judge_arcs(file, l)
-}
-
-// The same of the network of a file whose nodes have the hours in these tables.
-pub fn judge_with(file: &[u8], l: Layout, opens: &[u16], closes: &[u16]) -> Judged
-    requires { ⌜ Laid (now file) l ⌝ }
-    requires { ⌜ (l .nodes ≤ length (now opens)) × (l .nodes ≤ length (now closes)) ⌝ }
-    ensures { λ r. ⌜ r ≡ judged (withHours (now (opens .entry)) (now (closes .entry))
-        (decode (now (file .entry)))) ⌝ }
-{
-    let v = first_bad_cell(file, l);
-    if v < l.nodes {
-        return faulty(number::NETWORK_CELL, v as u32);
-    }
-    let w = first_bad_hours_in(l.hours, l.period, l.nodes, opens, closes);
-    if w < l.nodes {
-        return faulty(number::NETWORK_HOURS, w as u32);
     }
     judge_arcs(file, l)
 }

@@ -1,25 +1,24 @@
--- `network_rules::rules::first_bad_hours_in` meets its contract.
+-- `network_tables::rules::first_bad_cell` meets its contract.
 use mathlib.Core.Path.{_≡_}
-use Prim.Native.Nat.{_≤_, _-_}
+use Prim.Native.Nat.{_-_, _≤_}
+use lib.ListN.{length}
 use Rattle.theory_loops.specs.First.{first, firsts}
-use lib.ListN.{take}
-use Rattle.network_rules.specs.Hours.{badHoursIn}
+use Rattle.network_tables.specs.Cut.{badCellIn}
 use borrow.Author.Needs.{needs}
-use Rattle.network_rules.proofs.rules.first_bad_hours_in.Statement.{statement}
-use Rattle.network_rules.proofs.rules.first_bad_hours_in.Tie as tie
+use Rattle.network_tables.proofs.rules.first_bad_cell.Statement.{statement}
+use Rattle.network_tables.proofs.rules.first_bad_cell.Tie as tie
 
 abbrev Inv-loop : tie.InvT-loop
-Inv-loop hours period nodes opens closes v₀ v =
-    (v ≤ nodes) × (first v (badHoursIn hours period (take nodes opens) (take nodes closes)) ≡ v)
+Inv-loop cells cellof v₀ v-end v = (v ≤ length cellof) × (first v (badCellIn cells cellof) ≡ v)
 
 abbrev μ-loop : tie.MeasureT-loop
-μ-loop hours period nodes opens closes v₀ v = nodes - v
+μ-loop cells cellof v₀ v-end v = length cellof - v
 
 loop-holds : tie.Need-loop-holds Inv-loop μ-loop
 loop-holds c = (search needs, search firsts)
 
-is-bad-hours-in-requires : tie.Need-is-bad-hours-in-requires Inv-loop μ-loop
-is-bad-hours-in-requires c κs = search needs
+is-bad-cell-requires : tie.Need-is-bad-cell-requires Inv-loop μ-loop
+is-bad-cell-requires c κs = search needs
 
 returns : tie.Need-returns Inv-loop μ-loop
 returns c = search firsts
@@ -36,14 +35,14 @@ loop-again c = (search needs, search firsts)
 returns-2 : tie.Need-returns-2 Inv-loop μ-loop
 returns-2 c = search firsts
 
-pub first-bad-hours-in-spec : {M : Type 1} → statement M
-first-bad-hours-in-spec =
+pub first-bad-cell-spec : {M : Type 1} → statement M
+first-bad-cell-spec =
     tie.close
     (tie.spec
     Inv-loop
     μ-loop
     loop-holds
-    is-bad-hours-in-requires
+    is-bad-cell-requires
     returns
     add-v
     loop-less
