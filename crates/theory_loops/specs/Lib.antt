@@ -7,6 +7,7 @@ pub mod Total
 pub mod Sums
 pub mod Select
 pub mod Stores
+pub mod Parts
 pub mod Count
 pub mod Grid
 pub mod Joined
