@@ -12,9 +12,9 @@ use lib.Bits.{bitAnd, and-le-l}
 use lib.Dec.{leb, eqb, lit<}
 use lib.ListN.{length, getD}
 use borrow.Author.Tests.{eq-eqb, ne-eqb}
-use Rattle.theory_loops.specs.Count.{count, count-none, count-no, count-end, count-few}
+use Rattle.theory_loops.specs.Count.{count, count-none, count-no, count-end, count-few, count-same}
 use Rattle.theory_loops.specs.Fill.{Filled}
-use Rattle.theory_breaks.specs.Tally.{flag, before, tally-more, tally-block}
+use Rattle.theory_breaks.specs.Tally.{flag, before, tally-more, tally-parts, tally-block}
 use Rattle.file_fields.specs.Block.{blockSize, headSize}
 use Rattle.file_fields.specs.Fields.{le16}
 use Rattle.file_blocks.specs.Kind.{profilePointSize, profilePointPer}
@@ -44,9 +44,12 @@ false-right : (b : Bool) → (b && false) ≡ false
 false-right true = refl
 false-right false = refl
 
--- THE WORDS of the points of a full block but the last, and which of them are ticks
+-- THE WORDS of so many points, and which of them are ticks
+abbrev pub wordPoints : ℕ
+wordPoints = 80
+
 abbrev pub markWords : ℕ
-markWords = 3 * (profilePointPer - 1)
+markWords = 3 * wordPoints
 
 abbrev pub tickMark : ℕ → ℕ
 tickMark i = flag (eqb (i % 3) 0)
@@ -124,9 +127,9 @@ thirds file base (suc n) =
     rw (z, ← add-one n) (sym h ∙ e)
 
 pub words-end : (file : List ℕ) (base c i : ℕ) → c ≡ count i (wordBreak file base) → i ≤ markWords
-    → markWords ≤ i → c ≡ count (profilePointPer - 1) (breakAt file base)
+    → markWords ≤ i → c ≡ count wordPoints (breakAt file base)
 words-end file base c i e l m =
-    count-end (wordBreak file base) c i markWords e l m ∙ thirds file base (profilePointPer - 1)
+    count-end (wordBreak file base) c i markWords e l m ∙ thirds file base wordPoints
 
 -- for `search words` at the needs of that loop
 pub ruleset words = (count-none, word-more, words-end)
@@ -141,6 +144,26 @@ beside-more file base c e x y r h f g k = tally-more (breakAt file base) c e r h
 
 pub beside-few : (file : List ℕ) (base c e r : ℕ) → c ≡ count e (breakAt file base) → r < 2 → c + r ≤ e + 1
 beside-few file base c e r h k = omega (arith, h, count-few (breakAt file base) e)
+
+-- and those after the words that were looked at
+module _ (file : List ℕ) (base m c r : ℕ) (l : wordPoints ≤ m) (e : c ≡ count wordPoints (breakAt file base))
+    (f : r ≡ count (m - wordPoints) (breakAt file (base + profilePointSize * wordPoints))) where
+  shifted : (k : ℕ) → k < m - wordPoints
+      → breakAt file (base + profilePointSize * wordPoints) k ≡ breakAt file base (wordPoints + k)
+  unfolding breakAt
+  shifted k o =
+      let z : base + profilePointSize * wordPoints + profilePointSize * k
+      ≡ base + profilePointSize * (wordPoints + k) = omega arith in
+      rw z
+
+  pub rest-all : c + r ≡ count m (breakAt file base)
+  rest-all =
+      let z : wordPoints + (m - wordPoints) ≡ m = omega arith in
+      rw (e, f, count-same _ _ (m - wordPoints) shifted)
+      (tally-parts (breakAt file base) wordPoints (m - wordPoints) ∙ rw z)
+
+  pub rest-few : c + r ≤ m
+  rest-few = omega (arith, rest-all, count-few (breakAt file base) m)
 
 -- for `search besides` at the needs of that loop
 pub ruleset besides = (count-none, beside-more, count-end)

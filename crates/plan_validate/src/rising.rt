@@ -14,7 +14,7 @@ use plan::header::PlanLayout;
 use plan::read::tick;
 ghost use mathlib.Core.Path.{_≡_};
 ghost use mathlib.Core.Bool.{true};
-ghost use Prim.Native.Nat.{_+_, _-_, _*_, _≤_, _<_};
+ghost use Prim.Native.Nat.{_+_, _*_, _≤_, _<_};
 ghost use lib.Dec.{leb, ltb};
 ghost use lib.ListN.{length};
 ghost use Rattle.theory_loops.specs.Count.{count};
@@ -25,11 +25,15 @@ ghost use Rattle.file_refusals.specs.declared.Judged.the-variants.{Sound};
 ghost use Rattle.file_blocks.specs.Kind.{profilePointSize, profilePointPer};
 ghost use Rattle.plan.specs.PlanDecode.{decodePlan, PlanLaid, pointTick, pointTotal};
 ghost use Rattle.plan.specs.PlanRules.{judgedCounts};
-ghost use Rattle.plan_validate.specs.Breaks.{markWords, tickMark, TickMarks, breakAt, broken};
+ghost use Rattle.plan_validate.specs.Breaks.{wordPoints, markWords, tickMark, TickMarks};
+ghost use Rattle.plan_validate.specs.Breaks.{breakAt, broken};
 ghost use Rattle.plan_validate.specs.Rising.{Kept, AllKept};
 
-// The words of 16 bits that the points of a full block have, but for the last point: every third is a tick.
-const WORDS: usize = 3 * (kind::PROFILE_POINT_PER - 1);
+// Points whose words of 16 bits fill whole vectors of a processor, in a full block: every third word is a
+// tick.
+const POINTS: usize = 80;
+
+const WORDS: usize = 3 * POINTS;
 
 // How many profiles have points, where all are `good`.
 pub struct Held {
@@ -61,11 +65,11 @@ fn mark_ticks(marks: &mut [u16; WORDS])
     }
 }
 
-// The breaks of the points of a full block, behind its first. Every word is compared with the third before
-// it, and those that are no ticks are masked out: so a processor judges some of them at once.
-fn breaks_full(plan: &[u8], base: usize, marks: &[u16; WORDS]) -> u16
-    requires { ⌜ (base + profilePointSize * profilePointPer ≤ length (now plan)) × TickMarks (now marks) ⌝ }
-    ensures { λ r. ⌜ r ≡ count (profilePointPer - 1) (breakAt (now (plan .entry)) base) ⌝ }
+// The breaks of so many points behind a point at byte `base`, side by side with it. Every word is compared
+// with the third after it, and those that are no ticks are masked out: so a processor judges some at once.
+fn breaks_by_words(plan: &[u8], base: usize, marks: &[u16; WORDS]) -> u16
+    requires { ⌜ (base + profilePointSize * (wordPoints + 1) ≤ length (now plan)) × TickMarks (now marks) ⌝ }
+    ensures { λ r. ⌜ r ≡ count wordPoints (breakAt (now (plan .entry)) base) ⌝ }
 {
     let mut breaks = 0;
     for i in 0..WORDS {
@@ -93,16 +97,17 @@ fn breaks_some(plan: &[u8], base: usize, m: usize) -> u16
     breaks
 }
 
-// The same, for a full block or not.
+// The same, by words as far as they go.
 fn breaks_beside(plan: &[u8], base: usize, m: usize, marks: &[u16; WORDS]) -> u16
     requires { ⌜ (base + profilePointSize * (m + 1) ≤ length (now plan)) × (m < profilePointPer) ⌝ }
     requires { ⌜ TickMarks (now marks) ⌝ }
     ensures { λ r. ⌜ r ≡ count m (breakAt (now (plan .entry)) base) ⌝ }
 {
-    if m == kind::PROFILE_POINT_PER - 1 {
-        return breaks_full(plan, base, marks);
+    if m < POINTS {
+        return breaks_some(plan, base, m);
     }
-    breaks_some(plan, base, m)
+    let rest = base + kind::PROFILE_POINT_SIZE * POINTS;
+    breaks_by_words(plan, base, marks) + breaks_some(plan, rest, m - POINTS)
 }
 
 // The breaks of all points.

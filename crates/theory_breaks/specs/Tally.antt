@@ -31,7 +31,7 @@ module _ (p : ℕ → Bool) where
       go false h = let o : r ≡ 0 = rw h at f in rw (o, add-zero) (count-no p c n e h)
 
   -- a count in two parts
-  tally-parts : (m n : ℕ) → count m p + count n (λ k. p (m + k)) ≡ count (m + n) p
+  pub tally-parts : (m n : ℕ) → count m p + count n (λ k. p (m + k)) ≡ count (m + n) p
   tally-parts m zero = rw (← count-none (λ k. p (m + k)), add-zero m, add-zero)
   tally-parts m (suc n) = go (p (m + n)) refl (tally-parts m n)
     where

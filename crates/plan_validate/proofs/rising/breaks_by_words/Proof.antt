@@ -1,4 +1,4 @@
--- `plan_validate::rising::breaks_full` meets its contract: the breaks of the first i words are counted.
+-- `plan_validate::rising::breaks_by_words` meets its contract: the breaks of the first i words are counted.
 use mathlib.Core.Path.{_≡_}
 use Prim.Native.Nat.{_-_, _≤_}
 use native.Mathlib.Omega.{arith}
@@ -6,8 +6,8 @@ use lib.ListN.{getD}
 use Rattle.theory_loops.specs.Count.{count}
 use Rattle.plan_validate.specs.Breaks.{markWords, wordBreak, word-few, words}
 use borrow.Author.Needs.{needs}
-use Rattle.plan_validate.proofs.rising.breaks_full.Statement.{statement}
-use Rattle.plan_validate.proofs.rising.breaks_full.Tie as tie
+use Rattle.plan_validate.proofs.rising.breaks_by_words.Statement.{statement}
+use Rattle.plan_validate.proofs.rising.breaks_by_words.Tie as tie
 
 abbrev Inv-loop : tie.InvT-loop
 Inv-loop plan base marks breaks₀ i₀ breaks i =
@@ -72,8 +72,8 @@ loop-again c = (search needs, search words)
 returns : tie.Need-returns Inv-loop μ-loop
 returns c = search words
 
-pub breaks-full-spec : {M : Type 1} → statement M
-breaks-full-spec =
+pub breaks-by-words-spec : {M : Type 1} → statement M
+breaks-by-words-spec =
     tie.close
     (tie.spec
     Inv-loop
