@@ -1,6 +1,6 @@
-// The rules 7 to 10 and 37, on a file that is laid out as its header says. An arc's points are first
-// asked whether they keep rules 9 and 10 (steady.rt). Where they do not, one scan finds the places: rule 10
-// is judged at each point while rule 9 is, and told where 9 holds everywhere.
+// The rules 7 to 10 and 37, on a file that is laid out as its header says. The points are first asked whether
+// they keep rules 9 and 10 (steady.rt). Where they do not, one scan finds the places: rule 10 is judged at
+// each point while rule 9 is, and told where 9 holds everywhere.
 use crate::steady::is_steady;
 use file_refusals::Judged;
 use file_refusals::faulty;
@@ -8,7 +8,7 @@ use file_refusals::number;
 use network::header::Layout;
 use network::read;
 ghost use mathlib.Core.Path.{_≡_};
-ghost use Prim.Native.Nat.{_+_, _-_, _≤_, _<_};
+ghost use Prim.Native.Nat.{_+_, _≤_, _<_};
 ghost use Rattle.theory_loops.specs.First.{first};
 ghost use Rattle.theory_travel.specs.Table.{entryAt};
 ghost use Rattle.network.specs.Network;
@@ -202,7 +202,7 @@ pub fn late_at(late: usize, i: usize, end: usize, next: usize) -> usize
     i
 }
 
-// The faults of one arc, whose points stand from point `from` on.
+// Rules 9 and 10 over the points of one arc, which stand from point `from` on.
 fn find_faults(file: &[u8], l: Layout, from: usize, count: usize) -> Scan
     requires { ⌜ Laid (now file) l ⌝ }
     requires { ⌜ (from + count ≤ l .points) × (0 < count) ⌝ }
@@ -227,22 +227,6 @@ fn find_faults(file: &[u8], l: Layout, from: usize, count: usize) -> Scan
         bad: count,
         late: late_at(late, count, end, l.period + v),
     }
-}
-
-// Rules 9 and 10 over the points of one arc. Where they are kept, a test that finds no place says so sooner.
-fn scan_arc(file: &[u8], l: Layout, from: usize, count: usize) -> Scan
-    requires { ⌜ Laid (now file) l ⌝ }
-    requires { ⌜ (from + count ≤ l .points) × (0 < count) ⌝ }
-    ensures { λ r. ⌜ Scanned (l .period) (entryAt (decode (now (file .entry)) .ticks) from)
-        (entryAt (decode (now (file .entry)) .travels) from) count r ⌝ }
-{
-    if is_steady(file, l, from, count) {
-        return Scan {
-            bad: count,
-            late: count,
-        };
-    }
-    find_faults(file, l, from, count)
 }
 
 // The first late point of one arc more: `count` points from `from` on, of which `at` is the first late one;
@@ -272,7 +256,7 @@ fn scan_points(file: &[u8], l: Layout) -> Scan
     let mut late = points;
     for a in 0..arcs {
         let count = read::count(file, l, a);
-        let scan = scan_arc(file, l, from, count);
+        let scan = find_faults(file, l, from, count);
         let bad = scan.bad;
         if bad < count {
             return Scan {
@@ -286,12 +270,15 @@ fn scan_points(file: &[u8], l: Layout) -> Scan
     Scan { bad: points, late }
 }
 
-// Rules 9 and 10.
+// Rules 9 and 10. Where they are kept, a test that finds no place says so sooner.
 fn judge_points(file: &[u8], l: Layout) -> Judged
     requires { ⌜ Laid (now file) l ⌝ }
     requires { ⌜ Counted (decode (now file)) ⌝ }
     ensures { λ r. ⌜ r ≡ judgedPoints (decode (now (file .entry))) ⌝ }
 {
+    if is_steady(file, l) {
+        return Judged::Sound;
+    }
     let scan = scan_points(file, l);
     let bad = scan.bad;
     if bad < l.points {

@@ -21,7 +21,8 @@ use Rattle.network.specs.Limits.{mostPeriod}
 use Rattle.network.specs.Rules.{ticksOf, travelsOf, judgedPoints}
 use Rattle.network.specs.FirstPoint.{Counted, points-in}
 use Rattle.network.specs.Sound.{points-clear}
-use Rattle.network_rules.specs.Steady.{Steady, steady-fine, steady-kept}
+use Rattle.network_rules.specs.Breaks.{Follows}
+use Rattle.network_rules.specs.Steady as order
 use Rattle.network_tables.specs.declared.steady.Pairs.{Pairs}
 use Rattle.network_tables.specs.Pairs.{Ordered, Paired, startAfter}
 
@@ -213,25 +214,24 @@ module _ (n : Network) (c : Counted n) (d : AllClosed n (arcs n)) (m : ℕ) (who
       kept i h = at i h .kept (above i h)
           (omega (arith, last (suc i) h, d .closed a l .below, most (suc i) h))
 
-      steady : Steady (n .period) (ticksOf n a) (travelsOf n a) (net.count n a) (suc (t (K - 1)))
-          (t (K - 1) + v (K - 1))
-      steady = record {
-        rise = rise;
-        some = some;
-        most = most;
-        kept = kept;
-        low-is = λ k e. let q : K - 1 ≡ k = omega arith in rw q;
-        end-is = λ k e. let q : K - 1 ≡ k = omega arith in rw q;
+      day : order.Closed (n .period) (ticksOf n a) (travelsOf n a) (net.count n a)
+      day = record {
+        start = d .closed a l .first;
+        some = some 0 (c .some a l);
+        most = most 0 (c .some a l);
+        below = d .closed a l .below;
+        wrap = d .closed a l .end;
       }
+
+      on : (i : ℕ) → suc i < K → Follows (n .period) (t i) (v i) (t (suc i)) (v (suc i))
+      on i h = record { rise = rise i h; kept = kept i h; some = some (suc i) h; most = most (suc i) h }
 
     pub all-steady : n .period ≤ mostPeriod
         → ((q : ℕ) → q < m → Ordered (n .period) (getD (n .ticks) q 0) (getD (n .travels) q 0)
         (getD (n .ticks) (q + 1) 0) (getD (n .travels) (q + 1) 0)) → judgedPoints n ≡ Sound
     all-steady small o = points-clear n
-        (λ a i l h. steady-fine _ _ _ _ _ _ (steady small o a l) (c .some a l) (d .closed a l .first)
-        (d .closed a l .below) (d .closed a l .end) i h)
-        (λ a i l h. steady-kept _ _ _ _ _ _ (steady small o a l) (c .some a l) (d .closed a l .first)
-        (d .closed a l .below) (d .closed a l .end) i h)
+        (λ a i l h. order.fine _ _ _ _ (c .some a l) (day small o a l) (on small o a l) i h)
+        (λ a i l h. order.in-turn _ _ _ _ (c .some a l) (day small o a l) (on small o a l) i h)
 
 -- FOR THE CODE
 pub no-points : (n : Network) → Counted n → points n ≡ 0 → judgedPoints n ≡ Sound
