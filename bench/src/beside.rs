@@ -1,5 +1,5 @@
-//! The library beside another one with the same C functions: first that both do the same, then how long both take,
-//! in turns, for each operation in each town.
+//! The library beside another one with the same C functions: first that both do the same, then how long both
+//! take, in turns, for each operation in each town.
 use crate::finds;
 use crate::functions::{Functions, LINKED};
 use crate::library;
@@ -20,8 +20,8 @@ fn lacks(library: &Functions, operation: &Operation) -> bool {
     library.addresses().contains(&(operation.function, None))
 }
 
-/// How many finds a check makes is its own affair, as far as document 02 allows it: they are judged by that, and
-/// not compared.
+/// How many finds a check makes is its own affair, as far as document 02 allows it: they are judged by that,
+/// and not compared.
 fn take_finds(scene: &Scene, number: u32, room: &mut Room) -> bool {
     let [first, second, third, ..] = room.answer;
     let verdict = match number {
@@ -41,7 +41,11 @@ fn is_alike(operation: &Operation, scene: &Scene, other: &Functions, call: usize
     if number != (operation.call)(other, scene, call, &mut right) {
         return false;
     }
-    let is_allowed = operation.function != CHECK || take_finds(scene, number, &mut left) && take_finds(scene, number, &mut right);
+    let mut is_allowed = true;
+    if operation.function == CHECK {
+        is_allowed &= take_finds(scene, number, &mut left);
+        is_allowed &= take_finds(scene, number, &mut right);
+    }
     is_allowed && left == right
 }
 
@@ -78,11 +82,22 @@ fn work<'a>(operation: &'a Operation, scene: &'a Scene, library: &'a Functions) 
     Box::new(move |call| _ = black_box((operation.call)(library, scene, call, &mut room)))
 }
 
+/// The operation's name in its row, with the refusal where that is all that its time can be of.
+fn label(operation: &Operation, scene: &Scene) -> String {
+    if operation.asks > 0 {
+        return operation.name.to_owned();
+    }
+    match (operation.call)(&LINKED, scene, 0, &mut Room::new(operation, scene)) {
+        0 => operation.name.to_owned(),
+        number => format!("{}, refused {number}", operation.name),
+    }
+}
+
 /// A row of the table, and its ratio.
 fn measure(operation: &Operation, scene: &Scene, other: &Functions, rounds: usize, town: &str) -> f64 {
     let works = [work(operation, scene, &LINKED), work(operation, scene, other)];
     let [left, right] = interleave(rounds, (operation.calls)(scene), works);
-    table::print(operation.name, town, &left, &right)
+    table::print(&label(operation, scene), town, &left, &right)
 }
 
 /// The ratio of an operation in a town.
@@ -136,4 +151,69 @@ pub fn run(other: &Functions, scenes: &[Scene], effort: &Effort) -> bool {
     table::print_head(width, "other");
     print_worst(&measure_all(other, scenes, effort, width), width);
     true
+}
+
+#[cfg(test)]
+mod tests {
+    use super::*;
+    use crate::files;
+    use crate::quay_town::quay_town;
+
+    fn quay() -> [Scene; 1] {
+        let files = files::make(&quay_town());
+        [Scene::new("quay", files.network, files.plan).expect("a network that opens")]
+    }
+
+    fn differences(other: &Functions) -> Vec<String> {
+        compare(other, &quay(), "").expect_err("another library that is wrong")
+    }
+
+    #[test]
+    fn the_library_is_like_itself() {
+        // The trips are 65 calls each, and the day sheets 9.
+        assert_eq!(compare(&LINKED, &quay(), ""), Ok(4 * 65 + 9 + 5));
+        assert_eq!(compare(&LINKED, &quay(), "sheet"), Ok(9));
+    }
+
+    /// Returns what no call does, and leaves all as it was.
+    unsafe extern "C" fn wrong(_: *const u8, _: usize, _: *mut u8, _: usize, _: u32, _: u32, _: u32) -> u32 {
+        99
+    }
+
+    #[test]
+    fn another_number_is_seen() {
+        let other = Functions { varnwalnut_plain_trip: Some(wrong), ..LINKED };
+        assert_eq!(differences(&other), ["plain trip, quay, call 0"]);
+    }
+
+    /// The library's check, with one number of its answer changed.
+    unsafe extern "C" fn spoiled<const NUMBER: usize>(
+        network: *const u8,
+        network_len: usize,
+        plan: *const u8,
+        plan_len: usize,
+        answer: *mut u32,
+        answer_len: usize,
+    ) -> u32 {
+        let check = LINKED.varnwalnut_check_plan.expect("the library has it");
+        let refusal = check(network, network_len, plan, plan_len, answer, answer_len);
+        *answer.add(NUMBER) += 1;
+        refusal
+    }
+
+    #[test]
+    fn lent_memory_is_compared_and_finds_are_judged() {
+        let one_find_more = Functions { varnwalnut_check_plan: Some(spoiled::<3>), ..LINKED };
+        assert!(compare(&one_find_more, &quay(), "").is_ok());
+        let far_too_many = Functions { varnwalnut_check_plan: Some(spoiled::<4>), ..LINKED };
+        assert_eq!(differences(&far_too_many), ["check plan, quay, call 0"]);
+        let behind_the_answer = Functions { varnwalnut_check_plan: Some(spoiled::<5>), ..LINKED };
+        assert_eq!(differences(&behind_the_answer), ["check plan, quay, call 0"]);
+    }
+
+    #[test]
+    fn what_is_lacking_is_left_out() {
+        let other = Functions { varnwalnut_make_plan: None, varnwalnut_plain_trip: None, ..LINKED };
+        assert_eq!(compare(&other, &quay(), ""), Ok(3 * 65 + 9 + 4));
+    }
 }

@@ -4,6 +4,7 @@ use crate::plain::network::{Header, Tables};
 use crate::plain::pack::Lists;
 use crate::plain::trips::Ask;
 use std::ffi::c_void;
+use std::mem::transmute;
 
 /// From the functions' declarations: those of the library that is linked, and the table of pointers.
 macro_rules! functions {
@@ -29,7 +30,11 @@ macro_rules! functions {
             /// # Safety
             /// At each address that is not null stands a function as declared, for as long as it is called.
             pub unsafe fn at(address: impl Fn(&'static str) -> *mut c_void) -> Functions {
-                Functions { $($name: std::mem::transmute(address(stringify!($name))),)* }
+                Functions {
+                    $($name: transmute::<*mut c_void, Option<unsafe extern "C" fn($($type),*) -> u32>>(
+                        address(stringify!($name)),
+                    ),)*
+                }
             }
 
             /// The names, and the address of each function that is there.
@@ -230,9 +235,10 @@ impl Functions {
 
     pub fn flagged_trip(&self, network: &[u8], plan: &[u8], ask: &Ask, out: &mut [u8]) -> u32 {
         let call = self.varnwalnut_flagged_trip.expect(HAS);
-        unsafe {
-            call(network.as_ptr(), network.len(), plan.as_ptr(), plan.len(), out.as_mut_ptr(), out.len(), ask.from, ask.to, ask.departure)
-        }
+        let Ask { from, to, departure } = *ask;
+        let (network, length) = (network.as_ptr(), network.len());
+        let (out, room) = (out.as_mut_ptr(), out.len());
+        unsafe { call(network, length, plan.as_ptr(), plan.len(), out, room, from, to, departure) }
     }
 
     pub fn flagged_trip_lists(&self, network: &[u8], plan: &[u8], ask: &Ask, lent: TripLists) -> u32 {

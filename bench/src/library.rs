@@ -28,13 +28,15 @@ pub fn flagged_trip(network: &[u8], plan: &[u8], out: &mut [u8], ask: &Ask) -> u
 
 pub fn plain_trip_lists(network: &[u8], ask: &Ask, arrivals: &mut [u32], roads: &mut [u16]) -> Result<Arrived, Refusal> {
     let mut answer = [0; 6];
-    let number = LINKED.plain_trip_lists(network, ask, TripLists { arrivals, roads, answer: &mut answer });
+    let lent = TripLists { arrivals, roads, answer: &mut answer };
+    let number = LINKED.plain_trip_lists(network, ask, lent);
     outcome(number, &answer, arrived(&answer))
 }
 
 pub fn flagged_trip_lists(network: &[u8], plan: &[u8], ask: &Ask, arrivals: &mut [u32], roads: &mut [u16]) -> Result<Arrived, Refusal> {
     let mut answer = [0; 6];
-    let number = LINKED.flagged_trip_lists(network, plan, ask, TripLists { arrivals, roads, answer: &mut answer });
+    let lent = TripLists { arrivals, roads, answer: &mut answer };
+    let number = LINKED.flagged_trip_lists(network, plan, ask, lent);
     outcome(number, &answer, arrived(&answer))
 }
 

@@ -35,11 +35,12 @@ struct Order {
     towns: Vec<PathBuf>,
 }
 
-/// How much is run: `--rounds N` (each operation), `--checks N` (the check of the full town; beside another library
-/// the check and making a plan), `--only PART` (operations whose name has it). `--beside OTHER`: beside that library,
-/// in further towns too, which are folders.
+/// How much is run: `--rounds N` (each operation), `--checks N` (the check of the full town; beside another
+/// library the check and making a plan), `--only PART` (operations whose name has it). `--beside OTHER`,
+/// with `TOWN ...` behind it: beside that library, and in the towns of these folders too.
 fn order() -> Order {
-    let mut order = Order { effort: Effort { rounds: 61, checks: None, only: String::new() }, other: None, towns: Vec::new() };
+    let effort = Effort { rounds: 61, checks: None, only: String::new() };
+    let mut order = Order { effort, other: None, towns: Vec::new() };
     let mut words = std::env::args().skip(1);
     while let Some(word) = words.next() {
         if !word.starts_with("--") {
@@ -87,9 +88,10 @@ fn scenes(towns: &[PathBuf]) -> Result<Vec<Scene>, String> {
 }
 
 fn beside_library(other: &Path, order: &Order) {
-    let functions = shared::load(other).unwrap_or_else(|reason| stop(&format!("{}: {reason}", other.display())));
+    let path = other.display();
+    let functions = shared::load(other).unwrap_or_else(|reason| stop(&format!("{path}: {reason}")));
     let mut scenes = scenes(&order.towns).unwrap_or_else(|reason| stop(&reason));
-    println!("beside {}", other.display());
+    println!("beside {path}");
     for scene in &scenes {
         println!("{}", scene.summary());
     }

@@ -35,11 +35,12 @@ impl Scene {
     pub fn new(name: &str, network: Vec<u8>, plan: Vec<u8>) -> Result<Scene, String> {
         let mut tables = Opened::room();
         let header = library::open(&network, tables.lend());
-        let header = header.map_err(|refusal| format!("{name}: the network is refused with {}", refusal.number))?;
+        let header = header.map_err(|refusal| format!("{name}: the network is refused, {}", refusal.number))?;
         let mut asks = suite::asks(&header);
         asks.extend(suite::NOWHERE);
         let text = texts::of_roads(&header, &tables.lists());
-        Ok(Scene { name: name.to_owned(), network, plan, header, tables, asks, text, operations: &operations::ALL })
+        let name = name.to_owned();
+        Ok(Scene { name, network, plan, header, tables, asks, text, operations: &operations::ALL })
     }
 
     pub fn of_shape(name: &str, shape: &Shape) -> Result<Scene, String> {

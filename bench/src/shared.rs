@@ -1,5 +1,5 @@
-//! Another library with the same C functions, loaded while the program runs, so that its names do not mix with
-//! those of the library that is linked.
+//! Another library with the same C functions, loaded while the program runs, so that its names do not mix
+//! with those of the library that is linked.
 use crate::functions::{Functions, LINKED};
 use std::ffi::{c_char, c_int, c_void, CStr, CString};
 use std::fs;
@@ -50,9 +50,10 @@ fn link(library: &Path, object: &Path) -> Result<(), String> {
     command.arg("-shared").arg("-o").arg(object).args(["-Wl,-Bsymbolic", "-Wl,--whole-archive"]).arg(library);
     command.args(["-Wl,--no-whole-archive", "-lpthread", "-ldl", "-lm"]);
     let output = command.output().map_err(|error| format!("cc does not run: {error}"))?;
+    let errors = String::from_utf8_lossy(&output.stderr);
     match output.status.success() {
         true => Ok(()),
-        false => Err(format!("cc makes no shared object of it:\n{}", String::from_utf8_lossy(&output.stderr))),
+        false => Err(format!("cc makes no shared object of it:\n{errors}")),
     }
 }
 
@@ -68,8 +69,8 @@ fn failure() -> String {
     }
 }
 
-/// The address that a loaded object has for a name, or null. A null object stands for all that any name of the
-/// program is looked up in.
+/// The address that a loaded object has for a name, or null. A null object stands for all that any name of
+/// the program is looked up in.
 fn address(object: *mut c_void, name: &str) -> *mut c_void {
     let name = CString::new(name).expect("a function's name has no zero byte");
     // SAFETY: the object is loaded and stays so, and the name ends.
@@ -85,7 +86,8 @@ fn open(object: &Path) -> Result<Functions, String> {
     if object.is_null() {
         return Err(failure());
     }
-    // SAFETY: the object is never unloaded, and that its functions are those of the header is what OTHER means.
+    // SAFETY: the object is never unloaded; that its functions are those of the header is what it is asked
+    // to be.
     Ok(unsafe { Functions::at(|name| address(object, name)) })
 }
 

@@ -1,11 +1,13 @@
-//! The lines of the table: an operation, a town, both times with their quartiles, and the ratio of the library's to the other's.
+//! The lines of the table: an operation, a town, both times with their quartiles, and the ratio of the
+//! library's to the other's.
 use crate::measure::{spread, Spread, Times};
 use std::ops::RangeInclusive;
 
 /// The line above the others, beside an empty one; a town's name takes so many characters.
 pub fn print_head(town: usize, other: &str) {
     let other = format!("{other} (quartiles)");
-    println!("\n{:24} {:town$} {:26} {other:26} RATIO (quartiles)", "operation", "town", "library (quartiles)");
+    let library = "library (quartiles)";
+    println!("\n{:24} {:town$} {library:26} {other:26} RATIO (quartiles)", "operation", "town");
 }
 
 /// Median and quartiles in the unit that suits the median.
@@ -25,7 +27,9 @@ pub fn print(operation: &str, town: &str, library: &Times, other: &Times) -> f64
     let (left, right) = (spread(&library.0), spread(&other.0));
     let rounds = spread(&library.over(other));
     let ratio = left.median / right.median;
-    println!("{operation:24} {town:6} {:26} {:26} {ratio:.2} ({:.2} to {:.2})", times(left), times(right), rounds.low, rounds.high);
+    let (library, other) = (times(left), times(right));
+    let Spread { low, high, .. } = rounds;
+    println!("{operation:24} {town:6} {library:26} {other:26} {ratio:.2} ({low:.2} to {high:.2})");
     ratio
 }
 
