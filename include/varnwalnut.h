@@ -31,6 +31,9 @@
 extern "C" {
 #endif
 
+/* The interface's version. Wishes of document 02 that are built make its second number. */
+#define VARNWALNUT_VERSION "0.7.0"
+
 /* Limits. */
 enum {
     VARNWALNUT_MOST_TICKS = 2880,  /* the period: ticks of half a minute in a day */
