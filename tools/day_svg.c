@@ -111,22 +111,21 @@ static void print_head(FILE *out, const struct plot *plot, size_t pairs)
 {
     uint32_t height = plot->top + PLOT_HEIGHT + BELOW;
     fprintf(out, "<svg xmlns=\"http://www.w3.org/2000/svg\" width=\"%d\" height=\"%" PRIu32
-           "\" viewBox=\"0 0 %d %" PRIu32 "\"\n"
-           "     font-family=\"DejaVu Sans, Verdana, Helvetica, sans-serif\" role=\"img\">\n",
-           WIDTH, height, WIDTH, height);
-    fprintf(out, "<title>How long %s, whenever in the day</title>\n", pairs == 1 ? "a trip takes" : "trips take");
+            "\" viewBox=\"0 0 %d %" PRIu32 "\"\n"
+            "     font-family=\"DejaVu Sans, Verdana, Helvetica, sans-serif\" role=\"img\">\n",
+            WIDTH, height, WIDTH, height);
+    const char *what = pairs == 1 ? "a trip takes" : "trips take";
+    fprintf(out, "<title>How long %s, whenever in the day</title>\n", what);
     fprintf(out, "<rect width=\"%d\" height=\"%" PRIu32 "\" fill=\"#ffffff\"/>\n", WIDTH, height);
     fprintf(out, "<text x=\"%d\" y=\"34\" font-size=\"20\" fill=\"#222222\">How long %s, whenever in the day"
-           "</text>\n",
-           LEFT, pairs == 1 ? "a trip takes" : "trips take");
+            "</text>\n",
+            LEFT, what);
 }
 
-/* Lines across the plot and down it, each with its number at the end, and what the numbers are. */
-static void print_grid(FILE *out, const struct plot *plot)
+/* Lines across the plot, each with its travel at the end. */
+static void print_travel_lines(FILE *out, const struct plot *plot)
 {
-    uint32_t bottom = plot->top + PLOT_HEIGHT;
     uint32_t step = travel_step(plot->highest);
-    fprintf(out, "<g font-size=\"13\" fill=\"#555555\" stroke=\"none\">\n");
     for (uint32_t travel = 0; travel <= plot->highest; travel += step) {
         uint64_t at = down(plot, travel);
         fprintf(out, "<path d=\"M%d ", LEFT);
@@ -136,25 +135,40 @@ static void print_grid(FILE *out, const struct plot *plot)
         print_hundredths(out, at + 450);
         fprintf(out, "\" text-anchor=\"end\">%" PRIu32 "</text>\n", travel / 2);
     }
-    step = clock_step(plot->period);
+}
+
+/* Lines down the plot, each with its time at the end. */
+static void print_clock_lines(FILE *out, const struct plot *plot)
+{
+    uint32_t bottom = plot->top + PLOT_HEIGHT;
+    uint32_t step = clock_step(plot->period);
     for (uint32_t tick = 0; tick <= plot->period; tick += step) {
         uint64_t at = along(plot, tick);
         fprintf(out, "<path d=\"M");
         print_hundredths(out, at);
         fprintf(out, " %" PRIu32 "V%" PRIu32 "\" stroke=\"%s\"/>", plot->top, bottom + 6,
-               tick == 0 ? "#777777" : "#eeeeee");
+                tick == 0 ? "#777777" : "#eeeeee");
         fprintf(out, "<text x=\"");
         print_hundredths(out, at);
         fprintf(out, "\" y=\"%" PRIu32 "\" text-anchor=\"middle\">", bottom + 24);
         print_clock(out, tick);
         fprintf(out, "</text>\n");
     }
+}
+
+/* Both kinds of lines, and what their numbers are. */
+static void print_grid(FILE *out, const struct plot *plot)
+{
+    uint32_t bottom = plot->top + PLOT_HEIGHT;
+    fprintf(out, "<g font-size=\"13\" fill=\"#555555\" stroke=\"none\">\n");
+    print_travel_lines(out, plot);
+    print_clock_lines(out, plot);
     fprintf(out, "</g>\n<g font-size=\"13\" fill=\"#222222\">\n");
-    fprintf(out, "<text x=\"%d\" y=\"%" PRIu32 "\" text-anchor=\"middle\">leaving at</text>\n", (LEFT + RIGHT) / 2,
-           bottom + 50);
+    fprintf(out, "<text x=\"%d\" y=\"%" PRIu32 "\" text-anchor=\"middle\">leaving at</text>\n",
+            (LEFT + RIGHT) / 2, bottom + 50);
     fprintf(out, "<text transform=\"translate(22 %" PRIu32 ") rotate(-90)\" text-anchor=\"middle\">"
-           "travel in minutes</text>\n</g>\n",
-           plot->top + PLOT_HEIGHT / 2);
+            "travel in minutes</text>\n</g>\n",
+            plot->top + PLOT_HEIGHT / 2);
 }
 
 /* Two pairs stand in a row: what they lead from and to, and the least and the most that they take. */
@@ -163,10 +177,10 @@ static void print_legend(FILE *out, const struct day *day, size_t place)
     uint32_t left = LEFT + (uint32_t)(place % 2) * LEGEND_COLUMN;
     uint32_t at = LEGEND_TOP + (uint32_t)(place / 2) * LEGEND_STEP;
     fprintf(out, "<path d=\"M%" PRIu32 " %" PRIu32 "h26\" stroke=\"%s\" stroke-width=\"4\"/>", left, at - 5,
-           COLOURS[place]);
+            COLOURS[place]);
     fprintf(out, "<text x=\"%" PRIu32 "\" y=\"%" PRIu32 "\" font-size=\"14\" fill=\"#222222\">"
-           "%" PRIu32 " to %" PRIu32 ": <tspan fill=\"#555555\">",
-           left + 36, at, day->from, day->to);
+            "%" PRIu32 " to %" PRIu32 ": <tspan fill=\"#555555\">",
+            left + 36, at, day->from, day->to);
     print_travel(out, day->travels[day->least]);
     if (day->travels[day->least] == day->travels[day->most]) {
         fprintf(out, " min all day");
@@ -201,8 +215,8 @@ static void print_line(FILE *out, const struct plot *plot, const struct day *day
         print_hundredths(out, down(plot, here));
     }
     fprintf(out, "\" fill=\"none\" stroke=\"%s\" stroke-width=\"2\" stroke-linejoin=\"round\"><title>%" PRIu32
-           " to %" PRIu32 "</title></path>\n",
-           COLOURS[place], day->from, day->to);
+            " to %" PRIu32 "</title></path>\n",
+            COLOURS[place], day->from, day->to);
 }
 
 void print_days(FILE *out, uint32_t period, const struct day *days, size_t count)

@@ -178,8 +178,8 @@ static int plan(const struct words *words)
     uint8_t *made = take_memory(VARNWALNUT_PLAN_BYTES, 1);
     uint32_t answer[4];
     begin_progress("making the plan");
-    uint32_t refusal = varnwalnut_make_plan(network.start, network.length, work, VARNWALNUT_WORK_ENTRIES, made,
-                                            VARNWALNUT_PLAN_BYTES, answer, 4);
+    uint32_t refusal = varnwalnut_make_plan(network.start, network.length, work, VARNWALNUT_WORK_ENTRIES,
+                                            made, VARNWALNUT_PLAN_BYTES, answer, 4);
     end_progress();
     int status = 0;
     if (refusal == VARNWALNUT_OK) {
