@@ -28,6 +28,16 @@ void give_up(const char *format, ...)
     exit(2);
 }
 
+void hold_standard_files(void)
+{
+    for (int file = STDIN_FILENO; file <= STDERR_FILENO; file++) {
+        if (fcntl(file, F_GETFD) < 0 && errno == EBADF) {
+            /* The lowest free number is the one that is missing. */
+            (void)open("/dev/null", file == STDIN_FILENO ? O_WRONLY : O_RDONLY);
+        }
+    }
+}
+
 /* --- memory */
 
 void *take_memory(size_t count, size_t size)
@@ -195,17 +205,19 @@ static void keep_name(const char *path)
     free(folder);
 }
 
-static void write_beside(const char *path, const struct stat *old, const uint8_t *start, size_t length)
+/* `path` is where the file stands, and `name` what the call calls it. */
+static void write_beside(const char *name, const char *path, const struct stat *old, const uint8_t *start,
+                         size_t length)
 {
-    static const char name[] = ".varnwalnut-XXXXXX";
+    static const char pattern[] = ".varnwalnut-XXXXXX";
     size_t folder = folder_length(path);
-    char *beside = take_memory(folder + sizeof name, 1);
+    char *beside = take_memory(folder + sizeof pattern, 1);
     memcpy(beside, path, folder);
-    memcpy(beside + folder, name, sizeof name);
+    memcpy(beside + folder, pattern, sizeof pattern);
     guard_unfinished();
     int file = mkstemp(beside);
     if (file < 0) {
-        give_up("%s: no new file can be made beside it: %s", path, strerror(errno));
+        give_up("%s: no new file can be made beside it: %s", name, strerror(errno));
     }
     unfinished = beside;
     bool good = fchmod(file, rights(old)) == 0 && write_all(file, start, length) && fsync(file) == 0;
@@ -221,7 +233,7 @@ static void write_beside(const char *path, const struct stat *old, const uint8_t
     if (!good) {
         unlink(beside);
         unfinished = NULL;
-        give_up("%s: %s; it is as it was before", path, strerror(reason));
+        give_up("%s: %s; it is as it was before", name, strerror(reason));
     }
     unfinished = NULL;
     keep_name(path);
@@ -237,13 +249,13 @@ void write_file(const char *path, const void *start, size_t length)
             give_up("standard output: %s", strerror(errno));
         }
     } else if (stat(path, &old) != 0) {
-        write_beside(path, NULL, start, length);
+        write_beside(path, path, NULL, start, length);
     } else if (!S_ISREG(old.st_mode)) {
         write_straight(path, start, length);
     } else {
         /* What a link leads to is replaced, not the link. */
         char *real = realpath(path, NULL);
-        write_beside(real == NULL ? path : real, &old, start, length);
+        write_beside(path, real == NULL ? path : real, &old, start, length);
         free(real);
     }
 }

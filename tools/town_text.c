@@ -125,17 +125,15 @@ static bool is_space(char byte)
     return byte == ' ' || byte == '\t' || byte == '\r';
 }
 
-/* Takes a line apart, up to a remark or its end. */
+/* Takes a line apart, up to a remark or its end. No record has as many words as there is room for, so those
+ * that are left out are too many in any case. */
 static void split(struct line *line, const char *start, const char *end)
 {
     line->count = 0;
-    while (start < end && *start != '#') {
+    while (start < end && *start != '#' && line->count < MOST_WORDS) {
         if (is_space(*start)) {
             start++;
             continue;
-        }
-        if (line->count == MOST_WORDS) {
-            give_up("%s: line %zu: there are too many words", line->path, line->number);
         }
         const char *word = start;
         while (start < end && !is_space(*start) && *start != '#') {

@@ -440,6 +440,7 @@ int main(int count, char **words)
 {
     /* A file that may not grow further is told as an error of the write. */
     signal(SIGXFSZ, SIG_IGN);
+    hold_standard_files();
     if (count < 2) {
         print_usage(stderr);
         return 2;
