@@ -23,8 +23,8 @@ void give_up(const char *format, ...)
 #endif
     ;
 
-/* Takes the places of standard files that the caller has closed, so that no file of ours gets them. Reading or
- * writing such a standard file fails. */
+/* Takes the places of standard files that the caller has closed, so that no file of ours gets them. Reading
+ * or writing such a standard file fails. */
 void hold_standard_files(void);
 
 /* Memory of so many bytes, at least one, all zero. */

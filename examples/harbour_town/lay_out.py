@@ -58,7 +58,7 @@ def ferry(first, last, every, crossing):
 
 
 def street(roads, one, other, main):
-    """A main street, whose morning rush goes from the one end to the other, or a street, or a one-way lane."""
+    """A main street, whose rush goes to the other end in the morning, or a street, or a one-way lane."""
     pick = chance(one, other)
     if main:
         roads.append((one, other, rush(3, 2, 0)))
@@ -90,8 +90,8 @@ def lay_out():
 
 def write_dimacs(path, roads):
     with open(path, "w", encoding="ascii") as file:
-        file.write("c Harbour town: the roads as they are at midnight. A weight is a travel in ticks of half a\n"
-                   "c minute, the ferry's wait among them. Places are numbered from 1, row by row.\n"
+        file.write("c Harbour town: the roads as they are at midnight. A weight is a travel in ticks of\n"
+                   "c half a minute, the ferry's wait among them. Places are numbered from 1, row by row.\n"
                    f"p sp {COLUMNS * ROWS} {len(roads)}\n")
         for start, end, points in roads:
             file.write(f"a {start + 1} {end + 1} {min(points[0][1], 40)}\n")

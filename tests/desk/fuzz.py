@@ -12,9 +12,8 @@ import subprocess
 import sys
 import tempfile
 
-from towns import checked, file_of, road_points, text_of, town
+from towns import checked, file_of, text_of, town
 
-assert road_points
 HERE = os.path.dirname(os.path.abspath(__file__))
 EXAMPLES = os.path.join(HERE, "..", "..", "examples")
 NUMBERS = [b"0", b"1", b"65535", b"65536", b"4294967295", b"4294967296", b"-1", b"99999999999999999999", b"x",
@@ -56,7 +55,8 @@ def damaged_text(chance, text):
         if what < 2:
             words[chance.randrange(len(words))] = chance.choice(NUMBERS)
         elif what == 2:
-            words.insert(chance.randrange(len(words) + 1), chance.choice(NUMBERS + [b"cell", b"#", b"\0", b"\xff"]))
+            others = NUMBERS + [b"cell", b"#", b"\0", b"\xff"]
+            words.insert(chance.randrange(len(words) + 1), chance.choice(others))
         elif what == 3:
             del words[chance.randrange(len(words))]
         elif what == 4:
@@ -143,7 +143,7 @@ def one_case(program, library, folder, chance):
         answer = getattr(library, asked[0])(*asked[1:])
         good = answer == (told(done) if done.returncode == 1 else None)
     if not good:
-        sys.exit(f"fuzz: {words}: status {done.returncode}, {done.stderr[:2000]!r}; the files stay in {folder}")
+        sys.exit(f"fuzz: {words}: status {done.returncode}, {done.stderr[:2000]!r}; files are in {folder}")
     return done.returncode
 
 

@@ -39,14 +39,16 @@ def same(name, expected, found):
 def main(program, network, plan, waits):
     checking = f"{AWAY}checking the plan: 0 s{AWAY}"
     making = f"{AWAY}making the plan: 0 s{AWAY}"
-    same("check", (0, "accepted, with 13 finds\n", checking), on_terminal([program, "check", network, plan]))
+    same("check", (0, "accepted, with 13 finds\n", checking),
+         on_terminal([program, "check", network, plan]))
     same("check, all on the terminal", (0, "", checking + "accepted, with 13 finds\n"),
          on_terminal([program, "check", network, plan], output=True))
     same("plan", (0, "/dev/null: 2048 bytes\n", making),
          on_terminal([program, "plan", network, "-o", "/dev/null"]))
-    same("a refusal", (1, "", checking + "refused 13: the plan's first block is wrong: kind, number, entries, "
-                       "byte 1 or fill\n"), on_terminal([program, "check", network, network]))
-    same("a trip has no progress", 0, on_terminal([program, "trip", network, "0", "3", "7"], output=True)[2].count(AWAY))
+    sentence = "refused 13: the plan's first block is wrong: kind, number, entries, byte 1 or fill\n"
+    same("a refusal", (1, "", checking + sentence), on_terminal([program, "check", network, network]))
+    trip = on_terminal([program, "trip", network, "0", "3", "7"], output=True)
+    same("a trip has no progress", (0, False), (trip[0], AWAY in trip[2]))
     same("a wrong call", (2, "", "usage: varnwalnut check NETWORK PLAN\n"), on_terminal([program, "check"]))
     same("a missing file", (2, "", "varnwalnut: none: No such file or directory\n"),
          on_terminal([program, "show", "none"]))

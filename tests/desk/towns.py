@@ -13,7 +13,7 @@ BLOCK, HEAD, SUMMED = 512, 8, 508
 
 
 def road_points(chance, period):
-    """Points that keep the rules: the first at tick 0, ticks rising, and no road overtakes, midnight included."""
+    """Points that keep the rules: the first at tick 0, ticks rising, nobody overtakes, at midnight too."""
     count = min(period, chance.choice([1, 1, 2, 3, 5, 12]))
     ticks = [0] + sorted(chance.sample(range(1, period), count - 1))
     first = chance.randint(1, period)
@@ -79,7 +79,8 @@ def blocks(kind, entries, first):
 
 def file_of(number, period, cells, hours, where, ways):
     points = [point for way in ways for point in way[2]]
-    made = blocks(1, [struct.pack("<IHHHHIB", number, period, len(where), len(ways), cells, len(points), hours)], 0)
+    header = struct.pack("<IHHHHIB", number, period, len(where), len(ways), cells, len(points), hours)
+    made = blocks(1, [header], 0)
     if hours:
         made += blocks(9, [struct.pack("<HHH", *place) for place in where], len(made))
     else:

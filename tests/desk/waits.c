@@ -1,4 +1,4 @@
-/* Progress over two alarms, of which tests/desk/terminal.py looks at the line. In a pipe there is no alarm. */
+/* Progress over two alarms: tests/desk/terminal.py looks at the line. In a pipe there is no alarm. */
 #define _XOPEN_SOURCE 700
 #include "progress.h"
 
