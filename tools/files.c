@@ -135,14 +135,28 @@ static void forget_unfinished(int signal_number)
     raise(signal_number);
 }
 
-static void guard_unfinished(void)
+static const int STOPS[] = {SIGINT, SIGTERM, SIGHUP, SIGQUIT};
+enum { STOP_COUNT = sizeof STOPS / sizeof *STOPS };
+
+/* Makes a new file by a pattern, and has signals that stop the program take it away. They wait until its name
+ * is noted. */
+static int make_unfinished(char *pattern)
 {
-    static const int signals[] = {SIGINT, SIGTERM, SIGHUP, SIGQUIT};
-    for (size_t i = 0; i < sizeof signals / sizeof *signals; i++) {
-        if (signal(signals[i], forget_unfinished) == SIG_IGN) {
-            signal(signals[i], SIG_IGN);
+    sigset_t stops, before;
+    sigemptyset(&stops);
+    for (size_t i = 0; i < STOP_COUNT; i++) {
+        if (signal(STOPS[i], forget_unfinished) == SIG_IGN) {
+            signal(STOPS[i], SIG_IGN);
         }
+        sigaddset(&stops, STOPS[i]);
     }
+    sigprocmask(SIG_BLOCK, &stops, &before);
+    int file = mkstemp(pattern);
+    int reason = errno;
+    unfinished = file < 0 ? NULL : pattern;
+    sigprocmask(SIG_SETMASK, &before, NULL);
+    errno = reason;
+    return file;
 }
 
 /* Writes all of it, and tells whether that went well; errno says why not. */
@@ -214,12 +228,10 @@ static void write_beside(const char *name, const char *path, const struct stat *
     char *beside = take_memory(folder + sizeof pattern, 1);
     memcpy(beside, path, folder);
     memcpy(beside + folder, pattern, sizeof pattern);
-    guard_unfinished();
-    int file = mkstemp(beside);
+    int file = make_unfinished(beside);
     if (file < 0) {
         give_up("%s: no new file can be made beside it: %s", name, strerror(errno));
     }
-    unfinished = beside;
     bool good = fchmod(file, rights(old)) == 0 && write_all(file, start, length) && fsync(file) == 0;
     int reason = errno;
     if (close(file) != 0 && good) {
@@ -257,6 +269,18 @@ void write_file(const char *path, const void *start, size_t length)
         char *real = realpath(path, NULL);
         write_beside(path, real == NULL ? path : real, &old, start, length);
         free(real);
+    }
+}
+
+void keep_apart(const char *input, const char *output)
+{
+    struct stat in, out;
+    if (strcmp(input, "-") == 0 || strcmp(output, "-") == 0 || stat(input, &in) != 0 ||
+        stat(output, &out) != 0 || !S_ISREG(in.st_mode)) {
+        return;
+    }
+    if (in.st_dev == out.st_dev && in.st_ino == out.st_ino) {
+        give_up("%s is read, and would be lost if the answer took its place", output);
     }
 }
 

@@ -42,6 +42,9 @@ struct bytes read_file(const char *path, size_t most);
  * output. */
 void write_file(const char *path, const void *start, size_t length);
 
+/* Ends the program where a call would put its answer in the place of what it reads. */
+void keep_apart(const char *input, const char *output);
+
 /* Ends what was printed on standard output. */
 void finish_output(void);
 

@@ -60,6 +60,14 @@ static const char *needed(const struct words *words, enum option option, const c
     return words->option[option];
 }
 
+/* Where the answer goes: not to the file that is read. */
+static const char *output_path(const struct words *words, const char *name)
+{
+    const char *path = needed(words, OUTPUT, name);
+    keep_apart(words->operands[0], path);
+    return path;
+}
+
 /* --- check */
 
 static uint32_t ask_check(const struct bytes *network, const struct bytes *plan, uint32_t answer[5])
@@ -172,7 +180,7 @@ static int trip(const struct words *words)
 
 static int plan(const struct words *words)
 {
-    const char *path = needed(words, OUTPUT, "-o PLAN");
+    const char *path = output_path(words, "-o PLAN");
     struct bytes network = read_network(words->operands[0]);
     uint32_t *work = take_memory(VARNWALNUT_WORK_ENTRIES, sizeof *work);
     uint8_t *made = take_memory(VARNWALNUT_PLAN_BYTES, 1);
@@ -196,7 +204,7 @@ static int plan(const struct words *words)
 
 static int import(const struct words *words)
 {
-    const char *path = needed(words, OUTPUT, "-o NETWORK");
+    const char *path = output_path(words, "-o NETWORK");
     uint32_t number = number_word("N", needed(words, NUMBER, "--number N"));
     struct bytes text = read_file(words->operands[0], WHOLE_FILE);
     uint8_t *made = take_memory(VARNWALNUT_NETWORK_BYTES, 1);
@@ -273,7 +281,7 @@ static int show(const struct words *words)
 
 static int make(const struct words *words)
 {
-    const char *path = needed(words, OUTPUT, "-o NETWORK");
+    const char *path = output_path(words, "-o NETWORK");
     struct bytes text = read_file(words->operands[0], WHOLE_FILE);
     struct tables tables;
     struct bytes network;
@@ -347,6 +355,9 @@ static int day(const struct words *words)
     for (size_t i = 0; i < count; i++) {
         days[i].from = number_word("FROM", words->operands[1 + 2 * i]);
         days[i].to = number_word("TO", words->operands[2 + 2 * i]);
+    }
+    if (words->option[SVG] != NULL) {
+        keep_apart(words->operands[0], words->option[SVG]);
     }
     struct bytes network = read_network(words->operands[0]);
     for (size_t i = 0; i < count && status == 0; i++) {

@@ -7,6 +7,7 @@ import os
 import pty
 import subprocess
 import sys
+import tempfile
 
 AWAY = "\r\x1b[K"
 
@@ -36,7 +37,48 @@ def same(name, expected, found):
         sys.exit(f"terminal: {name}: expected {expected!r}, found {found!r}")
 
 
+def calls(network, plan, folder):
+    """A call of each command, and one for each kind of error."""
+    text, cut, huge = (os.path.join(folder, name) for name in ("text", "cut", "huge"))
+    with open(network, "rb") as file:
+        whole = file.read()
+    with open(cut, "wb") as file:
+        file.write(whole[:1000])
+    with open(huge, "wb") as file:
+        file.truncate(1 << 33)
+    with open(text, "w", encoding="ascii") as file:
+        file.write("network 1 period 10 cells 1 hours 0\nplace cell 1\n")
+    return [["check", network, plan], ["check", plan, network], ["check", network, cut], ["check", cut, plan],
+            ["check", network, huge], ["check", huge, plan], ["check", "none", plan], ["check", network],
+            ["trip", network, plan, "0", "3", "00:03:30"], ["trip", network, "0", "3", "7"],
+            ["trip", network, "3", "0", "7"], ["trip", network, "9", "0", "7"],
+            ["trip", network, "0", "3", "99"], ["trip", network, "0", "3", "x"],
+            ["trip", network, "0", "x", "7"], ["trip", folder, "0", "3", "7"],
+            ["plan", network, "-o", "/dev/null"], ["plan", network, "-o", "/dev/full"], ["plan", network],
+            ["plan", cut, "-o", "/dev/null"], ["plan", network, "-o", folder],
+            ["import", text, "-o", "/dev/null", "--number", "1"], ["import", text, "-o", "/dev/null"],
+            ["show", network], ["show", plan], ["show", plan, "--network", network], ["show", cut],
+            ["show", huge], ["show", plan, "--network", cut], ["show"], ["show", network, "--svg", "x"],
+            ["make", text, "-o", "/dev/null"], ["make", cut, "-o", "/dev/null"], ["make", text],
+            ["day", network, "0", "3"], ["day", network, "0", "3", "--svg", "/dev/null"],
+            ["day", network, "3", "0"], ["day", network, "0"], ["version"], ["help"], ["help", "day"],
+            ["help", "none"], ["--help"], ["--version"], ["none"], []]
+
+
+def alike(program, words):
+    """A terminal changes nothing of what a call says, but for progress, which comes before all else."""
+    piped = subprocess.run([program] + words, stdin=subprocess.DEVNULL, capture_output=True, check=False)
+    status, printed, errors = on_terminal([program] + words)
+    for what in ("checking", "making"):
+        errors = errors.replace(f"{AWAY}{what} the plan: 0 s{AWAY}", "")
+    same(f"{words}", (piped.returncode, piped.stdout.decode(), piped.stderr.decode()),
+         (status, printed, errors))
+
+
 def main(program, network, plan, waits):
+    with tempfile.TemporaryDirectory() as folder:
+        for words in calls(network, plan, folder):
+            alike(program, words)
     checking = f"{AWAY}checking the plan: 0 s{AWAY}"
     making = f"{AWAY}making the plan: 0 s{AWAY}"
     same("check", (0, "accepted, with 13 finds\n", checking),
