@@ -28,6 +28,7 @@ PROVED := crates.txt $(shell find crates -type f \( -name '*.rt' -o -name '*.ant
 all: $(OUT)/varnwalnut $(OUT)/varnwalnut.1 $(OUT)/libvarnwalnut_text.a
 
 $(LIBRARY): $(PROVED)
+	@command -v rt > /dev/null || { echo 'The Rattle kit is not installed: there is no command rt.'; exit 1; }
 	@echo 'The library is proved and built. The first time that takes about ten minutes on two processors.'
 	rt staticlib varnwalnut
 
