@@ -72,8 +72,10 @@ dist: all
 	rm -rf $(OUT)/$(NAME)
 	$(MAKE) install PREFIX=/$(NAME) DESTDIR=$(OUT)
 	sed -i 's|^prefix=.*|prefix=$${pcfiledir}/../..|' $(OUT)/$(NAME)/lib/pkgconfig/varnwalnut.pc
-	mkdir -p $(OUT)/$(NAME)/share/doc/varnwalnut
-	cp README.md docs/FORMAT.md docs/CHANGES.md $(OUT)/$(NAME)/share/doc/varnwalnut
+	mkdir -p $(OUT)/$(NAME)/docs
+	cp README.md $(OUT)/$(NAME)
+	cp docs/FORMAT.md docs/CHANGES.md $(OUT)/$(NAME)/docs
+	cp -R examples $(OUT)/$(NAME)
 	tar --sort=name --owner=0 --group=0 --numeric-owner --mtime='2026-01-01 00:00Z' -C $(OUT) -cf - $(NAME) | \
 	    gzip -9n > $(OUT)/$(NAME).tar.gz
 	rm -rf $(OUT)/$(NAME)

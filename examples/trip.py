@@ -3,8 +3,8 @@ import ctypes
 import os
 import sys
 
-HERE = os.path.dirname(os.path.abspath(__file__))
-library = ctypes.CDLL(os.path.join(HERE, "..", "target", "desk", "libvarnwalnut.so"))
+BUILT = os.path.join(os.path.dirname(os.path.abspath(__file__)), "../target/desk/libvarnwalnut.so")
+library = ctypes.CDLL(os.environ.get("VARNWALNUT_LIBRARY", BUILT))
 size, number = ctypes.c_size_t, ctypes.c_uint32
 
 with open(sys.argv[1], "rb") as file:
