@@ -205,7 +205,7 @@ static void print_line(FILE *out, const struct plot *plot, const struct day *day
         if (tick > 0 && tick < plot->period) {
             uint32_t before = day->travels[tick - 1];
             uint32_t after = day->travels[(tick + 1) % plot->period];
-            if (here - before == after - here) {
+            if (2 * here == before + after) {
                 continue;
             }
         }

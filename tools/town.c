@@ -42,8 +42,8 @@ uint32_t border_place(const struct town *town, uint32_t index)
         }
     }
     uint32_t place = 0;
-    for (; place < town->places; place++) {
-        if (border[place] && index-- == 0) {
+    for (uint32_t before = 0; place < town->places; place++) {
+        if (border[place] && before++ == index) {
             break;
         }
     }
