@@ -144,18 +144,26 @@ static void split(struct line *line, const char *start, const char *end)
     }
 }
 
+static enum time read_value(const struct line *line, size_t at, bool time, uint32_t *value)
+{
+    if (time) {
+        return read_time(line->words[at], line->lengths[at], value);
+    }
+    return read_number(line->words[at], line->lengths[at], UINT32_MAX, value) ? TICK : NO_TIME;
+}
+
 static uint32_t value_at(const struct line *line, size_t at, const struct field *field)
 {
     uint32_t value = 0;
     if (at >= line->count) {
         give_up("%s: line %zu: a number is missing behind `%s`", line->path, line->number, field->name);
     }
-    if (field->time && read_time(line->words[at], line->lengths[at], &value) == BETWEEN_TICKS) {
+    enum time read = read_value(line, at, field->time, &value);
+    if (read == BETWEEN_TICKS) {
         give_up("%s: line %zu: `%s` lies between two ticks of 30 seconds", line->path, line->number,
                 quoted(line, at));
     }
-    if (!(field->time && read_time(line->words[at], line->lengths[at], &value) == TICK) &&
-        !read_number(line->words[at], line->lengths[at], UINT32_MAX, &value)) {
+    if (read == NO_TIME) {
         give_up("%s: line %zu: `%s` is no number behind `%s`", line->path, line->number, quoted(line, at),
                 field->name);
     }
@@ -171,9 +179,12 @@ static size_t read_fields(const struct line *line, size_t at, const struct field
                           uint32_t *values)
 {
     for (size_t i = 0; i < count; i++) {
+        if (at >= line->count) {
+            give_up("%s: line %zu: `%s` is missing at the end", line->path, line->number, fields[i].name);
+        }
         if (!is_word(line, at, fields[i].name)) {
-            give_up("%s: line %zu: `%s` has to stand %s", line->path, line->number, fields[i].name,
-                    at < line->count ? "where there is another word" : "at the end of the line");
+            give_up("%s: line %zu: `%s` stands where `%s` has to", line->path, line->number, quoted(line, at),
+                    fields[i].name);
         }
         values[i] = value_at(line, at + 1, &fields[i]);
         at += 2;
