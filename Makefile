@@ -9,7 +9,6 @@
 #   make clean                        takes away target/desk alone: no proof is lost
 
 PREFIX ?= /usr/local
-CC = cc
 CFLAGS ?= -O2
 FLAGS = -std=c99 -Wall -Wextra -Wpedantic -Wconversion -Iinclude -Itools
 
