@@ -84,6 +84,11 @@ def alike(program, words):
 
 
 def main(program, network, plan, waits):
+    try:
+        os.close(pty.openpty()[0])
+    except OSError:
+        print("terminal: there is no pseudo-terminal here: a terminal is NOT tried")
+        return
     with tempfile.TemporaryDirectory() as folder:
         for words in calls(network, plan, folder):
             alike(program, words)

@@ -12,9 +12,8 @@ import tempfile
 BLOCK, HEAD, SUMMED = 512, 8, 508
 
 
-def road_points(chance, period):
+def road_points(chance, period, count):
     """Points that keep the rules: the first at tick 0, ticks rising, nobody overtakes, at midnight too."""
-    count = min(period, chance.choice([1, 1, 2, 3, 5, 12]))
     ticks = [0] + sorted(chance.sample(range(1, period), count - 1))
     first = chance.randint(1, period)
     points = [(0, first)]
@@ -39,9 +38,19 @@ def town(chance, large):
     ways = []
     for _ in range(roads):
         ends = chance.sample(range(places), 2)
-        ways.append((ends[0], ends[1], road_points(chance, period)))
+        count = min(period, chance.choice([1, 1, 2, 3, 5, 12]))
+        ways.append((ends[0], ends[1], road_points(chance, period, count)))
     number = chance.choice([0, 1, chance.getrandbits(32), 4294967295])
     return number, period, cells, hours, where, ways
+
+
+def largest():
+    """A town that has as much of everything as the limits allow: its file has 558 blocks."""
+    chance = random.Random("largest")
+    where = [(chance.randrange(64), 0, 2880) for _ in range(512)]
+    counts = [31] * 2047 + [65535 - 31 * 2047]
+    ways = [(*chance.sample(range(512), 2), road_points(chance, 2880, count)) for count in counts]
+    return 4294967295, 2880, 64, 1, where, ways
 
 
 def text_of(number, period, cells, hours, where, ways):
@@ -95,8 +104,8 @@ def run(program, words, given):
 
 
 def main(program, count):
-    for seed in range(count):
-        one = town(random.Random(seed), seed % 25 == 24)
+    for seed in range(count + 1):
+        one = town(random.Random(seed), seed % 25 == 24) if seed < count else largest()
         text, file = text_of(*one), file_of(*one)
         made = run(program, ["make", "-", "-o", "-"], text)
         shown = run(program, ["show", "-"], file)
@@ -104,7 +113,8 @@ def main(program, count):
             with tempfile.NamedTemporaryFile(delete=False) as kept:
                 kept.write(text)
             sys.exit(f"towns: town {seed} is made or shown otherwise; its text is {kept.name}")
-    print(f"towns: {count} towns are made and shown as they are")
+    assert len(file) == 558 * BLOCK
+    print(f"towns: {count} towns, and the largest, are made and shown as they are")
 
 
 if __name__ == "__main__":
