@@ -47,7 +47,7 @@ def same(name, expected, found):
 
 def calls(network, plan, folder):
     """A call of each command, and one for each kind of error."""
-    text, cut, huge = (os.path.join(folder, name) for name in ("text", "cut", "huge"))
+    text, cut, huge, out = (os.path.join(folder, name) for name in ("text", "cut", "huge", "out"))
     with open(network, "rb") as file:
         whole = file.read()
     with open(cut, "wb") as file:
@@ -62,13 +62,13 @@ def calls(network, plan, folder):
             ["trip", network, "3", "0", "7"], ["trip", network, "9", "0", "7"],
             ["trip", network, "0", "3", "99"], ["trip", network, "0", "3", "x"],
             ["trip", network, "0", "x", "7"], ["trip", folder, "0", "3", "7"],
-            ["plan", network, "-o", "/dev/null"], ["plan", network, "-o", "/dev/full"], ["plan", network],
-            ["plan", cut, "-o", "/dev/null"], ["plan", network, "-o", folder],
-            ["import", text, "-o", "/dev/null", "--number", "1"], ["import", text, "-o", "/dev/null"],
+            ["plan", network, "-o", out], ["plan", network, "-o", out + "/x"], ["plan", network],
+            ["plan", cut, "-o", out], ["plan", network, "-o", folder],
+            ["import", text, "-o", out, "--number", "1"], ["import", text, "-o", out],
             ["show", network], ["show", plan], ["show", plan, "--network", network], ["show", cut],
             ["show", huge], ["show", plan, "--network", cut], ["show"], ["show", network, "--svg", "x"],
-            ["make", text, "-o", "/dev/null"], ["make", cut, "-o", "/dev/null"], ["make", text],
-            ["day", network, "0", "3"], ["day", network, "0", "3", "--svg", "/dev/null"],
+            ["make", text, "-o", out], ["make", cut, "-o", out], ["make", text],
+            ["day", network, "0", "3"], ["day", network, "0", "3", "--svg", out],
             ["day", network, "3", "0"], ["day", network, "0"], ["version"], ["help"], ["help", "day"],
             ["help", "none"], ["--help"], ["--version"], ["none"], []]
 
@@ -92,14 +92,14 @@ def main(program, network, plan, waits):
     with tempfile.TemporaryDirectory() as folder:
         for words in calls(network, plan, folder):
             alike(program, words)
+        out = os.path.join(folder, "out")
+        same("plan", (0, f"{out}: 2048 bytes\n", f"{AWAY}making the plan: 0 s{AWAY}"),
+             on_terminal([program, "plan", network, "-o", out]))
     checking = f"{AWAY}checking the plan: 0 s{AWAY}"
-    making = f"{AWAY}making the plan: 0 s{AWAY}"
     same("check", (0, "accepted, with 13 finds\n", checking),
          on_terminal([program, "check", network, plan]))
     same("check, all on the terminal", (0, "", checking + "accepted, with 13 finds\n"),
          on_terminal([program, "check", network, plan], output=True))
-    same("plan", (0, "/dev/null: 2048 bytes\n", making),
-         on_terminal([program, "plan", network, "-o", "/dev/null"]))
     sentence = "refused 13: the plan's first block is wrong: kind, number, entries, byte 1 or fill\n"
     same("a refusal", (1, "", checking + sentence), on_terminal([program, "check", network, network]))
     trip = on_terminal([program, "trip", network, "0", "3", "7"], output=True)
