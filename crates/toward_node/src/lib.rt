@@ -104,7 +104,7 @@ fn greater(a: u32, b: u32) -> u32
 }
 
 // How near a node is: never less the least number of its row.
-pub fn nearness(l: Layout, u: usize, work: &[u32]) -> u32
+fn nearness(l: Layout, u: usize, work: &[u32]) -> u32
     requires { ⌜ Small l ⌝ }
     requires { ⌜ (u < l .nodes) × (length (now work) ≡ l .nodes * l .period) ⌝ }
     ensures { λ r. ⌜ Near (l .period) (now (work .entry)) u r ⌝ }
@@ -133,7 +133,7 @@ fn nearness_after(first: bool, reach: u32, least: u16, l: Layout, u: usize, work
 }
 
 // The greatest number of a node's row.
-pub fn highest(l: Layout, u: usize, work: &[u32]) -> u32
+fn highest(l: Layout, u: usize, work: &[u32]) -> u32
     requires { ⌜ Small l ⌝ }
     requires { ⌜ (u < l .nodes) × (length (now work) ≡ l .nodes * l .period) ⌝ }
     ensures { λ r. ⌜ Highest (l .period) (now (work .entry)) u r ⌝ }
