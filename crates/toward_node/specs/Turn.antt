@@ -31,7 +31,7 @@ use Rattle.toward_node.specs.Burden.{burden, burden-clear, burden-lower}
 use Rattle.toward_node.specs.Heights.{Heights, Held, Near, NearFirst, Highest, numbered}
 use Rattle.toward_node.specs.Heights.{number-early, heights-held}
 use Rattle.toward_node.specs.Heights.{heights-clear, heights-lower, heights-first, numbered-early}
-use Rattle.toward_node.specs.Heights.{only-same}
+use Rattle.toward_node.specs.Heights.{only-same, Lows, Bounds, lows-taken, lows-bounds, lows-first}
 use Rattle.toward_node.specs.Leasts.{LeastTravel}
 use Rattle.toward_node.specs.Rows.{rowsOf, WorkedFor, rowLowered, row-lower, row-same, row-lowering}
 use Rattle.toward_node.specs.Rows.{row-quiet, row-held}
@@ -50,12 +50,34 @@ Idle g b bar T D = Queue g b (never - bar) 0 (g .arcs) T D
 abbrev pub left : Layout → List ℕ → List ℕ → ℕ
 left l W D = burden (l .nodes * l .period) W D
 
+-- A node that is clean in the end was clean before, and its row has stayed.
+pub record Kept (l : Layout) (W D M E : List ℕ) : Type 0 where
+  pub clean : (u : ℕ) → u < l .nodes → getD E u 0 ≡ 0 → getD D u 0 ≡ 0
+  pub row : (u x : ℕ) → u < l .nodes → x < l .period → getD E u 0 ≡ 0
+      → gridAt (l .period) M u x ≡ gridAt (l .period) W u x
+
+kept-same : {l : Layout} {W D : List ℕ} → Kept l W D W D
+kept-same = record { clean = λ u n z. z; row = λ u x n h z. refl }
+
+kept-on : {l : Layout} {W D M E N F : List ℕ} → Kept l W D M E → Kept l M E N F → Kept l W D N F
+kept-on j k = record {
+  clean = λ u n z. j .clean u n (k .clean u n z);
+  row = λ u x n h z. k .row u x n h z ∙ j .row u x n h (k .clean u n z);
+}
+
+kept-lows : {l : Layout} {W D M E L : List ℕ} → Kept l W D M E → Lows l W D L → Lows l M E L
+kept-lows j k = record {
+  long = k .long;
+  least = λ u x n h z. omega (arith, j .row u x n h z, k .least u x n h (j .clean u n z));
+}
+
 -- What arc a's turn makes of the list and the tables: W, D and H become M, E and I.
 pub record Stepped (file : List ℕ) (l : Layout) (a near bar : ℕ) (hs W D H M E I : List ℕ) : Type 0 where
   pub heights : Heights l M E I
   pub held : Held (l .period) near hs M I (head (decode file) a)
   pub lighter : left l M E ≤ left l W D
   pub rises : (u : ℕ) → u < l .nodes → getD H u 0 ≤ getD I u 0
+  pub kept : Kept l W D M E
   pub carried : (b v : ℕ) → Queue (graphOf (decode file)) b (never - bar) v a (rowsOf (l .period) W) D
       → Queue (graphOf (decode file)) b (never - bar) v (a + 1) (rowsOf (l .period) M) E
 
@@ -67,12 +89,14 @@ pub record Walking (file : List ℕ) (l : Layout) (v a near bar : ℕ) (hs W D H
   pub held : Held (l .period) near hs M I v
   pub lighter : left l M E ≤ left l W D
   pub rises : (u : ℕ) → u < l .nodes → getD H u 0 ≤ getD I u 0
+  pub kept : Kept l W D M E
   pub carried : (b : ℕ) → Queue (graphOf (decode file)) b (never - bar) v 0 (rowsOf (l .period) W) D
       → Queue (graphOf (decode file)) b (never - bar) v a (rowsOf (l .period) M) E
 
 -- What a node's turn makes of them.
-pub record Turned (file : List ℕ) (l : Layout) (bar : ℕ) (W D H M E I : List ℕ) : Type 0 where
+pub record Turned (file : List ℕ) (l : Layout) (bar : ℕ) (W D H M E I L : List ℕ) : Type 0 where
   pub heights : Heights l M E I
+  pub lows : Lows l M E L
   pub lighter : left l M E < left l W D
   pub rises : (u : ℕ) → u < l .nodes → getD H u 0 ≤ getD I u 0
   pub carried : (b : ℕ) → Idle (graphOf (decode file)) b bar (rowsOf (l .period) W) D
@@ -90,8 +114,9 @@ pub record Bar (nodes goal : ℕ) (H : List ℕ) (bar : ℕ) : Type 0 where
   pub all : nodes ≤ goal → bar ≡ 0
 
 -- Between two turns: v is next.
-pub record Waiting (file : List ℕ) (l : Layout) (b goal bar : ℕ) (W D H : List ℕ) (v : ℕ) : Type 0 where
+pub record Waiting (file : List ℕ) (l : Layout) (b goal bar : ℕ) (W D H L : List ℕ) (v : ℕ) : Type 0 where
   pub heights : Heights l W D H
+  pub lows : Lows l W D L
   pub bars : Bar (l .nodes) goal H bar
   pub queue : Idle (graphOf (decode file)) b bar (rowsOf (l .period) W) D
   pub found : Found (l .nodes) bar D v
@@ -160,6 +185,7 @@ module _ {file : List ℕ} {l : Layout} {starts hs W D H : List ℕ} {a u near :
     held = k;
     lighter = omega arith;
     rises = λ w m. omega arith;
+    kept = kept-same;
     carried = λ b v q. queue-quiet q (λ x i j.
         let y : x < l .period = omega (arith, t .town .sizes .period) in
         let f = rw e at (o .high u x node y) in
@@ -196,6 +222,7 @@ module _ {file : List ℕ} {l : Layout} {starts hs W D H : List ℕ} {a u near :
           held = still (k .some);
           lighter = rw same (omega arith);
           rises = λ w m. omega arith;
+          kept = rw same kept-same;
           carried = λ b v q. rw same (queue-quiet q (λ x i _.
               row-quiet (graphOf (decode file)) a (l .period) (u * l .period) (u * l .period + l .period) r
               hs W M (t .town .sizes .period) (t .town .small .period-some) start refl (k .at) c z x i));
@@ -240,6 +267,17 @@ module _ {file : List ℕ} {l : Layout} {starts hs W D H : List ℕ} {a u near :
         let x = t .town .small .period-some in
         omega (arith, n .all 0 x, given 0 x, numbered-early (t .town .small) o)
 
+    other-row : (w x : ℕ) → w < l .nodes → x < l .period → w ≢ u
+        → gridAt (l .period) M w x ≡ gridAt (l .period) W w x
+    other-row w x m i ne =
+        lowering .other w x (omega (arith, t .town .sizes .nodes)) (omega (arith, t .town .sizes .period))
+        (λ q. ne (q ∙ sym e))
+
+    -- a node that is clean once the tail is dirty is another
+    other-clean : {d : ℕ} → Near (l .period) M u d → (w : ℕ) → getD (set D u d) w 0 ≡ 0 → w ≢ u
+    other-clean {d} n w q i =
+        omega (arith, near-some n, getD-set-same D u d 0 (omega (arith, node, o .wide)), rw i at q)
+
     pub stepped-lower : {bar : ℕ} → 0 < r → {d high : ℕ} → Near (l .period) M u d → Highest (l .period) M u high
         → Stepped file l a near bar hs W D H M (set D u d) (set H u (never - high))
     stepped-lower z {d} {high} n top =
@@ -247,13 +285,7 @@ module _ {file : List ℕ} {l : Layout} {starts hs W D H : List ℕ} {a u near :
         let kept = getD-set-other H u (head (decode file) a) (never - high) 0 apart in
         record {
           heights = heights-lower (t .town .small) o node (c .filled .long)
-              (λ w x m i ne.
-              lowering .other w x (omega (arith, t .town .sizes .nodes)) (omega (
-                arith,
-                t .town .sizes
-                    .period,
-              ))
-              (λ q. ne (q ∙ sym e)))
+              other-row
               (λ x i. rw e (omega (arith, lowering .at x (omega (arith, t .town .sizes .period))))) given n
               top;
           held = still (λ q. k .some (sym kept ∙ q));
@@ -274,6 +306,10 @@ module _ {file : List ℕ} {l : Layout} {starts hs W D H : List ℕ} {a u near :
                 (omega (arith, top .met, rw (← e) at falls))
             | no i ↦ omega (arith, getD-set-other H u w (never - high) 0 i)
           ];
+          kept = record {
+            clean = λ w m q. sym (getD-set-other D u w d 0 (other-clean n w q)) ∙ q;
+            row = λ w x m i q. other-row w x m i (other-clean n w q);
+          };
           carried = λ b v q. rw e
               (queue-lower (lawful (t .town)) lowering in-graph d (near-some n) q
               (omega (arith, node, o .wide, e)));
@@ -301,6 +337,7 @@ module _ {file : List ℕ} {l : Layout} {starts into next : List ℕ} (t : Ready
         held = heights-held small o h d (omega (arith, f .long)) (λ y m. f .written y (omega arith) m);
         lighter = omega arith;
         rises = λ u m. omega arith;
+        kept = kept-same;
         carried = λ b q. walk-skip n q;
       })
 
@@ -322,6 +359,7 @@ module _ {file : List ℕ} {l : Layout} {starts into next : List ℕ} (t : Ready
           held = rw m at (s .held);
           lighter = omega (arith, s .lighter, w .lighter);
           rises = λ u m. omega (arith, s .rises u m, w .rises u m);
+          kept = kept-on (w .kept) (s .kept);
           carried = λ b q. walk-skip n (s .carried b v (w .carried b q));
         })
 
@@ -338,12 +376,13 @@ module _ {file : List ℕ} {l : Layout} {starts into next : List ℕ} (t : Ready
       settled = λ c x m k d _. q .settled c x m k d (λ _. omega (arith, t .primed .town .sizes .arcs));
     }
 
-  pub walking-end : {v a near bar : ℕ} {hs W M E H I : List ℕ} (D : List ℕ) → v < l .nodes → Heights l W D H
-      → getD D v 0 ≢ 0
+  pub walking-end : {v a near bar : ℕ} {hs W M E H I L : List ℕ} (D : List ℕ) → v < l .nodes
+      → Heights l W D H → Lows l W D L → getD D v 0 ≢ 0
       → Walking file l v a near bar hs W (set D v 0) H M E I → l .arcs ≤ a
-      → Turned file l bar W D H M E I
-  walking-end {v} {W = W} D n o d w h = record {
+      → Turned file l bar W D H M E I (set L v (getD D v 0))
+  walking-end {v} {W = W} D n o k d w h = record {
     heights = w .heights;
+    lows = kept-lows (w .kept) (lows-taken o k v n d);
     lighter =
         omega (
           arith,
@@ -363,11 +402,13 @@ module _ {file : List ℕ} {l : Layout} {starts into next : List ℕ} (t : Ready
       → Filled (b * l .period) (b * l .period + l .period) (λ _. 0) W M
       → Bar (l .nodes) goal (set (replicate mostNodes 0) b never) bar
       → Waiting file l b goal bar M (set (replicate mostNodes 0) b never)
-      (set (replicate mostNodes 0) b never) b
+      (set (replicate mostNodes 0) b never) (replicate mostNodes 0) b
   unfolding gridAt
   waiting-start {W = W} {M = M} h s f z k = record {
     heights = heights-first h (z .long ∙ f .long ∙ s) few
         (λ x k. home x (omega (arith, town .sizes .period)))
+        (λ u x n k. away u x (omega (arith, town .sizes .nodes)) (omega (arith, town .sizes .period)));
+    lows = lows-first h few
         (λ u x n k. away u x (omega (arith, town .sizes .nodes)) (omega (arith, town .sizes .period)));
     bars = k;
     queue = queue-first (lawful town) (omega (arith, town .sizes .nodes)) home away
@@ -404,9 +445,9 @@ module _ {file : List ℕ} {l : Layout} {starts into next : List ℕ} (t : Ready
                 z .after (u * l .period + x) (omega (arith, mul-le-mul-right (l .period) q)) ∙ w
           ]
 
-  module _ {W D H : List ℕ} {bar v : ℕ} (w : Waiting file l b goal bar W D H v) where
+  module _ {W D H L : List ℕ} {bar v : ℕ} (w : Waiting file l b goal bar W D H L v) where
     -- the bar does not fall
-    bar-rises : {M E I : List ℕ} {next-bar : ℕ} → Turned file l bar W D H M E I
+    bar-rises : {M E I K : List ℕ} {next-bar : ℕ} → Turned file l bar W D H M E I K
         → Bar (l .nodes) goal I next-bar
         → bar ≤ next-bar
     bar-rises s k = elim (decLt goal (l .nodes)) [
@@ -414,16 +455,23 @@ module _ {file : List ℕ} {l : Layout} {starts into next : List ℕ} (t : Ready
       | no m ↦ omega (arith, w .bars .all (omega arith))
     ]
 
-    pub waiting-next : {M E I : List ℕ} {next-bar u : ℕ} → Turned file l bar W D H M E I
+    pub waiting-next : {M E I K : List ℕ} {next-bar u : ℕ} → Turned file l bar W D H M E I K
         → Bar (l .nodes) goal I next-bar
         → Found (l .nodes) next-bar E u
-        → Waiting file l b goal next-bar M E I u
+        → Waiting file l b goal next-bar M E I K u
     waiting-next s k f = record {
       heights = s .heights;
+      lows = s .lows;
       bars = k;
       queue = queue-bar (omega (arith, bar-rises s k)) (s .carried b (w .queue));
       found = f;
     }
+
+    -- where every row is wanted no node is dirty in the end
+    pub waiting-bounds : l .nodes ≤ v → l .nodes ≤ goal → Bounds l W L H
+    waiting-bounds h all =
+        lows-bounds (w .heights) (w .lows)
+        (λ u n. omega (arith, w .found .none h u n, w .bars .all all))
 
     pub waiting-end : l .nodes ≤ v → WorkedFor (graphOf (decode file)) b goal W
     waiting-end h = record {

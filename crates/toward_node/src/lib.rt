@@ -23,7 +23,7 @@ use search_arcs::wide;
 ghost use mathlib.Core.Path.{_≡_};
 ghost use mathlib.Core.Logic.{_≢_};
 ghost use Prim.Native.Nat.{_+_, _-_, _*_, _≤_, _<_, min, max};
-ghost use lib.ListN.{length, getD};
+ghost use lib.ListN.{length, getD, replicate};
 ghost use lib.Dec.{leb};
 ghost use Rattle.theory_loops.specs.Fill.{Filled};
 ghost use Rattle.theory_paths.specs.Earliest.{never};
@@ -34,7 +34,7 @@ ghost use Rattle.network.specs.Town.{graphOf, travelAt};
 ghost use Rattle.toward_row.specs.Arcs.{Primed};
 ghost use Rattle.toward_row.specs.Cut.{Cut};
 ghost use Rattle.toward_row.specs.Lower.{entries, Capped, Fresh};
-ghost use Rattle.toward_node.specs.Heights.{Heights, Held, Near, NearFirst, Highest};
+ghost use Rattle.toward_node.specs.Heights.{Heights, Held, Near, NearFirst, Highest, Lows, Bounds};
 ghost use Rattle.toward_node.specs.Leasts.{Leasts};
 ghost use Rattle.toward_node.specs.Rows.{rowsOf, rowLowered, Worked, WorkedFor, WorkedRow};
 ghost use Rattle.toward_node.specs.Turn.{Ready, Stepped, Turned, Found, Bar};
@@ -104,7 +104,7 @@ fn greater(a: u32, b: u32) -> u32
 }
 
 // How near a node is: never less the least number of its row.
-pub fn nearness(l: Layout, u: usize, work: &[u32]) -> u32
+fn nearness(l: Layout, u: usize, work: &[u32]) -> u32
     requires { ⌜ Small l ⌝ }
     requires { ⌜ (u < l .nodes) × (length (now work) ≡ l .nodes * l .period) ⌝ }
     ensures { λ r. ⌜ Near (l .period) (now (work .entry)) u r ⌝ }
@@ -133,7 +133,7 @@ fn nearness_after(first: bool, reach: u32, least: u16, l: Layout, u: usize, work
 }
 
 // The greatest number of a node's row.
-pub fn highest(l: Layout, u: usize, work: &[u32]) -> u32
+fn highest(l: Layout, u: usize, work: &[u32]) -> u32
     requires { ⌜ Small l ⌝ }
     requires { ⌜ (u < l .nodes) × (length (now work) ≡ l .nodes * l .period) ⌝ }
     ensures { λ r. ⌜ Highest (l .period) (now (work .entry)) u r ⌝ }
@@ -203,19 +203,22 @@ fn settle(
     hs: &mut [u32; MOST_PERIOD],
     work: &mut [u32],
     near: &mut [u32; MOST_NODES],
+    low: &mut [u32; MOST_NODES],
     room: &mut [u32; MOST_NODES],
 )
     requires { ⌜ Ready (now file) l (now starts) (now into) (now next)
         × Leasts (now file) l (l .arcs) (now least) ⌝ }
-    requires { ⌜ (v < l .nodes) × Heights l (now work) (now near) (now room) × (getD (now near) v 0 ≢ 0)
+    requires { ⌜ (v < l .nodes) × Heights l (now work) (now near) (now room)
+        × Lows l (now work) (now near) (now low) × (getD (now near) v 0 ≢ 0)
         × (l .period ≤ length (now hs)) ⌝ }
     ensures { λ _. ⌜ Turned (now (file .entry)) l bar (now (work .entry)) (now (near .entry))
-        (now (room .entry)) (now (work .exit)) (now (near .exit)) (now (room .exit))
+        (now (room .entry)) (now (work .exit)) (now (near .exit)) (now (room .exit)) (now (low .exit))
         × (length (now (hs .exit)) ≡ length (now (hs .entry))) ⌝ }
 {
     copy_row(l, v, work, hs);
     let reach = near[v];
     near[v] = 0;
+    low[v] = reach;
     let mut a = wide(into[v]);
     while a < l.arcs {
         lower_tail(file, l, starts, least, a, hs, reach, bar, work, near, room);
@@ -297,7 +300,8 @@ fn zero_row(l: Layout, b: usize, work: &mut [u32])
 }
 
 // The least travels to node b, by turn after turn: from the node `goal`, or from every node, where there is no
-// such node. `hs` is a row to work in.
+// such node. `hs` is a row to work in; `low` and `room` begin as zeros, and where every node is asked for they
+// end with bounds of its row.
 fn work_out(
     file: &[u8],
     l: Layout,
@@ -309,21 +313,24 @@ fn work_out(
     goal: usize,
     work: &mut [u32],
     hs: &mut [u32; MOST_PERIOD],
+    low: &mut [u32; MOST_NODES],
+    room: &mut [u32; MOST_NODES],
 )
     requires { ⌜ Ready (now file) l (now starts) (now into) (now next)
         × Leasts (now file) l (l .arcs) (now least) ⌝ }
     requires { ⌜ (b < l .nodes) × (length (now work) ≡ l .nodes * l .period)
-        × (l .period ≤ length (now hs)) ⌝ }
+        × (l .period ≤ length (now hs)) × (now low ≡ replicate mostNodes 0)
+        × (now room ≡ replicate mostNodes 0) ⌝ }
     ensures { λ _. ⌜ WorkedFor (graphOf (decode (now (file .entry)))) b goal (now (work .exit))
+        × (l .nodes ≤ goal → Bounds l (now (work .exit)) (now (low .exit)) (now (room .exit)))
         × (length (now (hs .exit)) ≡ length (now (hs .entry))) ⌝ }
 {
     clear(work);
     zero_row(l, b, work);
     let mut near = [0u32; MOST_NODES];
-    let mut room = [0u32; MOST_NODES];
     near[b] = NEVER;
     room[b] = NEVER;
-    let mut bar = bar_of(&room, l.nodes, goal);
+    let mut bar = bar_of(room, l.nodes, goal);
     let mut v = b;
     while v < l.nodes {
         settle(
@@ -338,14 +345,16 @@ fn work_out(
             hs,
             work,
             &mut near,
-            &mut room,
+            low,
+            room,
         );
-        bar = bar_of(&room, l.nodes, goal);
+        bar = bar_of(room, l.nodes, goal);
         v = nearest(&near, l.nodes, bar);
     }
 }
 
-// The least travels to node b from every node.
+// The least travels to node b from every node. `low` and `room` begin as zeros, and end with never less a
+// number that no entry of a node's row is below, and never less one that none is above.
 pub fn least_travels(
     file: &[u8],
     l: Layout,
@@ -356,15 +365,32 @@ pub fn least_travels(
     b: usize,
     work: &mut [u32],
     hs: &mut [u32; MOST_PERIOD],
+    low: &mut [u32; MOST_NODES],
+    room: &mut [u32; MOST_NODES],
 )
     requires { ⌜ Ready (now file) l (now starts) (now into) (now next)
         × Leasts (now file) l (l .arcs) (now least) ⌝ }
     requires { ⌜ (b < l .nodes) × (length (now work) ≡ l .nodes * l .period)
-        × (l .period ≤ length (now hs)) ⌝ }
+        × (l .period ≤ length (now hs)) × (now low ≡ replicate mostNodes 0)
+        × (now room ≡ replicate mostNodes 0) ⌝ }
     ensures { λ _. ⌜ Worked (graphOf (decode (now (file .entry)))) b (now (work .exit))
+        × Bounds l (now (work .exit)) (now (low .exit)) (now (room .exit))
         × (length (now (hs .exit)) ≡ length (now (hs .entry))) ⌝ }
 {
-    work_out(file, l, starts, into, next, least, b, l.nodes, work, hs);
+    work_out(
+        file,
+        l,
+        starts,
+        into,
+        next,
+        least,
+        b,
+        l.nodes,
+        work,
+        hs,
+        low,
+        room,
+    );
 }
 
 // The least travels to node b from node `from`: its row is theirs, and the others are left as they come.
@@ -386,5 +412,20 @@ pub fn least_travels_from(
         × (l .period ≤ length (now hs)) ⌝ }
     ensures { λ _. ⌜ WorkedRow (graphOf (decode (now (file .entry)))) b from (now (work .exit)) ⌝ }
 {
-    work_out(file, l, starts, into, next, least, b, from, work, hs);
+    let mut low = [0u32; MOST_NODES];
+    let mut room = [0u32; MOST_NODES];
+    work_out(
+        file,
+        l,
+        starts,
+        into,
+        next,
+        least,
+        b,
+        from,
+        work,
+        hs,
+        &mut low,
+        &mut room,
+    );
 }

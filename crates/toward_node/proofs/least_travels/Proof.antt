@@ -13,9 +13,12 @@ same-length c = search needs
 
 returns : tie.Need-returns
 returns c =
-    let s = c .before .before .before .before .before .before .before in
-    let e = c .before .before .work-out .ensures in
-    (worked-all (omega (arith, s .pre .0 .0 .primed .town .sizes .nodes)) (e .0), e .1)
+    let s = c .before .before .before .before .before .before .before .before .before in
+    let e = c .before .before .work-out .ensures in (
+      worked-all (omega (arith, s .pre .0 .0 .primed .town .sizes .nodes)) (e .0),
+      e .1 (omega arith),
+      e .2,
+    )
 
 pub least-travels-spec : {M : Type 1} → statement M
 least-travels-spec = tie.close (tie.spec work-out-requires same-length returns)

@@ -13,7 +13,7 @@ same-length c = search needs
 
 returns : tie.Need-returns
 returns c =
-    let s = c .before .before .before .before .before .before .before in
+    let s = c .before .before .before .before .before .before .before .before .before in
     worked-one (omega (arith, s .pre .1 .1, s .pre .0 .0 .primed .town .sizes .nodes))
     (c .before .before .work-out .ensures .0)
 
