@@ -113,6 +113,9 @@ pub fn load(other: &Path) -> Result<Functions, String> {
             open(&object)?
         }
     };
+    if functions.addresses().iter().all(|(_, address)| address.is_none()) {
+        return Err("it has none of the C functions".to_owned());
+    }
     are_apart(&functions)?;
     Ok(functions)
 }
