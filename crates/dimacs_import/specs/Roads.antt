@@ -20,7 +20,7 @@ use Rattle.network.specs.Tables.{Tables, tables, networkOf}
 use Rattle.network.specs.Validate.{blocks-few}
 use Rattle.network_encode.specs.Encode.{encode}
 use Rattle.network_encode.specs.Packable.{Packable}
-use Rattle.network_pack.specs.Front.{packed-long}
+use Rattle.network_pack.specs.Proper.{packed-long}
 use Rattle.dimacs_line.specs.declared.line.Sizes.{Sizes}
 use Rattle.dimacs_line.specs.declared.line.Arc.{Arc}
 use Rattle.dimacs_text.specs.Accepted.{Within}
