@@ -2,19 +2,18 @@
 -- in the points of a file, by their ticks alone or by all their words of 16 bits, of which every third is a
 -- tick.
 use mathlib.Core.Path.{_≡_, refl, sym, _∙_, ap}
-use mathlib.Core.Bool.{Bool, true, false, _&&_}
+use mathlib.Core.Bool.{Bool, true, false, cond, _&&_}
 use mathlib.Core.List.{List}
 use Prim.Native.Nat.{ℕ, zero, suc, _+_, _-_, _*_, _%_, _≤_, _<_, min}
 use native.Mathlib.Nat.{add-zero}
 use native.Mathlib.Numerals.{add-one}
 use native.Mathlib.Omega.{arith}
-use lib.Bits.{bitAnd, and-le-l}
 use lib.Dec.{leb, eqb, lit<}
 use lib.ListN.{length, getD}
 use borrow.Author.Tests.{eq-eqb, ne-eqb}
 use Rattle.theory_loops.specs.Count.{count, count-none, count-no, count-end, count-few, count-same}
 use Rattle.theory_loops.specs.Fill.{Filled}
-use Rattle.theory_breaks.specs.Tally.{flag, before, tally-more, tally-parts, tally-block}
+use Rattle.theory_breaks.specs.Tally.{flag, flag-few, before, tally-more, tally-parts, tally-block}
 use Rattle.file_fields.specs.Block.{blockSize, headSize}
 use Rattle.file_fields.specs.Fields.{le16}
 use Rattle.file_blocks.specs.Kind.{profilePointSize, profilePointPer}
@@ -69,22 +68,21 @@ wordBreak file base i =
 -- THE LOOP over words: one word more
 pub word-more : (file marks : List ℕ) (base c i x y r : ℕ) → c ≡ count i (wordBreak file base)
     → i < markWords → TickMarks marks
-    → y ≡ le16 file (base + 2 * i) → x ≡ le16 file (base + 2 * i + profilePointSize) → r ≡ flag (leb x y)
-    → c + bitAnd r (getD marks i 0) ≡ count (i + 1) (wordBreak file base)
+    → y ≡ le16 file (base + 2 * i) → x ≡ le16 file (base + 2 * i + profilePointSize)
+    → r ≡ cond (leb x y) (getD marks i 0) 0 → c + r ≡ count (i + 1) (wordBreak file base)
 unfolding wordBreak
 word-more file marks base c i x y r e l m f g h =
-    tally-more (wordBreak file base) c i _ e
-    (rw (h, m .mark i l, ← f, ← g) (both (leb x y) (eqb (i % 3) 0)))
+    tally-more (wordBreak file base) c i r e
+    (h ∙ rw (m .mark i l, ← f, ← g) (both (leb x y) (eqb (i % 3) 0)))
   where
-    both : (a b : Bool) → bitAnd (flag a) (flag b) ≡ flag (a && b)
-    both true true = refl
-    both true false = refl
-    both false true = refl
-    both false false = refl
+    both : (a b : Bool) → cond a (flag b) 0 ≡ flag (a && b)
+    both true b = refl
+    both false b = refl
 
-pub word-few : (file : List ℕ) (base c i r m : ℕ) → c ≡ count i (wordBreak file base) → r < 2
-    → c + bitAnd r m ≤ i + 1
-word-few file base c i r m e h = omega (arith, e, count-few (wordBreak file base) i, and-le-l r m)
+pub word-few : (file marks : List ℕ) (base c i r : ℕ) → c ≡ count i (wordBreak file base) → i < markWords
+    → TickMarks marks → r ≤ getD marks i 0 → c + r ≤ i + 1
+word-few file marks base c i r e l m h =
+    omega (arith, e, count-few (wordBreak file base) i, m .mark i l, flag-few (eqb (i % 3) 0))
 
 -- every third of them is a point's tick
 module _ (file : List ℕ) (base n : ℕ) where

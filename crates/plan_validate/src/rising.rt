@@ -13,7 +13,7 @@ use file_fields::fields::le16;
 use plan::header::PlanLayout;
 use plan::read::tick;
 ghost use mathlib.Core.Path.{_≡_};
-ghost use mathlib.Core.Bool.{true};
+ghost use mathlib.Core.Bool.{true, cond};
 ghost use Prim.Native.Nat.{_+_, _*_, _≤_, _<_};
 ghost use lib.Dec.{leb, ltb};
 ghost use lib.ListN.{length};
@@ -35,6 +35,9 @@ const POINTS: usize = 80;
 
 const WORDS: usize = 3 * POINTS;
 
+// And those of a full block after them.
+const REST: usize = kind::PROFILE_POINT_PER - 1 - POINTS;
+
 // How many profiles have points, where all are `good`.
 pub struct Held {
     pub some: usize,
@@ -46,6 +49,13 @@ fn is_break(t: u16, before: u16) -> u16
     ensures { λ r. ⌜ (r ≡ flag (leb t before)) × (r < 2) ⌝ }
 {
     if t <= before { 1 } else { 0 }
+}
+
+// The mark where a tick does not rise above the one before it, 0 where it does.
+fn marked_break(t: u16, before: u16, mark: u16) -> u16
+    ensures { λ r. ⌜ (r ≡ cond (leb t before) mark 0) × (r ≤ mark) ⌝ }
+{
+    if t <= before { mark } else { 0 }
 }
 
 // 1 where word i of the points is a tick, 0 where it is a part of a travel.
@@ -66,7 +76,7 @@ fn mark_ticks(marks: &mut [u16; WORDS])
 }
 
 // The breaks of so many points behind a point at byte `base`, side by side with it. Every word is compared
-// with the third after it, and those that are no ticks are masked out: so a processor judges some at once.
+// with the third after it, and those that are no ticks have the mark 0: so a processor judges some at once.
 fn breaks_by_words(plan: &[u8], base: usize, marks: &[u16; WORDS]) -> u16
     requires { ⌜ (base + profilePointSize * (wordPoints + 1) ≤ length (now plan)) × TickMarks (now marks) ⌝ }
     ensures { λ r. ⌜ r ≡ count wordPoints (breakAt (now (plan .entry)) base) ⌝ }
@@ -75,7 +85,7 @@ fn breaks_by_words(plan: &[u8], base: usize, marks: &[u16; WORDS]) -> u16
     for i in 0..WORDS {
         let before = le16(plan, base + 2 * i);
         let t = le16(plan, base + 2 * i + kind::PROFILE_POINT_SIZE);
-        breaks += is_break(t, before) & marks[i];
+        breaks += marked_break(t, before, marks[i]);
     }
     breaks
 }
@@ -97,17 +107,17 @@ fn breaks_some(plan: &[u8], base: usize, m: usize) -> u16
     breaks
 }
 
-// The same, by words as far as they go.
+// The same, where the block is full by words as far as they go.
 fn breaks_beside(plan: &[u8], base: usize, m: usize, marks: &[u16; WORDS]) -> u16
     requires { ⌜ (base + profilePointSize * (m + 1) ≤ length (now plan)) × (m < profilePointPer) ⌝ }
     requires { ⌜ TickMarks (now marks) ⌝ }
     ensures { λ r. ⌜ r ≡ count m (breakAt (now (plan .entry)) base) ⌝ }
 {
-    if m < POINTS {
-        return breaks_some(plan, base, m);
+    if m == POINTS + REST {
+        let rest = base + kind::PROFILE_POINT_SIZE * POINTS;
+        return breaks_by_words(plan, base, marks) + breaks_some(plan, rest, REST);
     }
-    let rest = base + kind::PROFILE_POINT_SIZE * POINTS;
-    breaks_by_words(plan, base, marks) + breaks_some(plan, rest, m - POINTS)
+    breaks_some(plan, base, m)
 }
 
 // The breaks of all points.

@@ -2,7 +2,6 @@
 use mathlib.Core.Path.{_≡_}
 use Prim.Native.Nat.{_-_, _≤_}
 use native.Mathlib.Omega.{arith}
-use lib.ListN.{getD}
 use Rattle.theory_loops.specs.Count.{count}
 use Rattle.plan_validate.specs.Breaks.{markWords, wordBreak, word-few, words}
 use borrow.Author.Needs.{needs}
@@ -40,24 +39,21 @@ add-le16-3 c = search needs
 le16-requires-2 : tie.Need-le16-requires-2 Inv-loop μ-loop
 le16-requires-2 c κs = search needs
 
-is-break-requires : tie.Need-is-break-requires Inv-loop μ-loop
-is-break-requires c κs = search needs
+mul-marked-break : tie.Need-mul-marked-break Inv-loop μ-loop
+mul-marked-break c = search needs
 
-mul-breaks : tie.Need-mul-breaks Inv-loop μ-loop
-mul-breaks c = search needs
+element-copy-out-marked-break : tie.Need-element-copy-out-marked-break Inv-loop μ-loop
+element-copy-out-marked-break c = search needs
 
-element-copy-out-breaks : tie.Need-element-copy-out-breaks Inv-loop μ-loop
-element-copy-out-breaks c = search needs
+marked-break-requires : tie.Need-marked-break-requires Inv-loop μ-loop
+marked-break-requires c κs = search needs
 
 add-breaks : tie.Need-add-breaks Inv-loop μ-loop
-add-breaks c =
+add-breaks c = let l = c .before .before .before .before .before in
     omega (
       arith,
-      word-few _ _ _ _ _
-          (getD (c .before .before .before .before .before .before .before .args .marks .now)
-          (c .before .before .before .before .before .loop .i) 0)
-          (c .before .before .before .before .before .loop .inv .1)
-          (c .before .is-break .ensures .1),
+      word-few _ _ _ _ _ _ (l .loop .inv .1) (c .before .before .before .before .loop-test .taken)
+          (l .before .before .pre .1) (c .marked-break .ensures .1),
     )
 
 add-i : tie.Need-add-i Inv-loop μ-loop
@@ -86,9 +82,9 @@ breaks-by-words-spec =
     add-le16-2
     add-le16-3
     le16-requires-2
-    is-break-requires
-    mul-breaks
-    element-copy-out-breaks
+    mul-marked-break
+    element-copy-out-marked-break
+    marked-break-requires
     add-breaks
     add-i
     loop-less
