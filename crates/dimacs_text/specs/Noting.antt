@@ -29,6 +29,7 @@ use Rattle.dimacs_text.specs.Reading.{readAll, judging}
 use Rattle.dimacs_text.specs.AcceptedExact.{refused-only}
 use Rattle.dimacs_text.specs.Arcs.{arcFirst, arcsOf, arcAt, nowhere}
 
+-- an end lowered by one, and a weight, in 16 bits; and so an arc's three entries
 abbrev pub lowered : ℕ → ℕ
 lowered end = (end + 65535) % 65536
 
@@ -57,6 +58,36 @@ pub record TablesLong (tails heads travels : List ℕ) : Type 0 where
   pub heads-long : length heads ≡ mostArcs
   pub travels-long : length travels ≡ mostArcs
 
+-- the first n of these arcs stand in a table, and in all three
+pub record Column (f : Arc → ℕ) (arcs : List Arc) (n : ℕ) (table : List ℕ) : Type 0 where
+  pub long : length table ≡ mostArcs
+  pub entry : (i : ℕ) → i < n → i < mostArcs → getD table i 0 ≡ f (arcAt arcs i)
+
+pub record Noted (arcs : List Arc) (n : ℕ) (tails heads travels : List ℕ) : Type 0 where
+  pub tails-are : Column tailOf arcs n tails
+  pub heads-are : Column headOf arcs n heads
+  pub travels-are : Column travelOf arcs n travels
+
+-- where reading stands in the arcs of a text: behind those that have been seen, and at none before the sizes
+pub record Counted (arcs later : List Arc) (r : Reading) : Type 0 where
+  pub rest : later ≡ drop (r .seen) arcs
+  pub unsized : r .sized ≡ false → (r .seen ≡ 0) × (r .arcs ≡ 0)
+
+-- the arcs of the lines before byte `at` are noted
+pub record NotedTo (text : List ℕ) (at : ℕ) (r : Reading) (tails heads travels : List ℕ) : Type 0 where
+  pub counted : Counted (arcsOf (linesOf text)) (arcsOf (linesOf (drop at text))) r
+  pub noted : Noted (arcsOf (linesOf text)) (r .seen) tails heads travels
+
+-- once all lines are read, the tables hold the arcs, unless a line was refused
+abbrev pub ReadInto : List ℕ → Reading → List ℕ → List ℕ → List ℕ → Type 0
+ReadInto text r tails heads travels =
+    r .stopped ≡ false → Noted (arcsOf (linesOf text)) (r .seen) tails heads travels
+
+-- THE JUDGEMENT of a text, with the arcs of one that is accepted in the tables
+pub record JudgedInto (text : List ℕ) (j : Judgement) (tails heads travels : List ℕ) : Type 0 where
+  pub told : j ≡ judging text
+  pub noted : (k : Sizes) → j ≡ Accepted k → Noted (arcsOf (linesOf text)) (k .arcs) tails heads travels
+
 -- FOR THE CODE: no entry is there to be written, and an arc's is written
 pub set-past : (table : List ℕ) (i v : ℕ) → length table ≡ mostArcs → mostArcs ≤ i → table ≡ set table i v
 set-past table i v l m = sym (set-out table i v (omega arith))
@@ -68,21 +99,7 @@ pub arc-entered : (f : Arc → ℕ) (shape : Shape) (a : Arc) (i : ℕ) (old new
     → new ≡ set old i (f a) → new ≡ entered f shape i old
 arc-entered f shape a i old new e g = rw e g
 
--- the first n of these arcs stand in a table, and in all three
-pub record Column (f : Arc → ℕ) (arcs : List Arc) (n : ℕ) (table : List ℕ) : Type 0 where
-  pub long : length table ≡ mostArcs
-  pub entry : (i : ℕ) → i < n → i < mostArcs → getD table i 0 ≡ f (arcAt arcs i)
-
-pub record Noted (arcs : List Arc) (n : ℕ) (tails heads travels : List ℕ) : Type 0 where
-  pub tails-are : Column tailOf arcs n tails
-  pub heads-are : Column headOf arcs n heads
-  pub travels-are : Column travelOf arcs n travels
-
--- WHERE READING STANDS in the arcs of a text: behind those that have been seen, and at none before the sizes
-pub record Counted (arcs later : List Arc) (r : Reading) : Type 0 where
-  pub rest : later ≡ drop (r .seen) arcs
-  pub unsized : r .sized ≡ false → (r .seen ≡ 0) × (r .arcs ≡ 0)
-
+-- ONE LINE MORE
 true-false : {P : Type 0} → _≡_ {A = Bool} true false → P
 true-false e = let z : _≡_ {A = ℕ} 0 1 = cc in absurd (omega arith)
 
@@ -150,11 +167,7 @@ module _ (arcs later : List Arc) (r : Reading) where
       }
   column-next f table Other h n c = true-false n
 
--- FOR THE LOOP over the lines: the arcs of those before byte `at` are noted
-pub record NotedTo (text : List ℕ) (at : ℕ) (r : Reading) (tails heads travels : List ℕ) : Type 0 where
-  pub counted : Counted (arcsOf (linesOf text)) (arcsOf (linesOf (drop at text))) r
-  pub noted : Noted (arcsOf (linesOf text)) (r .seen) tails heads travels
-
+-- FOR THE LOOP over the lines
 pub still-long : (text : List ℕ) (at : ℕ) (r : Reading) (tails heads travels : List ℕ)
     → NotedTo text at r tails heads travels → TablesLong tails heads travels
 still-long text at r tails heads travels h = record {
@@ -162,11 +175,6 @@ still-long text at r tails heads travels h = record {
   heads-long = h .noted .heads-are .long;
   travels-long = h .noted .travels-are .long;
 }
-
--- and what is known of the tables once all are read: they hold the arcs, unless a line was refused
-abbrev pub ReadInto : List ℕ → Reading → List ℕ → List ℕ → List ℕ → Type 0
-ReadInto text r tails heads travels =
-    r .stopped ≡ false → Noted (arcsOf (linesOf text)) (r .seen) tails heads travels
 
 pub noted-start : (text : List ℕ) (r : Reading) (tails heads travels : List ℕ) → r ≡ begun
     → TablesLong tails heads travels → NotedTo text 0 r tails heads travels
@@ -221,11 +229,7 @@ pub noted-off : (text : List ℕ) (r : Reading) (tails heads travels : List ℕ)
     → ReadInto text r tails heads travels
 noted-off text r tails heads travels s e = true-false (sym s ∙ e)
 
--- THE JUDGEMENT of a text, with the arcs of one that is accepted in the tables
-pub record JudgedInto (text : List ℕ) (j : Judgement) (tails heads travels : List ℕ) : Type 0 where
-  pub told : j ≡ judging text
-  pub noted : (k : Sizes) → j ≡ Accepted k → Noted (arcsOf (linesOf text)) (k .arcs) tails heads travels
-
+-- THE END
 fewer : (f : Arc → ℕ) (arcs : List Arc) (m n : ℕ) (table : List ℕ) → m ≤ n → Column f arcs n table
     → Column f arcs m table
 fewer f arcs m n table l c =
