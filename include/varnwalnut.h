@@ -16,8 +16,8 @@
  *
  * Threads: the functions have no state and may run at once on any number of threads, also on the same files.
  * Stack: below 24 KB for each function but four: varnwalnut_check_plan needs below 64 KB,
- * varnwalnut_make_plan below 56 KB, varnwalnut_day_sheet below 32 KB, and varnwalnut_pack_network about
- * 280 KB. varnwalnut_import_dimacs needs below 1 KB.
+ * varnwalnut_make_plan below 56 KB, varnwalnut_day_sheet below 32 KB and varnwalnut_import_dimacs below 26 KB.
+ * varnwalnut_pack_network needs below 1 KB.
  *
  * Link with libvarnwalnut.a: cc program.c -Iinclude target/staticlib/libvarnwalnut.a
  */
@@ -30,6 +30,9 @@
 #ifdef __cplusplus
 extern "C" {
 #endif
+
+/* The interface's version. Wishes of document 02 that are built make its second number. */
+#define VARNWALNUT_VERSION "0.7.0"
 
 /* Limits. */
 enum {
@@ -50,45 +53,54 @@ enum {
 /*
  * Refusals. The lowest number wins, then the lowest place, but for 37, which comes straight after 7, over all
  * places; a function with another order names it. In brackets: what the three places say; places that are not
- * named are 0. Where counts do not add up, the place is how many roads or profiles there are.
+ * named are 0. Where counts do not add up, the place is how many roads or profiles there are. The sentences
+ * are those of varnwalnut_text.h.
  */
 enum {
     VARNWALNUT_OK = 0,
 
     /* the network file */
-    VARNWALNUT_NETWORK_LENGTH = 1,  /* its length is zero, no multiple of 512, or above 558 blocks */
-    VARNWALNUT_NETWORK_SUM = 2,     /* a block's check is wrong (block) */
-    VARNWALNUT_NETWORK_FIRST = 3,   /* the first block's kind, number, entries, byte 1 or fill */
-    VARNWALNUT_NETWORK_LIMITS = 4,  /* the header's numbers are outside the limits */
-    VARNWALNUT_NETWORK_SIZE = 5,    /* its length is not what the header calls for */
-    VARNWALNUT_NETWORK_FORM = 6,    /* a later block's kind, number, entries, byte 1 or fill (block) */
-    VARNWALNUT_NETWORK_CELL = 7,    /* a cell is not below the count of cells (place) */
-    VARNWALNUT_NETWORK_HOURS = 37,  /* a place's open tick is not below its close tick, or that one above the
-                                       period; without hours: it is not open all day (place) */
-    VARNWALNUT_NETWORK_ROAD = 8,    /* a road's ends or count of points (road); the counts' sum (roads) */
-    VARNWALNUT_NETWORK_POINT = 9,   /* a point's tick or travel (point) */
-    VARNWALNUT_NETWORK_FIFO = 10,   /* leaving later would arrive earlier (the earlier point) */
+    VARNWALNUT_NETWORK_LENGTH = 1,  /* the network's length is zero, no multiple of 512, or above 558
+                                       blocks */
+    VARNWALNUT_NETWORK_SUM = 2,     /* the check of a block of the network is wrong (block) */
+    VARNWALNUT_NETWORK_FIRST = 3,   /* the network's first block is wrong: kind, number, entries, byte 1 or
+                                       fill */
+    VARNWALNUT_NETWORK_LIMITS = 4,  /* the numbers of the network's header are outside the limits */
+    VARNWALNUT_NETWORK_SIZE = 5,    /* the network's length is not what its header calls for */
+    VARNWALNUT_NETWORK_FORM = 6,    /* a later block of the network is wrong: kind, number, entries, byte 1
+                                       or fill (block) */
+    VARNWALNUT_NETWORK_CELL = 7,    /* a place's cell is not below the count of cells (place) */
+    VARNWALNUT_NETWORK_HOURS = 37,  /* a place's open tick is not below its close tick, or that one is
+                                       above the period; without hours: it is not open all day (place) */
+    VARNWALNUT_NETWORK_ROAD = 8,    /* a road's ends or its count of points are wrong, or the counts do not
+                                       add up (road or count of roads) */
+    VARNWALNUT_NETWORK_POINT = 9,   /* a point's tick or travel is wrong (point) */
+    VARNWALNUT_NETWORK_FIFO = 10,   /* leaving later would arrive earlier (earlier point) */
 
     /* the plan file */
-    VARNWALNUT_PLAN_LENGTH = 11,    /* its length is zero, no multiple of 512, or above 13,718 blocks */
-    VARNWALNUT_PLAN_SUM = 12,       /* a block's check is wrong (block) */
-    VARNWALNUT_PLAN_FIRST = 13,     /* the first block's kind, number, entries, byte 1 or fill */
-    VARNWALNUT_PLAN_OTHER = 14,     /* it is for another network, or has too many profile points */
-    VARNWALNUT_PLAN_SIZE = 15,      /* its length is not what the header calls for */
-    VARNWALNUT_PLAN_FORM = 16,      /* a later block's kind, number, entries, byte 1 or fill (block) */
-    VARNWALNUT_PLAN_FLAG = 17,      /* a flag for a cell that is not there (road) */
-    VARNWALNUT_PLAN_COUNT = 18,     /* a profile's count of points (profile); the counts' sum (profiles) */
-    VARNWALNUT_PLAN_TICK = 19,      /* a profile point's tick (point) */
+    VARNWALNUT_PLAN_LENGTH = 11,    /* the plan's length is zero, no multiple of 512, or above 13,718
+                                       blocks */
+    VARNWALNUT_PLAN_SUM = 12,       /* the check of a block of the plan is wrong (block) */
+    VARNWALNUT_PLAN_FIRST = 13,     /* the plan's first block is wrong: kind, number, entries, byte 1 or
+                                       fill */
+    VARNWALNUT_PLAN_OTHER = 14,     /* the plan is for another network, or has too many profile points */
+    VARNWALNUT_PLAN_SIZE = 15,      /* the plan's length is not what its header calls for */
+    VARNWALNUT_PLAN_FORM = 16,      /* a later block of the plan is wrong: kind, number, entries, byte 1 or
+                                       fill (block) */
+    VARNWALNUT_PLAN_FLAG = 17,      /* a flag is for a cell that is not there (road) */
+    VARNWALNUT_PLAN_COUNT = 18,     /* a profile's count of points is above the period, or the counts do
+                                       not add up (profile or count of profiles) */
+    VARNWALNUT_PLAN_TICK = 19,      /* a profile point's tick is wrong (point) */
 
-    /* the check of a plan; from 21 on (border index, place, tick) */
+    /* the check of a plan; a border is told by its index */
     VARNWALNUT_CHECK_INSIDE = 20,   /* a road inside a cell has not that cell's flag (road) */
-    VARNWALNUT_CHECK_BORDER = 21,   /* a border's own profile is not 0 */
-    VARNWALNUT_CHECK_LESS = 22,     /* a road gives less travel than the profile says */
-    VARNWALNUT_CHECK_NO_ROAD = 23,  /* no road gives the travel that the profile says */
-    VARNWALNUT_CHECK_NO_FLAG = 24,  /* roads give it, none of them with the flag */
+    VARNWALNUT_CHECK_BORDER = 21,   /* a border's own profile is not 0 (border, place, tick) */
+    VARNWALNUT_CHECK_LESS = 22,     /* a road gives less travel than the profile says (border, place, tick) */
+    VARNWALNUT_CHECK_NO_ROAD = 23,  /* no road gives the travel that the profile says (border, place, tick) */
+    VARNWALNUT_CHECK_NO_FLAG = 24,  /* roads give it, none of them with the flag (border, place, tick) */
 
     /* the call */
-    VARNWALNUT_PLACE = 25,          /* from, or else to, is no place (that number) */
+    VARNWALNUT_PLACE = 25,          /* from, or else to, is no place (number) */
     VARNWALNUT_DEPARTURE = 26,      /* the departure is not below the period */
     VARNWALNUT_ARRIVALS_SHORT = 27, /* the list of arrivals is shorter than the count of places */
     VARNWALNUT_NO_WAY = 28,         /* there is no way */
@@ -101,8 +113,10 @@ enum {
     VARNWALNUT_WORK_SHORT = 34,     /* the work list is shorter than ticks x places */
 
     /* the import of a text */
-    VARNWALNUT_TEXT_FORM = 35,      /* a line's form or order (line); sizes or arcs are missing (lines) */
-    VARNWALNUT_TEXT_VALUE = 36      /* an arc's ends or weight, or sizes outside the limits (line) */
+    VARNWALNUT_TEXT_FORM = 35,      /* a line's form or order is wrong, or sizes or arcs are missing (line
+                                       or count of lines) */
+    VARNWALNUT_TEXT_VALUE = 36      /* an arc's ends or weight are wrong, or sizes are outside the limits
+                                       (line) */
 };
 
 /*

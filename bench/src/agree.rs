@@ -4,6 +4,7 @@ use crate::finds;
 use crate::library;
 use crate::plain::blocks::{sums, BLOCK};
 use crate::plain::network::{self, Header, Tables};
+use crate::plain::pack::Lists;
 use crate::plain::trips::{self, Arrived, Ask};
 use crate::plain::{check, day, import, pack, Refusal};
 use crate::texts::{self, Text};
@@ -27,15 +28,20 @@ pub struct Opened {
 
 impl Opened {
     pub fn room() -> Opened {
+        Opened::marked(0)
+    }
+
+    /// With the same number in every entry.
+    pub fn marked(mark: u16) -> Opened {
         Opened {
-            cells: vec![0; 512],
-            opens: vec![0; 512],
-            closes: vec![0; 512],
-            tails: vec![0; 2048],
-            heads: vec![0; 2048],
-            counts: vec![0; 2048],
-            ticks: vec![0; 65_535],
-            travels: vec![0; 65_535],
+            cells: vec![mark; 512],
+            opens: vec![mark; 512],
+            closes: vec![mark; 512],
+            tails: vec![mark; 2048],
+            heads: vec![mark; 2048],
+            counts: vec![mark; 2048],
+            ticks: vec![mark; 65_535],
+            travels: vec![mark; 65_535],
         }
     }
 
@@ -49,6 +55,20 @@ impl Opened {
             counts: &mut self.counts,
             ticks: &mut self.ticks,
             travels: &mut self.travels,
+        }
+    }
+
+    /// The same for Pack.
+    pub fn lists(&self) -> Lists<'_> {
+        Lists {
+            cells: &self.cells,
+            opens: &self.opens,
+            closes: &self.closes,
+            tails: &self.tails,
+            heads: &self.heads,
+            counts: &self.counts,
+            ticks: &self.ticks,
+            travels: &self.travels,
         }
     }
 }

@@ -5,7 +5,7 @@ use crate::plain::trips::Ask;
 use crate::plain::Refusal;
 use crate::town::{self, Town};
 
-fn quay_town() -> Town {
+pub fn quay_town() -> Town {
     Town {
         number: 1,
         period: 10,

@@ -2,6 +2,7 @@
 use crate::agree::{self, Opened};
 use crate::files::{self, Files};
 use crate::measure::{interleave, spread, Work};
+use crate::plain::network::Header;
 use crate::plain::trips::{self, Ask};
 use crate::plain::{check, day, import, network, pack, Refusal};
 use crate::texts::Text;
@@ -11,8 +12,20 @@ use std::hint::black_box;
 
 pub struct Effort {
     pub rounds: usize,
-    pub checks: usize,
+    pub checks: Option<usize>,
     pub only: String,
+}
+
+impl Effort {
+    /// Rounds of the check of the full town.
+    pub fn full_checks(&self) -> usize {
+        self.checks.unwrap_or(3)
+    }
+
+    /// Rounds of the check and of making a plan, beside another library.
+    pub fn long_rounds(&self) -> usize {
+        self.checks.unwrap_or(self.rounds.min(9))
+    }
 }
 
 /// A town with its files and the trips that are asked for.
@@ -23,26 +36,31 @@ pub struct Subject {
     asks: Vec<Ask>,
 }
 
-const ASKS: usize = 64;
+pub const ASKS: usize = 64;
 
 /// Refused with 25, once all files are validated: validation alone.
-const NOWHERE: [Ask; 1] = [Ask { from: u32::MAX, to: 0, departure: 0 }];
+pub const NOWHERE: [Ask; 1] = [Ask { from: u32::MAX, to: 0, departure: 0 }];
 
 /// Arrived before anything is settled: a search's own tables alone.
 const HOME: [Ask; 1] = [Ask { from: 0, to: 0, departure: 0 }];
+
+/// The trips that are asked for in a town, the same in every run.
+pub fn asks(header: &Header) -> Vec<Ask> {
+    let mut dice = Dice::new(2);
+    let last = header.nodes as u64 - 1;
+    let ask = |_| Ask {
+        from: dice.within(0, last) as u32,
+        to: dice.within(0, last) as u32,
+        departure: dice.within(0, header.period as u64 - 1) as u32,
+    };
+    (0..ASKS).map(ask).collect()
+}
 
 impl Subject {
     pub fn new(name: &'static str, shape: &Shape) -> Subject {
         let town = town::make(shape);
         let files = files::make(&town);
-        let mut dice = Dice::new(2);
-        let last = town.cells.len() as u64 - 1;
-        let mut ask = |_| Ask {
-            from: dice.within(0, last) as u32,
-            to: dice.within(0, last) as u32,
-            departure: dice.within(0, town.period as u64 - 1) as u32,
-        };
-        let asks = (0..ASKS).map(&mut ask).collect();
+        let asks = asks(&files::header(&town));
         Subject { name, town, files, asks }
     }
 

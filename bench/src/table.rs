@@ -1,9 +1,14 @@
-//! The lines of the table: an operation, a town, both times with their quartiles, and the ratio of the library's to Rust's.
+//! The lines of the table: an operation, a town, both times with their quartiles, and the ratio of the
+//! library's to the other's.
 use crate::measure::{spread, Spread, Times};
 use std::ops::RangeInclusive;
 
-pub const HEAD: &str = "
-operation                town   library (quartiles)        Rust (quartiles)           RATIO (quartiles)";
+/// The line above the others, beside an empty one; a town's name takes so many characters.
+pub fn print_head(town: usize, other: &str) {
+    let other = format!("{other} (quartiles)");
+    let library = "library (quartiles)";
+    println!("\n{:24} {:town$} {library:26} {other:26} RATIO (quartiles)", "operation", "town");
+}
 
 /// Median and quartiles in the unit that suits the median.
 fn times(spread: Spread) -> String {
@@ -17,17 +22,15 @@ fn times(spread: Spread) -> String {
     format!("{median} ({low} to {high}) {unit}")
 }
 
-pub fn print(operation: &str, town: &str, library: &Times, rust: &Times) {
-    let (left, ours) = (spread(&library.0), spread(&rust.0));
-    let rounds = spread(&library.over(rust));
-    println!(
-        "{operation:24} {town:6} {:26} {:26} {:.2} ({:.2} to {:.2})",
-        times(left),
-        times(ours),
-        left.median / ours.median,
-        rounds.low,
-        rounds.high
-    );
+/// A row; its ratio is that of the medians, and is answered too.
+pub fn print(operation: &str, town: &str, library: &Times, other: &Times) -> f64 {
+    let (left, right) = (spread(&library.0), spread(&other.0));
+    let rounds = spread(&library.over(other));
+    let ratio = left.median / right.median;
+    let (library, other) = (times(left), times(right));
+    let Spread { low, high, .. } = rounds;
+    println!("{operation:24} {town:6} {library:26} {other:26} {ratio:.2} ({low:.2} to {high:.2})");
+    ratio
 }
 
 /// A line below an operation that reads some bytes: how fast it does.

@@ -1,4 +1,6 @@
 //! Road files, made deterministically: remarks alone, arcs alone, and a long text of both. Each has one line of sizes.
+use crate::plain::network::Header;
+use crate::plain::pack::Lists;
 use crate::town::{Dice, PERIOD};
 
 const NODES: u64 = 512;
@@ -49,6 +51,18 @@ fn make(name: &'static str, remarks: usize, arcs: usize, between: usize) -> Text
 
 pub fn all() -> [Text; 3] {
     [make("remark", REMARKS, 0, 0), make("arcs", 0, ARCS, 0), make("mixed", 0, ARCS, BETWEEN)]
+}
+
+/// The roads of a network as a text: a road's weight is the travel of its first point.
+pub fn of_roads(header: &Header, lists: &Lists) -> Vec<u8> {
+    let mut text = format!("p sp {} {}\n", header.nodes, header.arcs);
+    let mut point = 0;
+    for (arc, &count) in lists.counts[..header.arcs as usize].iter().enumerate() {
+        let (tail, head) = (lists.tails[arc] + 1, lists.heads[arc] + 1);
+        text += &format!("a {tail} {head} {}\n", lists.travels[point]);
+        point += count as usize;
+    }
+    text.into_bytes()
 }
 
 /// Bytes that tell lines and fields apart.

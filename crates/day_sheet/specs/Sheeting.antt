@@ -32,7 +32,7 @@ use Rattle.network.specs.Town.{graphOf}
 use Rattle.network.specs.Validate.{unopened, validated}
 use Rattle.network.specs.Valid.{ValidFile, valid-exactly}
 use Rattle.search_arcs.specs.Town.{Town}
-use Rattle.toward_node.specs.Rows.{Worked}
+use Rattle.toward_node.specs.Rows.{WorkedRow}
 use Rattle.toward_node.specs.Turn.{modest}
 use Rattle.toward_node.specs.Work.{size-is, work-cleared}
 use Rattle.trip_call.specs.Stage.{not-opened, one-header, then-passed}
@@ -118,7 +118,7 @@ pub record Lists (n : Network) (from to : ℕ) (list₀ list₁ : List ℕ) (r :
   pub list : list₁ ≡ listAfter r (dayArrivals n from to) list₀
 
 module _ {file : List ℕ} {l : Layout} (town : Town file l) {from to p : ℕ} {W : List ℕ} (a : from < l .nodes)
-    (w : Worked (graphOf (decode file)) to W) (q : p ≡ from * l .period) where
+    (w : WorkedRow (graphOf (decode file)) to from W) (q : p ≡ from * l .period) where
   abbrev n : Network
   n = decode file
 
@@ -135,7 +135,7 @@ module _ {file : List ℕ} {l : Layout} (town : Town file l) {from to p : ℕ} {
   unfolding gridAt
   row t h =
       let z : t < g .period = omega (arith, town .sizes .period) in
-      rw (q, town .sizes .period) (w .at from t node z)
+      rw (q, town .sizes .period) (w .at t z)
 
   first : getD W p 0 ≡ leastTicks g to from 0
   first =

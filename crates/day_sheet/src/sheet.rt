@@ -14,7 +14,7 @@ use network::limits::NEVER;
 use search_arcs::chain;
 use search_arcs::chain::End;
 use search_arcs::times;
-use toward_node::least_travels;
+use toward_node::least_travels_from;
 use toward_node::leasts::least_of_arcs;
 use toward_node::row_place;
 use toward_node::work::zero;
@@ -27,15 +27,15 @@ ghost use Rattle.network.specs.Decode.{decode};
 ghost use Rattle.network.specs.Town.{graphOf};
 ghost use Rattle.network.specs.Valid.{ValidFile};
 ghost use Rattle.search_arcs.specs.Town.{Town};
-ghost use Rattle.toward_node.specs.Rows.{Worked};
+ghost use Rattle.toward_node.specs.Rows.{WorkedRow};
 ghost use Rattle.day_sheet.specs.Sheet.{SheetCall, DaySheet};
 ghost use Rattle.day_sheet.specs.Sheeting.{Asked, EarlyRow, Lists, arrivalIn};
 
-// The least travels to a node, at every tick.
-fn travels_to(file: &[u8], l: Layout, to: usize, work: &mut [u32])
+// The least travels from a node to another, at every tick, in the row of the first.
+fn travels_to(file: &[u8], l: Layout, from: usize, to: usize, work: &mut [u32])
     requires { ⌜ Town (now file) l ⌝ }
-    requires { ⌜ (to < l .nodes) × (length (now work) ≡ l .nodes * l .period) ⌝ }
-    ensures { λ _. ⌜ Worked (graphOf (decode (now (file .entry)))) to (now (work .exit)) ⌝ }
+    requires { ⌜ (from < l .nodes) × (to < l .nodes) × (length (now work) ≡ l .nodes * l .period) ⌝ }
+    ensures { λ _. ⌜ WorkedRow (graphOf (decode (now (file .entry)))) to from (now (work .exit)) ⌝ }
 {
     let mut starts = [0u16; MOST_ARCS];
     times::first_points(file, l, &mut starts);
@@ -45,7 +45,18 @@ fn travels_to(file: &[u8], l: Layout, to: usize, work: &mut [u32])
     let mut least = [0u16; MOST_ARCS];
     least_of_arcs(file, l, &starts, &mut least);
     let mut row = [0u32; MOST_PERIOD];
-    least_travels(file, l, &starts, &into, &next, &least, to, work, &mut row);
+    least_travels_from(
+        file,
+        l,
+        &starts,
+        &into,
+        &next,
+        &least,
+        to,
+        from,
+        work,
+        &mut row,
+    );
 }
 
 // The arrivals at the ticks of a day, by a row of travels that starts at place p.
@@ -74,7 +85,7 @@ fn list_day(
         × (l .period ≤ length (now list)) ⌝ }
     ensures { λ r. ⌜ Lists (decode (now (file .entry))) from to (now (list .entry)) (now (list .exit)) r ⌝ }
 {
-    travels_to(file, l, to, work);
+    travels_to(file, l, from, to, work);
     let p = row_place(l, from);
     if work[p] == NEVER {
         return unlisted(NO_WAY);

@@ -2,13 +2,12 @@
 -- call.
 use mathlib.Core.Path.{_≡_, refl, sym, _∙_}
 use mathlib.Core.List.{List, [], map}
-use Prim.Native.Nat.{ℕ, _-_, _≤_, _<_}
+use Prim.Native.Nat.{ℕ, _-_}
 use lib.ListN.{length, replicate}
-use Rattle.theory_loops.specs.Fill.{overwritten}
 use Rattle.file_refusals.specs.declared.Refusal.{Refusal}
 use Rattle.file_refusals.specs.declared.writing.Writing.{Writing}
-use Rattle.file_refusals.specs.declared.writing.Writing.the-variants.{Written, Refused}
-use Rattle.file_refusals.specs.Writing.{unwritten, writtenInto, Writes, into-short, into-whole}
+use Rattle.file_refusals.specs.declared.writing.Writing.the-variants.{Refused}
+use Rattle.file_refusals.specs.Writing.{writtenInto, Writes}
 use Rattle.network.specs.Limits.{mostPeriod}
 use Rattle.network.specs.Network.{Network}
 use Rattle.network_encode.specs.Encode.{encode}
@@ -63,7 +62,7 @@ abbrev pub ImportCall : List ℕ → ℕ → List ℕ → List ℕ → Writing �
 ImportCall text number before after r =
     Writes (importing text number (length before)) (importedFile number text) before after r
 
--- FOR THE CODE: a text that is refused; 31; and the file written
+-- FOR THE CODE: a text that is refused, and one that is accepted
 module _ (text : List ℕ) (number : ℕ) (before : List ℕ) where
   pub import-refused : (j : Judgement) (q : Refusal) → j ≡ judging text → j ≡ Rejected q
       → ImportCall text number before before (Refused q)
@@ -71,23 +70,8 @@ module _ (text : List ℕ) (number : ℕ) (before : List ℕ) where
       let g : judging text ≡ Rejected q = sym e ∙ f in
       record { answer = rw g; written = refl }
 
-  module _ (k : Sizes) (e : judging text ≡ Accepted k) (long : ℕ)
-      (l : long ≡ length (encode (imported number (k .nodes) (linesOf text)))) where
-    abbrev file : List ℕ
-    file = encode (imported number (k .nodes) (linesOf text))
-
-    told : (after : List ℕ) (r : Writing)
-        → Writes (writtenInto (length file) (length before)) file before after r
-        → ImportCall text number before after r
-    told after r w = rw e w
-
-    pub import-short : (r : Writing) → length before < long → r ≡ unwritten 31
-        → ImportCall text number before before r
-    import-short r m f = told before r (into-short file before r (rw l at m) f)
-
-    pub import-whole : (after : List ℕ) (bytes : ℕ) → bytes ≡ long → long ≤ length before
-        → after ≡ overwritten (encode (imported number (k .nodes) (linesOf text))) before
-        → ImportCall text number before after (Written (record { bytes = bytes }))
-    import-whole after bytes b m f =
-        rw (b, l)
-        (told after (Written (record { bytes = length file })) (into-whole file before after (rw l at m) f))
+  pub import-accepted : (k : Sizes) → judging text ≡ Accepted k → (file : List ℕ)
+      → file ≡ encode (imported number (k .nodes) (linesOf text)) → (after : List ℕ) (r : Writing)
+      → Writes (writtenInto (length file) (length before)) file before after r
+      → ImportCall text number before after r
+  import-accepted k e file f after r w = rw (e, ← f) w

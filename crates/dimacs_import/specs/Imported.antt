@@ -1,7 +1,7 @@
 -- The network that a text gives: its entries, and that those of an accepted text are proper and sound.
-use mathlib.Core.Path.{_≡_, sym, _∙_, ap}
+use mathlib.Core.Path.{_≡_, sym, _∙_}
 use mathlib.Core.List.{List, map}
-use Prim.Native.Nat.{ℕ, _-_, _≤_, _<_}
+use Prim.Native.Nat.{ℕ, _-_, _<_}
 use native.Mathlib.Decide.{decLt}
 use native.Mathlib.Omega.{arith}
 use lib.ListN.{length, getD, replicate, length-map, length-replicate, getD-replicate, List·getD-map}
@@ -16,6 +16,7 @@ use Rattle.dimacs_line.specs.declared.line.Sizes.{Sizes}
 use Rattle.dimacs_line.specs.declared.line.Arc.{Arc}
 use Rattle.dimacs_text.specs.declared.judge.Judgement.the-variants.{Accepted}
 use Rattle.dimacs_text.specs.Reading.{judging}
+use Rattle.dimacs_text.specs.Accepted.{Within}
 use Rattle.dimacs_text.specs.AcceptedExact.{accepted-exactly}
 use Rattle.dimacs_text.specs.Arcs.{arcsOf, arcAt, nowhere, Fit, text-arcs, text-fit}
 use Rattle.dimacs_import.specs.Import.{networkBy}
@@ -81,15 +82,15 @@ module _ (number : ℕ) (k : Sizes) (arcs : List Arc) (f : Fit k arcs) where
         hours = 0;
       }
 
-  pub header-within : WithinLimits (headerFor number k)
-  header-within = record {
-    period-some = lit≤ tt;
-    period-most = lit≤ tt;
-    nodes-some = f .within .some;
-    nodes-most = f .within .nodes-few;
-    arcs-most = f .within .arcs-few;
-    cells-some = lit≤ tt;
-    cells-most = lit≤ tt;
-    points-most = omega (arith, f .within .arcs-few);
-    hours-most = lit≤ tt;
-  }
+pub header-within : (number : ℕ) (k : Sizes) → Within k → WithinLimits (headerFor number k)
+header-within number k w = record {
+  period-some = lit≤ tt;
+  period-most = lit≤ tt;
+  nodes-some = w .some;
+  nodes-most = w .nodes-few;
+  arcs-most = w .arcs-few;
+  cells-some = lit≤ tt;
+  cells-most = lit≤ tt;
+  points-most = omega (arith, w .arcs-few);
+  hours-most = lit≤ tt;
+}

@@ -1,7 +1,7 @@
--- Import: what it answers and writes (Import), the laws by which the arcs are put (Entering), the network
--- that a text gives (Imported), and what opening its file shows (Promise).
+-- Import: what it answers and writes (Import), the network that a text gives (Imported), its file by tables
+-- of noted arcs (Roads), and what opening its file shows (Sound, Promise).
 pub mod Import
 pub mod Imported
-pub mod Entering
+pub mod Roads
 pub mod Sound
 pub mod Promise

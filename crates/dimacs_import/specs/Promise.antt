@@ -1,13 +1,13 @@
 -- What an import is good for: where a text is imported, it is one that the wish describes, and opening the
 -- file shows each of its arcs once, in order, nodes lowered by one, its weight the travel at every tick
 -- (`imported-opens`); where it is not, the refusal is 35, 36 or 31 (`import-numbers`).
-use mathlib.Core.Path.{_≡_, refl, sym, _∙_, ap, subst, subst⁻¹}
+use mathlib.Core.Path.{_≡_, refl, sym, _∙_, ap, subst⁻¹}
 use mathlib.Core.Logic.{_⊎_, inl, inr}
 use mathlib.Core.Bool.{false, cond}
-use mathlib.Core.List.{List, map}
+use mathlib.Core.List.{List}
 use Prim.Native.Nat.{ℕ, _-_, _^_, _<_}
 use native.Mathlib.Omega.{arith}
-use lib.ListN.{length, getD, take, replicate, List·getD-append, length-map, length-replicate}
+use lib.ListN.{length, getD, take, List·getD-append, length-map, length-replicate}
 use lib.ListN.{getD-replicate}
 use lib.Seq.{take-at}
 use lib.Dec.{eqb, ltb}
@@ -24,7 +24,7 @@ use Rattle.network.specs.declared.answer.Opening.the-variants.{Opened}
 use Rattle.network.specs.declared.header.Header.{Header}
 use Rattle.network.specs.Limits.{mostPeriod}
 use Rattle.network.specs.Decode.{decode}
-use Rattle.network.specs.Network.{Network, cell, tail, head, count, tick, travel}
+use Rattle.network.specs.Network.{Network}
 use Rattle.network.specs.Tables.{Tables}
 use Rattle.network.specs.Town.{travelAt}
 use Rattle.network.specs.Valid.{valid-exactly}

@@ -1,17 +1,17 @@
 -- The network of an accepted text fits its file's fields (`imported-proper`) and meets the rules 7 to 10
 -- (`imported-sound`); an arc's travel is its weight at every tick (`imported-travel`).
-use mathlib.Core.Path.{_≡_, refl, sym, _∙_, ap, subst}
-use mathlib.Core.List.{List, map}
-use Prim.Native.Nat.{ℕ, zero, suc, _+_, _-_, _^_, _≤_, _<_}
+use mathlib.Core.Path.{_≡_, refl, sym, _∙_, subst}
+use mathlib.Core.List.{List}
+use Prim.Native.Nat.{ℕ, zero, suc, _+_, _^_, _≤_, _<_}
 use native.Mathlib.Decide.{decLt}
 use native.Mathlib.Omega.{arith}
 use lib.ListN.{length, getD, replicate, length-map, length-replicate, getD-replicate, List·getD-eq-default}
 use lib.Dec.{lit≤}
 use Rattle.theory_loops.specs.Total.{total}
-use Rattle.theory_travel.specs.Day.{closed, closed-in, closed-end, day-least, day-most}
+use Rattle.theory_travel.specs.Day.{closed-in, closed-end, day-least, day-most}
 use Rattle.theory_travel.specs.Table.{entryAt}
 use Rattle.network.specs.Limits.{mostNodes, mostPeriod, WithinLimits}
-use Rattle.network.specs.Network.{Network, nodes, arcs, points, cell, tail, head, count, tick, travel, start}
+use Rattle.network.specs.Network.{Network, nodes, arcs, count, start}
 use Rattle.network.specs.Rules.{ticksOf, travelsOf}
 use Rattle.network.specs.Sound.{SoundHours, SoundArc, SoundPoints, SoundNetwork}
 use Rattle.network.specs.Town.{travelAt}
@@ -53,7 +53,7 @@ module _ (number : ℕ) (k : Sizes) (roads : List Arc) (f : Fit k roads) where
 
   pub imported-proper : number < 2 ^ 32 → Proper n
   imported-proper b = record {
-    within = subst WithinLimits (header-is number k roads f) (header-within number k roads f);
+    within = subst WithinLimits (header-is number k roads f) (header-within number k (f .within));
     number-fits = b;
     opens-long = refl;
     closes-long = length-replicate (k .nodes) mostPeriod ∙ sym (length-replicate (k .nodes) 0);

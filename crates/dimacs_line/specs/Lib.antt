@@ -1,3 +1,5 @@
--- What the lines of a road file are (Shape), and that the scan takes exactly these for it (ShapeExact).
+-- What the lines of a road file are (Shape), that the scan takes exactly these for it (ShapeExact), and the
+-- line that starts at a place of a text (Next).
 pub mod Shape
 pub mod ShapeExact
+pub mod Next

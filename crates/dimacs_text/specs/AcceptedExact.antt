@@ -101,7 +101,7 @@ zero-one : _≡_ {A = ℕ} 0 1 → ⊥
 zero-one z = omega arith
 
 -- WHAT IS LOST: a reading that is stopped, or that has noted a wrong line, is not accepted
-refused-only : (t : Bool) (a : Judgement) (q : Refusal) (k : Sizes) → cond t (Refused q) a ≡ Accepted k
+pub refused-only : (t : Bool) (a : Judgement) (q : Refusal) (k : Sizes) → cond t (Refused q) a ≡ Accepted k
     → (t ≡ false) × (a ≡ Accepted k)
 refused-only t a q k e = passed-by t (Refused q) a (Accepted k) (λ f. zero-one (cc)) e
 

@@ -1,18 +1,20 @@
 // The whole text of a road file, line by line: refusal 35 where its form or order is wrong, 36 where a size,
-// an end or a weight is; else its sizes.
+// an end or a weight is; else its sizes, with its arcs noted.
+use crate::noting::note_line;
 use crate::reading::Reading;
 use crate::reading::begun;
 use crate::reading::step;
 use dimacs_line::line::Sizes;
-use dimacs_line::line::shape_of;
+use dimacs_line::next::next_line;
 use file_refusals::Refusal;
 use file_refusals::number;
 use file_refusals::refuse;
-use text_numbers::lines::line_end;
+use network::limits::MOST_ARCS;
 ghost use mathlib.Core.Path.{_≡_};
 ghost use Rattle.text_numbers.specs.Lines.{linesOf};
 ghost use Rattle.dimacs_text.specs.Reading as readings;
-ghost use Rattle.dimacs_text.specs.Reading.{readAll, tellable, unfinished, judging};
+ghost use Rattle.dimacs_text.specs.Reading.{readAll, tellable, unfinished};
+ghost use Rattle.dimacs_text.specs.Noting.{TablesLong, ReadInto, JudgedInto};
 
 pub enum Judgement {
     Accepted(Sizes),
@@ -55,15 +57,25 @@ fn judged(r: Reading) -> Judgement
     })
 }
 
-// All lines of a text, up to one that is refused.
-fn read(text: &[u8]) -> Reading
-    ensures { λ r. ⌜ r ≡ readAll readings.begun (linesOf (now (text .entry))) ⌝ }
+// All lines of a text, up to one that is refused, with their arcs noted.
+fn read(
+    text: &[u8],
+    tails: &mut [u16; MOST_ARCS],
+    heads: &mut [u16; MOST_ARCS],
+    travels: &mut [u16; MOST_ARCS],
+) -> Reading
+    requires { ⌜ TablesLong (now tails) (now heads) (now travels) ⌝ }
+    ensures { λ r. ⌜ (r ≡ readAll readings.begun (linesOf (now (text .entry))))
+        × ReadInto (now (text .entry)) r (now (tails .exit)) (now (heads .exit)) (now (travels .exit)) ⌝ }
 {
     let mut r = begun();
     let mut at = 0;
     while at < text.len() {
-        let end = line_end(text, at);
-        r = step(r, shape_of(&text[at..end]));
+        let line = next_line(text, at);
+        let shape = line.shape;
+        let end = line.end;
+        note_line(shape, r.seen as usize, tails, heads, travels);
+        r = step(r, shape);
         if r.stopped {
             return r;
         }
@@ -72,9 +84,16 @@ fn read(text: &[u8]) -> Reading
     r
 }
 
-// The judgement of a text.
-pub fn judge(text: &[u8]) -> Judgement
-    ensures { λ r. ⌜ r ≡ judging (now (text .entry)) ⌝ }
+// The judgement of a text, with the arcs of one that is accepted in the tables.
+pub fn judge(
+    text: &[u8],
+    tails: &mut [u16; MOST_ARCS],
+    heads: &mut [u16; MOST_ARCS],
+    travels: &mut [u16; MOST_ARCS],
+) -> Judgement
+    requires { ⌜ TablesLong (now tails) (now heads) (now travels) ⌝ }
+    ensures { λ r. ⌜ JudgedInto (now (text .entry)) r (now (tails .exit)) (now (heads .exit))
+        (now (travels .exit)) ⌝ }
 {
-    judged(read(text))
+    judged(read(text, tails, heads, travels))
 }

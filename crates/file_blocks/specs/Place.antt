@@ -1,7 +1,7 @@
 -- Where the entries of a kind stand. A kind's blocks are a run from block `from` on, with `per` entries of
 -- `size` bytes a block, all blocks but the last full: entry i is entry i % per of block from + i / per.
 -- Nothing here says what an entry means.
-use mathlib.Core.Path.{_≡_, sym, _∙_, ap}
+use mathlib.Core.Path.{_≡_, _∙_, ap}
 use mathlib.Core.List.{List}
 use Prim.Native.Nat.{ℕ, _+_, _-_, _*_, _/_, _%_, _^_, _≤_, _<_, min}
 use native.Mathlib.Nat.{mod-lt, mul-le-mul-left, le-div-iff-mul-le, div-mul-le-self, div-add-mod, mul-add-div}
@@ -95,27 +95,6 @@ pub offset-at : (from per size : ℕ) → 0 < per → (j e : ℕ) → e < per
     → offset from per size (per * j + e) ≡ blockSize * (from + j) + headSize + size * e
 unfolding offset
 offset-at from per size pos j e l = rw (index-block per pos j e l, index-entry per pos j e l)
-
--- and the entries after entry i in its block stand behind it
-offset-on : (from per size : ℕ) → 0 < per → (i e : ℕ) → i % per + e < per
-    → offset from per size (i + e) ≡ offset from per size i + size * e
-unfolding offset
-offset-on from per size pos i e l =
-    let q : i + e ≡ per * (i / per) + (i % per + e) = omega (arith, div-add-mod i per) in
-    rw (q, index-block per pos (i / per) (i % per + e) l, index-entry per pos (i / per) (i % per + e) l)
-    (omega arith)
-
--- k entries of a stored run from entry i on, in one block: each stands behind the one before it, in the file
-module _ {from per size n : ℕ} {file : List ℕ} (s : RunInFile from per size n file) (i : ℕ)
-    {k base : ℕ} (l : i + k ≤ n) (m : k ≤ per - i % per) (f : base ≡ offset from per size i) where
-  pub beside-at : (e : ℕ) → e < k → base + size * e ≡ offset from per size (i + e)
-  beside-at e h = rw f (sym (offset-on from per size (s .pos) i e (omega arith)))
-
-  pub beside-room : i < n → base + size * k ≤ length file
-  unfolding offset
-  beside-room h =
-      let t : i % per + k ≤ per = omega (arith, mod-lt i (s .pos)) in
-      omega (arith, s, mul-le-mul-left size t, block-below from per size (s .pos) (s .fit) n i h)
 
 -- FOR A WALK over the blocks of a stored run: block j starts at an entry of the run, stands whole in the
 -- file, and its entries fit

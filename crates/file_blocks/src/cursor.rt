@@ -5,11 +5,11 @@ use file_fields::BLOCK;
 use file_fields::HEAD;
 use file_fields::fields::le16;
 ghost use mathlib.Core.Path.{_≡_};
-ghost use Prim.Native.Nat.{_+_, _*_, _/_, _^_, _≤_, _<_};
+ghost use Prim.Native.Nat.{_+_, _*_, _^_, _≤_, _<_};
 ghost use lib.ListN.{length};
 ghost use Rattle.file_fields.specs.Block.{blockSize};
 ghost use Rattle.file_fields.specs.Fields;
-ghost use Rattle.file_blocks.specs.Cursor.{cursorFirst, cursorAt, moved};
+ghost use Rattle.file_blocks.specs.Cursor.{cursorFirst, moved};
 
 pub struct Cursor {
     pub base: usize,
@@ -25,17 +25,6 @@ impl Cursor {
         Cursor {
             base: BLOCK * from + HEAD,
             slot: 0,
-        }
-    }
-
-    // Before entry i of a run of `per` entries a block whose first block is `from`.
-    pub fn before(from: usize, per: usize, i: usize) -> Cursor
-        requires { ⌜ (0 < per) × (from + i / per < 2 ^ 54) ⌝ }
-        ensures { λ r. ⌜ r ≡ cursorAt from per i ⌝ }
-    {
-        Cursor {
-            base: BLOCK * (from + i / per) + HEAD,
-            slot: i % per,
         }
     }
 

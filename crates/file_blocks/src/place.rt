@@ -4,7 +4,7 @@ use file_fields::BLOCK;
 use file_fields::HEAD;
 use file_fields::fields::le16;
 ghost use mathlib.Core.Path.{_≡_};
-ghost use Prim.Native.Nat.{_+_, _-_, _*_, _/_, _%_, _≤_, _<_, _^_, min};
+ghost use Prim.Native.Nat.{_+_, _*_, _/_, _≤_, _<_, _^_};
 ghost use lib.ListN.{length};
 ghost use Rattle.theory_loops.specs.Fill.{Filled};
 ghost use Rattle.file_fields.specs.Block.{entriesSize};
@@ -46,15 +46,6 @@ pub fn entries_in(per: usize, n: usize, j: usize) -> usize
 {
     let left = n - per * j;
     if left < per { left } else { per }
-}
-
-// How many of n entries, from entry i on, stand side by side in one block.
-pub fn side_by_side(per: usize, i: usize, n: usize) -> usize
-    requires { ⌜ 0 < per ⌝ }
-    ensures { λ r. ⌜ r ≡ min n (per - i % per) ⌝ }
-{
-    let left = per - i % per;
-    if n < left { n } else { left }
 }
 
 // The m entries of `out` from `first` on become the 16-bit fields at byte `at` of the m entries that start at

@@ -105,7 +105,6 @@ columns-more s i a₀ a₁ a₂ a₃ b₀ b₁ b₂ b₃ w x y z h e f g k =
     (rw o at e) (rw p at f) (rw q at g) (rw r at k) in
     record { before = omega arith; is = rw (m, u, v) at t }
 
--- and at the end, with the last two words, the two remainders are the sums
 -- and no column grows by more than a word, nor a running sum by more than 63
 pub column-more : (i a w : ℕ) → a ≤ 65535 * i → w < 65536 → a + w ≤ 65535 * (i + 1)
 column-more i a w h l = omega arith
@@ -114,23 +113,24 @@ pub column-again : (i a b w : ℕ) → b ≤ 4128705 * i → a ≤ 65535 * i →
     → b + (a + w) ≤ 4128705 * (i + 1)
 column-again i a b w h k l m = omega arith
 
-pub columns-end : (s : List ℕ) (i a₀ a₁ a₂ a₃ b₀ b₁ b₂ b₃ x y : ℕ) → Columns s i a₀ a₁ a₂ a₃ b₀ b₁ b₂ b₃
+-- and at the end, with the last two words, the two remainders are the sums
+pub columns-end : (s : List ℕ) (i a₀ a₁ a₂ a₃ b₀ b₁ b₂ b₃ x y : ℕ) (r : Sums)
+    → Columns s i a₀ a₁ a₂ a₃ b₀ b₁ b₂ b₃
     → i ≤ 63 → 63 ≤ i → x ≡ le16 s 504 → y ≡ le16 s 506
-    → _≡_ {A = Sums} (record {
-      a = (1 + a₀ + a₁ + a₂ + a₃ + x + y) % 65535;
-      b = (252 + 4 * (b₀ + b₁ + b₂ + b₃) - (a₁ + 2 * a₂ + 3 * a₃) + 2 * (1 + a₀ + a₁ + a₂ + a₃) + 2 * x + y) %
-          65535;
-    }) (sums s summedWords)
-columns-end s i a₀ a₁ a₂ a₃ b₀ b₁ b₂ b₃ x y h l m e f =
+    → (r .a ≡ (1 + a₀ + a₁ + a₂ + a₃ + x + y) % 65535)
+    × (r .b ≡ (252 + 4 * (b₀ + b₁ + b₂ + b₃) - (a₁ + 2 * a₂ + 3 * a₃) + 2 * (1 + a₀ + a₁ + a₂ + a₃)
+    + 2 * x + y) % 65535)
+    → r ≡ sums s summedWords
+columns-end s i a₀ a₁ a₂ a₃ b₀ b₁ b₂ b₃ x y r h l m e f o =
     let n : i ≡ 63 = omega arith in
     let g : Columns s 63 a₀ a₁ a₂ a₃ b₀ b₁ b₂ b₃ = rw n at h in
     let A = 1 + a₀ + a₁ + a₂ + a₃ in
     let B = 252 + 4 * (b₀ + b₁ + b₂ + b₃) - (a₁ + 2 * a₂ + 3 * a₃) in
-    let r : Summed s summedWords (A + x + y) (B + (A + x) + (A + x + y)) =
+    let u : Summed s summedWords (A + x + y) (B + (A + x) + (A + x + y)) =
     summed-more s 253 (A + x) (B + (A + x)) y (summed-more s 252 A B x (g .is) e) f in
     let q : B + (A + x) + (A + x + y) ≡ B + 2 * A + 2 * x + y = omega arith in
-    let t : Summed s summedWords (A + x + y) (B + 2 * A + 2 * x + y) = rw q at r in
-    λ j. record { a = t .a-is j; b = t .b-is j }
+    let t : Summed s summedWords (A + x + y) (B + 2 * A + 2 * x + y) = rw q at u in
+    λ j. record { a = (o .0 ∙ t .a-is) j; b = (o .1 ∙ t .b-is) j }
 
 -- FOR THE CHECK OF A BLOCK, by two comparisons, with the part's length as the code works it out: the first
 -- decides, or leaves it to the second

@@ -5,7 +5,7 @@ use crate::BLOCK;
 use crate::SUMMED;
 use crate::fields::le16;
 ghost use mathlib.Core.Path.{_≡_};
-ghost use Prim.Native.Nat.{_+_, _*_, _≤_};
+ghost use Prim.Native.Nat.{_+_, _*_, _%_, _^_, _≤_, _<_};
 ghost use lib.ListN.{length};
 ghost use Rattle.file_fields.specs.Block.{blockSize, summedSize, summedWords};
 ghost use Rattle.file_fields.specs.Sum.{sums, good};
@@ -13,6 +13,30 @@ ghost use Rattle.file_fields.specs.Sum.{sums, good};
 pub struct Sums {
     pub a: u16,
     pub b: u16,
+}
+
+// The remainder of a sum by 65,535, of which 65,536 is one more. The comparison leaves the sums to a compiler
+// as one value to be added up, also where they are stored and not compared.
+fn reduced(x: u32) -> u16
+    requires { ⌜ x + 1 < 2 ^ 32 ⌝ }
+    ensures { λ r. ⌜ r ≡ x % 65535 ⌝ }
+{
+    let y = x / 65536 + x % 65536;
+    if y < 65535 {
+        return y as u16;
+    }
+    (y - 65535) as u16
+}
+
+// Both sums, reduced.
+fn reduced_both(a: u32, b: u32) -> Sums
+    requires { ⌜ (a + 1 < 2 ^ 32) × (b + 1 < 2 ^ 32) ⌝ }
+    ensures { λ r. ⌜ (r .a ≡ a % 65535) × (r .b ≡ b % 65535) ⌝ }
+{
+    Sums {
+        a: reduced(a),
+        b: reduced(b),
+    }
 }
 
 // A and B over the 254 words of 508 bytes. Four columns of 63 words are added up side by side, which a
@@ -43,10 +67,7 @@ pub fn sums_of(s: &[u8]) -> Sums
     let y = le16(s, 506) as u32;
     let a = 1 + a0 + a1 + a2 + a3;
     let b = 252 + 4 * (b0 + b1 + b2 + b3) - (a1 + 2 * a2 + 3 * a3);
-    Sums {
-        a: ((a + x + y) % 65535) as u16,
-        b: ((b + 2 * a + 2 * x + y) % 65535) as u16,
-    }
+    reduced_both(a + x + y, b + 2 * a + 2 * x + y)
 }
 
 // Is block b's check right?

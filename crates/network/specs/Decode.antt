@@ -108,6 +108,20 @@ pub record Small (l : Layout) : Type 0 where
   pub points-most : l .points ≤ mostPoints
   pub hours-most : l .hours ≤ mostHours
 
+pub layout-small : {h : Header} {l : Layout} → l ≡ layoutOf h → WithinLimits h → Small l
+unfolding layoutOf
+layout-small e w = rw e (record {
+  period-some = w .period-some;
+  period-most = w .period-most;
+  nodes-some = w .nodes-some;
+  nodes-most = w .nodes-most;
+  arcs-most = w .arcs-most;
+  cells-some = w .cells-some;
+  cells-most = w .cells-most;
+  points-most = w .points-most;
+  hours-most = w .hours-most;
+})
+
 module _ {file : List ℕ} {l : Layout} (s : Laid file l) where
   pub laid-blocks : LaidBlocks (headerAt file) l
   laid-blocks = layout-blocks (s .is)
@@ -124,20 +138,7 @@ module _ {file : List ℕ} {l : Layout} (s : Laid file l) where
   })
 
   pub laid-small : Small l
-  unfolding layoutOf
-  laid-small =
-      let w = s .within in
-      rw (s .is) (record {
-        period-some = w .period-some;
-        period-most = w .period-most;
-        nodes-some = w .nodes-some;
-        nodes-most = w .nodes-most;
-        arcs-most = w .arcs-most;
-        cells-some = w .cells-some;
-        cells-most = w .cells-most;
-        points-most = w .points-most;
-        hours-most = w .hours-most;
-      })
+  laid-small = layout-small (s .is) (s .within)
 
   -- the runs stand in the file
   nodes-room : blockSize * (1 + blocks (nodePer (l .hours)) (l .nodes)) ≤ length file

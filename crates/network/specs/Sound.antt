@@ -205,6 +205,18 @@ module _ (n : Network) (a : ℕ) where
       (rw (closed-in _ (ticksOf n a) (n .period) i l, closed-in _ (travelsOf n a) (travelsOf n a 0) i l) at
       (s .fifo .kept i l))
 
+-- where no point of any arc breaks 9 or 10
+pub points-clear : (n : Network)
+    → ((a i : ℕ) → a < arcs n → i < count n a → badPointOf n a i ≡ false)
+    → ((a i : ℕ) → a < arcs n → i < count n a → overtakenOf n a i ≡ false) → judgedPoints n ≡ Sound
+unfolding judgedPoints
+points-clear n f g =
+    rw (
+      none-points n (badPointOf n) f,
+      none-points n (overtakenOf n) g,
+      le-ltb (points n) (points n) (omega arith),
+    )
+
 -- no fault is sound
 not-sound : (number place : ℕ) → faulty number place ≡ Sound → ⊥
 not-sound number place e = let z : _≡_ {A = ℕ} 0 1 = cc in omega arith
@@ -232,17 +244,14 @@ judged-sound n e =
     }
 
 sound-judged : (n : Network) → SoundNetwork n → judged n ≡ Sound
-unfolding judged judgedHours judgedArcs judgedSum judgedPoints
+unfolding judged judgedHours judgedArcs judgedSum
 sound-judged n s =
     rung-clear (faulty 7) (nodes n) (badCell n) _ (λ v l. lt-leb _ _ (s .cells-below v l))
     ∙ rung-clear (faulty 37) (nodes n) (badHoursOf n) _ (λ v l. sound-hours n v (s .hours v l))
     ∙ rung-clear (faulty 8) (arcs n) (badArc n) _ (λ a l. sound-arc n a (s .arc a l))
-    ∙ rw (
-      eq-eqb (start n (arcs n)) (points n) (s .sum),
-      none-points n (badPointOf n) (λ a i l m. sound-fine n a (s .points-of a l) i m),
-      none-points n (overtakenOf n) (λ a i l m. sound-kept n a (s .points-of a l) i m),
-      le-ltb (points n) (points n) (omega arith),
-    )
+    ∙ rw (eq-eqb (start n (arcs n)) (points n) (s .sum))
+    (points-clear n (λ a i l m. sound-fine n a (s .points-of a l) i m)
+    (λ a i l m. sound-kept n a (s .points-of a l) i m))
 
 pub sound-exactly : (n : Network) → (judged n ≡ Sound) ↔ SoundNetwork n
 sound-exactly n = (judged-sound n, sound-judged n)

@@ -36,7 +36,7 @@ ghost use Rattle.network_encode.specs.Packable.{Packable};
 const USED: usize = HEAD + kind::NETWORK_SIZE;
 
 // Two fields of two bytes, one behind the other.
-pub fn put_two(out: &mut [u8], o: usize, x: u16, y: u16)
+fn put_two(out: &mut [u8], o: usize, x: u16, y: u16)
     requires { ⌜ o + 4 ≤ length (now out) ⌝ }
     ensures { λ _. ⌜ now (out .exit) ≡ put 4 (now (out .entry)) o (x + 65536 * y) ⌝ }
 {
@@ -45,7 +45,7 @@ pub fn put_two(out: &mut [u8], o: usize, x: u16, y: u16)
 }
 
 // Three of them.
-pub fn put_three(out: &mut [u8], o: usize, x: u16, y: u16, z: u16)
+fn put_three(out: &mut [u8], o: usize, x: u16, y: u16, z: u16)
     requires { ⌜ o + 6 ≤ length (now out) ⌝ }
     ensures { λ _. ⌜ now (out .exit) ≡ put 6 (now (out .entry)) o (x + 65536 * (y + 65536 * z)) ⌝ }
 {
@@ -54,7 +54,7 @@ pub fn put_three(out: &mut [u8], o: usize, x: u16, y: u16, z: u16)
 }
 
 // The header's fields, as the one entry of block 0.
-pub fn put_header(out: &mut [u8], h: Header)
+fn put_header(out: &mut [u8], h: Header)
     requires { ⌜ WithinLimits h ⌝ }
     requires { ⌜ (h .number < 2 ^ 32) × (headSize + networkSize ≤ length (now out)) ⌝ }
     ensures { λ _. ⌜ now (out .exit) ≡ put networkSize (now (out .entry)) 8 (headerNumber h) ⌝ }

@@ -60,7 +60,12 @@ packedMade Outside t room = unwritten 4
 abbrev pub packing : Header → Tables → ℕ → Writing
 packing h = packedMade (madeOf h)
 
--- an answer for a network, and for a header and tables, with the bytes that it leaves
+-- an answer for a network that breaks no rule, for any, and for a header and tables, with the bytes that it
+-- leaves
+abbrev pub WritesNetwork : Network → List ℕ → List ℕ → Writing → Type 0
+WritesNetwork n before after r =
+    Writes (writtenInto (length (encode n)) (length before)) (encode n) before after r
+
 abbrev pub PacksNetwork : Network → List ℕ → List ℕ → Writing → Type 0
 PacksNetwork n before after r =
     Writes (packedRules (judged n) (length (encode n)) (length before)) (encode n) before after r

@@ -40,7 +40,7 @@ use Rattle.file_refusals.specs.Writing.{writtenInto}
 use Rattle.network_pack.specs.Pack.{packedRules, packedTables, packedMade, madeOf, packing}
 use Rattle.network_pack.specs.Pack.{now-packable}
 use Rattle.network_encode.specs.Written.{packed-header}
-use Rattle.network_pack.specs.Front.{Fields, packed-proper}
+use Rattle.network_pack.specs.Proper.{Fields, packed-proper}
 
 -- THE FIRST PROMISE: the file that Pack writes has the length that it answers, and opens to the same header
 -- and tables

@@ -1,8 +1,9 @@
--- The rules 7 to 10 and 37 as code finds their faults: the nodes' hours (Hours), the points of one arc (Scan,
--- Steady, SteadyRun), of all arcs (ScanAll), and the ladder of the rules (Judge).
+-- The rules 7 to 10 and 37 as code finds their faults: the nodes' hours (Hours), the points of one arc (Scan)
+-- and of all arcs (ScanAll), the ladder of the rules (Judge), and whether all points keep them (Breaks,
+-- Steady).
 pub mod Hours
 pub mod Scan
 pub mod ScanAll
-pub mod Steady
-pub mod SteadyRun
 pub mod Judge
+pub mod Breaks
+pub mod Steady

@@ -1,6 +1,6 @@
-// The rules 7 to 10 and 37, on a file that is laid out as its header says. An arc's points are first
-// asked whether they keep rules 9 and 10 (steady.rt). Where they do not, one scan finds the places: rule 10
-// is judged at each point while rule 9 is, and told where 9 holds everywhere.
+// The rules 7 to 10 and 37, on a file that is laid out as its header says. The points are first asked whether
+// they keep rules 9 and 10 (steady.rt). Where they do not, one scan finds the places: rule 10 is judged at
+// each point while rule 9 is, and told where 9 holds everywhere.
 use crate::steady::is_steady;
 use file_refusals::Judged;
 use file_refusals::faulty;
@@ -8,15 +8,13 @@ use file_refusals::number;
 use network::header::Layout;
 use network::read;
 ghost use mathlib.Core.Path.{_≡_};
-ghost use Prim.Native.Nat.{_+_, _-_, _≤_, _<_};
+ghost use Prim.Native.Nat.{_+_, _≤_, _<_};
 ghost use Rattle.theory_loops.specs.First.{first};
 ghost use Rattle.theory_travel.specs.Table.{entryAt};
 ghost use Rattle.network.specs.Network;
 ghost use Rattle.network.specs.Decode.{decode, Laid};
-ghost use lib.ListN.{length, take};
 ghost use Rattle.network.specs.Rules.{badCell, partOfDay, badHours, badHoursOf, badEnds, badArc};
 ghost use Rattle.network.specs.Rules.{judgedPoints, judgedArcs, judged};
-ghost use Rattle.network_rules.specs.Hours.{badHoursIn, withHours};
 ghost use Rattle.network_rules.specs.Scan.{misplaced, badPointBy, lateAt, Scanned};
 ghost use Rattle.network.specs.FirstPoint.{Counted};
 ghost use Rattle.network_rules.specs.ScanAll.{ScannedAll, lateIn};
@@ -72,7 +70,7 @@ fn is_part_of_day(hours: usize, period: usize, opens: usize, closes: usize) -> b
 }
 
 // Rule 37 for a node that opens and closes at these ticks.
-fn bad_hours(hours: usize, period: usize, opens: usize, closes: usize) -> bool
+pub fn bad_hours(hours: usize, period: usize, opens: usize, closes: usize) -> bool
     ensures { λ r. ⌜ r ≡ badHours hours period opens closes ⌝ }
 {
     if closes <= opens {
@@ -112,51 +110,8 @@ fn first_bad_hours(file: &[u8], l: Layout) -> usize
     nodes
 }
 
-// An entry as a wider number.
-fn wide(x: u16) -> usize
-    ensures { λ r. ⌜ r ≡ x ⌝ }
-{
-    x as usize
-}
-
-// Rule 37 at node v of so many, whose hours stand in tables.
-fn is_bad_hours_in(
-    hours: usize,
-    period: usize,
-    nodes: usize,
-    opens: &[u16],
-    closes: &[u16],
-    v: usize,
-) -> bool
-    requires { ⌜ (nodes ≤ length (now opens)) × (nodes ≤ length (now closes)) × (v < nodes) ⌝ }
-    ensures { λ r. ⌜ r
-        ≡ badHoursIn hours period (take nodes (now (opens .entry))) (take nodes (now (closes .entry))) v ⌝ }
-{
-    bad_hours(hours, period, wide(opens[v]), wide(closes[v]))
-}
-
-// The first of so many nodes, whose hours stand in tables, that breaks rule 37, or their count.
-fn first_bad_hours_in(
-    hours: usize,
-    period: usize,
-    nodes: usize,
-    opens: &[u16],
-    closes: &[u16],
-) -> usize
-    requires { ⌜ (nodes ≤ length (now opens)) × (nodes ≤ length (now closes)) ⌝ }
-    ensures { λ r. ⌜ r ≡ first nodes
-        (badHoursIn hours period (take nodes (now (opens .entry))) (take nodes (now (closes .entry)))) ⌝ }
-{
-    for v in 0..nodes {
-        if is_bad_hours_in(hours, period, nodes, opens, closes, v) {
-            return v;
-        }
-    }
-    nodes
-}
-
 // Rule 8 for an arc of these ends and this count of points.
-fn bad_ends(nodes: usize, period: usize, tail: usize, head: usize, count: usize) -> bool
+pub fn bad_ends(nodes: usize, period: usize, tail: usize, head: usize, count: usize) -> bool
     ensures { λ r. ⌜ r ≡ badEnds nodes period tail head count ⌝ }
 {
     if nodes <= tail {
@@ -215,7 +170,7 @@ fn is_misplaced(i: usize, p: usize, t: usize) -> bool
 }
 
 // Rule 9 for point i of an arc, after a point with tick p.
-fn bad_point(period: usize, i: usize, p: usize, t: usize, v: usize) -> bool
+pub fn bad_point(period: usize, i: usize, p: usize, t: usize, v: usize) -> bool
     ensures { λ r. ⌜ r ≡ badPointBy period i p t v ⌝ }
 {
     if is_misplaced(i, p, t) {
@@ -232,7 +187,7 @@ fn bad_point(period: usize, i: usize, p: usize, t: usize, v: usize) -> bool
 
 // The first late point of i points, by the first of the i - 1 before: the last of them ends at `end`, and the
 // one after it at `next`.
-fn late_at(late: usize, i: usize, end: usize, next: usize) -> usize
+pub fn late_at(late: usize, i: usize, end: usize, next: usize) -> usize
     ensures { λ r. ⌜ r ≡ lateAt late i end next ⌝ }
 {
     if i == 0 {
@@ -247,7 +202,7 @@ fn late_at(late: usize, i: usize, end: usize, next: usize) -> usize
     i
 }
 
-// The faults of one arc, whose points stand from point `from` on.
+// Rules 9 and 10 over the points of one arc, which stand from point `from` on.
 fn find_faults(file: &[u8], l: Layout, from: usize, count: usize) -> Scan
     requires { ⌜ Laid (now file) l ⌝ }
     requires { ⌜ (from + count ≤ l .points) × (0 < count) ⌝ }
@@ -274,25 +229,9 @@ fn find_faults(file: &[u8], l: Layout, from: usize, count: usize) -> Scan
     }
 }
 
-// Rules 9 and 10 over the points of one arc. Where they are kept, a test that finds no place says so sooner.
-fn scan_arc(file: &[u8], l: Layout, from: usize, count: usize) -> Scan
-    requires { ⌜ Laid (now file) l ⌝ }
-    requires { ⌜ (from + count ≤ l .points) × (0 < count) ⌝ }
-    ensures { λ r. ⌜ Scanned (l .period) (entryAt (decode (now (file .entry)) .ticks) from)
-        (entryAt (decode (now (file .entry)) .travels) from) count r ⌝ }
-{
-    if is_steady(file, l, from, count) {
-        return Scan {
-            bad: count,
-            late: count,
-        };
-    }
-    find_faults(file, l, from, count)
-}
-
 // The first late point of one arc more: `count` points from `from` on, of which `at` is the first late one;
 // `points` stands for none.
-fn late_in(late: usize, points: usize, from: usize, count: usize, at: usize) -> usize
+pub fn late_in(late: usize, points: usize, from: usize, count: usize, at: usize) -> usize
     requires { ⌜ from + count ≤ points ⌝ }
     ensures { λ r. ⌜ r ≡ lateIn late points from count at ⌝ }
 {
@@ -317,7 +256,7 @@ fn scan_points(file: &[u8], l: Layout) -> Scan
     let mut late = points;
     for a in 0..arcs {
         let count = read::count(file, l, a);
-        let scan = scan_arc(file, l, from, count);
+        let scan = find_faults(file, l, from, count);
         let bad = scan.bad;
         if bad < count {
             return Scan {
@@ -331,12 +270,15 @@ fn scan_points(file: &[u8], l: Layout) -> Scan
     Scan { bad: points, late }
 }
 
-// Rules 9 and 10.
+// Rules 9 and 10. Where they are kept, a test that finds no place says so sooner.
 fn judge_points(file: &[u8], l: Layout) -> Judged
     requires { ⌜ Laid (now file) l ⌝ }
     requires { ⌜ Counted (decode (now file)) ⌝ }
     ensures { λ r. ⌜ r ≡ judgedPoints (decode (now (file .entry))) ⌝ }
 {
+    if is_steady(file, l) {
+        return Judged::Sound;
+    }
     let scan = scan_points(file, l);
     let bad = scan.bad;
     if bad < l.points {
@@ -377,24 +319,6 @@ pub fn judge(file: &[u8], l: Layout) -> Judged
     let u = first_bad_hours(file, l);
     if u < l.nodes {
         return faulty(number::NETWORK_HOURS, u as u32);
-    }
-    judge_arcs(file, l)
-}
-
-// The same of the network of a file whose nodes have the hours in these tables.
-pub fn judge_with(file: &[u8], l: Layout, opens: &[u16], closes: &[u16]) -> Judged
-    requires { ⌜ Laid (now file) l ⌝ }
-    requires { ⌜ (l .nodes ≤ length (now opens)) × (l .nodes ≤ length (now closes)) ⌝ }
-    ensures { λ r. ⌜ r ≡ judged (withHours (now (opens .entry)) (now (closes .entry))
-        (decode (now (file .entry)))) ⌝ }
-{
-    let v = first_bad_cell(file, l);
-    if v < l.nodes {
-        return faulty(number::NETWORK_CELL, v as u32);
-    }
-    let w = first_bad_hours_in(l.hours, l.period, l.nodes, opens, closes);
-    if w < l.nodes {
-        return faulty(number::NETWORK_HOURS, w as u32);
     }
     judge_arcs(file, l)
 }

@@ -9,12 +9,9 @@ use network::header::Layout;
 use network::limits::MOST_ARCS;
 use network::limits::MOST_NODES;
 use network::limits::MOST_PERIOD;
-use network::limits::NEVER;
 use network::read;
 use plan::flag;
 use search_arcs::wide;
-use toward_node::highest;
-use toward_node::nearness;
 use toward_start::is_start;
 ghost use mathlib.Core.Path.{_≡_};
 ghost use Prim.Native.Nat.{_+_, _*_, _≤_, _<_};
@@ -22,14 +19,14 @@ ghost use lib.ListN.{length};
 ghost use Rattle.theory_paths.specs.Least.{leastTicks};
 ghost use Rattle.theory_paths.specs.Planned.{starts as startsLeast};
 ghost use Rattle.network.specs.Limits.{mostCells};
-ghost use Rattle.network.specs.Decode.{decode, Small};
+ghost use Rattle.network.specs.Decode.{decode};
 ghost use Rattle.network.specs.Town.{graphOf};
 ghost use Rattle.search_arcs.specs.Town.{Town};
 ghost use Rattle.toward_row.specs.Arcs.{Primed};
+ghost use Rattle.toward_node.specs.Heights.{Bounds};
 ghost use Rattle.toward_node.specs.Leasts.{Leasts};
 ghost use Rattle.toward_node.specs.Rows.{Worked};
 ghost use Rattle.plan_flags.specs.Words.{plannedWord, withFlag, Flags, FlagsAfter};
-ghost use Rattle.plan_flags.specs.Bounds.{Bounds};
 
 // The flag word of arc a by no border: the flag of its ends' cell, where they have one.
 fn inside_word(file: &[u8], l: Layout, a: usize) -> u64
@@ -58,20 +55,7 @@ pub fn inside_words(file: &[u8], l: Layout, words: &mut [u64; MOST_ARCS])
     }
 }
 
-// Of each node, never less the least number of its row, and never less the greatest.
-fn bound_rows(l: Layout, work: &[u32], near: &mut [u32; MOST_NODES], room: &mut [u32; MOST_NODES])
-    requires { ⌜ Small l ⌝ }
-    requires { ⌜ (length (now work) ≡ l .nodes * l .period) × (l .nodes ≤ length (now near))
-        × (l .nodes ≤ length (now room)) ⌝ }
-    ensures { λ _. ⌜ Bounds l (l .nodes) (now (work .entry)) (now (near .exit)) (now (room .exit)) ⌝ }
-{
-    for u in 0..l.nodes {
-        near[u] = nearness(l, u, work);
-        room[u] = NEVER - highest(l, u, work);
-    }
-}
-
-// An entry of such a table as a size.
+// An entry of a table of bounds as a size.
 fn size(x: u32) -> usize
     ensures { λ r. ⌜ (r ≡ x) × (r < 4294967296) ⌝ }
 {
@@ -84,7 +68,7 @@ fn flag_arc(
     l: Layout,
     starts: &[u16; MOST_ARCS],
     least: &[u16; MOST_ARCS],
-    near: &[u32; MOST_NODES],
+    low: &[u32; MOST_NODES],
     room: &[u32; MOST_NODES],
     work: &[u32],
     row: &mut [u32; MOST_PERIOD],
@@ -97,7 +81,7 @@ fn flag_arc(
     requires { ⌜ (a < l .arcs) × (b < l .nodes) × (c < mostCells)
         × (length (now work) ≡ l .nodes * l .period) × (l .period ≤ length (now row)) ⌝ }
     requires { ⌜ Worked (graphOf (decode (now file))) b (now work)
-        × Bounds l (l .nodes) (now work) (now near) (now room) ⌝ }
+        × Bounds l (now work) (now low) (now room) ⌝ }
     ensures { λ r. ⌜ (r ≡ withFlag word c (startsLeast (graphOf (decode (now (file .entry))))
         (leastTicks (graphOf (decode (now (file .entry)))) b) a))
         × (length (now (row .exit)) ≡ length (now (row .entry))) ⌝ }
@@ -108,7 +92,7 @@ fn flag_arc(
     let u = read::tail(file, l, a);
     let v = read::head(file, l, a);
     // at its best the arc gives more than its tail's row has anywhere
-    if size(near[v]) < size(room[u]) + wide(least[a]) {
+    if size(low[v]) < size(room[u]) + wide(least[a]) {
         return word;
     }
     if is_start(file, l, starts, a, b, work, row) {
@@ -117,13 +101,16 @@ fn flag_arc(
     word
 }
 
-// The flag words with border b counted, to which `work` has the least travels. `row` is a row to work in.
+// The flag words with border b counted, to which `work` has the least travels, with `low` and `room` as bounds
+// of its rows. `row` is a row to work in.
 pub fn flag_border(
     file: &[u8],
     l: Layout,
     starts: &[u16; MOST_ARCS],
     least: &[u16; MOST_ARCS],
     b: usize,
+    low: &[u32; MOST_NODES],
+    room: &[u32; MOST_NODES],
     work: &[u32],
     row: &mut [u32; MOST_PERIOD],
     words: &mut [u64; MOST_ARCS],
@@ -131,22 +118,20 @@ pub fn flag_border(
     requires { ⌜ Primed (now file) l (now starts) × Leasts (now file) l (l .arcs) (now least) ⌝ }
     requires { ⌜ (b < l .nodes) × (length (now work) ≡ l .nodes * l .period)
         × (l .period ≤ length (now row)) × (l .arcs ≤ length (now words)) ⌝ }
-    requires { ⌜ Worked (graphOf (decode (now file))) b (now work) ⌝ }
+    requires { ⌜ Worked (graphOf (decode (now file))) b (now work)
+        × Bounds l (now work) (now low) (now room) ⌝ }
     ensures { λ _. ⌜ FlagsAfter (decode (now (file .entry))) b (now (words .entry)) (now (words .exit))
         × (length (now (row .exit)) ≡ length (now (row .entry))) ⌝ }
 {
     let c = read::cell(file, l, b);
-    let mut near = [0u32; MOST_NODES];
-    let mut room = [0u32; MOST_NODES];
-    bound_rows(l, work, &mut near, &mut room);
     for a in 0..l.arcs {
         words[a] = flag_arc(
             file,
             l,
             starts,
             least,
-            &near,
-            &room,
+            low,
+            room,
             work,
             row,
             a,

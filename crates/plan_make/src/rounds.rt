@@ -17,7 +17,7 @@ ghost use Rattle.network.specs.Decode.{decode};
 ghost use Rattle.network.specs.Town.{partitionOf};
 ghost use Rattle.plan.specs.Border.{borderCount};
 ghost use Rattle.plan_encode.specs.Places.{PlanRoom};
-ghost use Rattle.plan_flags.specs.Words.{Flags};
+ghost use Rattle.plan_flags.specs.Words.{Flags, FlagsAfter};
 ghost use Rattle.plan_make.specs.Rounds.{Tables, Aimed, Counted, Held, PutTo};
 
 // The least travels to border number i, which it answers. `row` is a row to work in.
@@ -41,7 +41,64 @@ fn travels_to(
         × (length (now (row .exit)) ≡ length (now (row .entry))) ⌝ }
 {
     let b = wide(borders[i]);
-    least_travels(file, l, starts, into, next, least, b, work, row);
+    let mut low = [0u32; MOST_NODES];
+    let mut room = [0u32; MOST_NODES];
+    least_travels(
+        file,
+        l,
+        starts,
+        into,
+        next,
+        least,
+        b,
+        work,
+        row,
+        &mut low,
+        &mut room,
+    );
+    b
+}
+
+// The same, with the border's flags added to the words.
+fn flags_to(
+    file: &[u8],
+    l: Layout,
+    starts: &[u16; MOST_ARCS],
+    into: &[u16; MOST_NODES],
+    next: &[u16; MOST_ARCS],
+    least: &[u16; MOST_ARCS],
+    borders: &[u16; MOST_NODES],
+    i: usize,
+    work: &mut [u32],
+    row: &mut [u32; MOST_PERIOD],
+    words: &mut [u64; MOST_ARCS],
+) -> usize
+    requires { ⌜ Tables (now file) l (now starts) (now into) (now next) (now least) (now borders) ⌝ }
+    requires { ⌜ (i < borderCount (partitionOf (decode (now file))))
+        × (length (now work) ≡ l .nodes * l .period) × (l .period ≤ length (now row))
+        × (l .arcs ≤ length (now words)) ⌝ }
+    ensures { λ r. ⌜ Aimed (decode (now (file .entry))) i (now (work .exit)) r
+        × FlagsAfter (decode (now (file .entry))) r (now (words .entry)) (now (words .exit))
+        × (length (now (work .exit)) ≡ length (now (work .entry)))
+        × (length (now (row .exit)) ≡ length (now (row .entry))) ⌝ }
+{
+    let b = wide(borders[i]);
+    let mut low = [0u32; MOST_NODES];
+    let mut room = [0u32; MOST_NODES];
+    least_travels(
+        file,
+        l,
+        starts,
+        into,
+        next,
+        least,
+        b,
+        work,
+        row,
+        &mut low,
+        &mut room,
+    );
+    flag_border(file, l, starts, least, b, &low, &room, work, row, words);
     b
 }
 
@@ -109,7 +166,7 @@ pub fn put_borders(
     let mut row = [0u32; MOST_PERIOD];
     let mut q = 0;
     for i in 0..k.borders {
-        let b = travels_to(
+        flags_to(
             file,
             l,
             starts,
@@ -120,8 +177,8 @@ pub fn put_borders(
             i,
             work,
             &mut row,
+            words,
         );
-        flag_border(file, l, starts, least, b, work, &mut row, words);
         q = put_rows(l, work, out, k, i * l.nodes, q);
     }
 }

@@ -1,150 +1,222 @@
--- Whether the ticks of a profile keep rule 19, yes or no: what holds of the points seen (`Rising`), what
--- points that stand side by side add to it, and that a profile whose points are all seen has no bad tick. The
--- laws are in the shape of the code's needs.
-use mathlib.Core.Path.{_≡_, sym, _∙_, ap}
-use mathlib.Core.Bool.{true, false}
+-- Whether a plan keeps the rules 18 and 19, yes or no: where each profile's count is no more than the ticks,
+-- its points begin at tick 0 and end below the period, the counts add up, and the ticks fail to rise at no
+-- more points than there are profiles with points, no rule is broken.
+use mathlib.Core.Path.{_≡_, refl, sym, _∙_, ap}
+use mathlib.Core.Bool.{Bool, true, false, not}
 use mathlib.Core.List.{List}
-use Prim.Native.Nat.{ℕ, suc, _+_, _-_, _*_, _/_, _%_, _^_, _≤_, _<_, min}
-use native.Mathlib.Nat.{add-zero, add-assoc, le-of-lt}
-use native.Mathlib.Decide.{decLt}
+use Prim.Native.Nat.{ℕ, suc, _+_, _-_, _≤_, _<_}
+use native.Mathlib.Nat.{le-of-lt, add-zero}
+use native.Mathlib.Numerals.{add-one}
 use native.Mathlib.Omega.{arith}
-use lib.ListN.{length}
-use lib.Dec.{ltb}
-use borrow.Author.Tests.{le-ltb, ltb-true}
-use Rattle.theory_loops.specs.First.{first, all-clear, none-yet}
-use Rattle.theory_loops.specs.Parts.{Beside, Ran, Running, part-one}
-use Rattle.theory_travel.specs.Points.{climbs}
+use lib.Dec.{ltb, eqb, lit<}
+use borrow.Author.Count.{below-more}
+use borrow.Author.Tests.{ltb-true, leb-false, le-leb, le-ltb, eq-eqb, eqb-true}
+use borrow.Author.Tests.{not-false}
+use Rattle.theory_loops.specs.Count as Count
+use Rattle.theory_loops.specs.First.{first, all-clear}
+use Rattle.theory_loops.specs.Pick.{past-first}
+use Rattle.theory_loops.specs.Total.{total, total-none, total-more}
+use Rattle.theory_breaks.specs.Tally.{flag, before, tally-more}
+use Rattle.theory_breaks.specs.Breaks.{Begun, only-first}
 use Rattle.theory_travel.specs.Day.{Day}
-use Rattle.theory_travel.specs.Ticks.{badTick, ticks-day}
+use Rattle.theory_travel.specs.Points.{climbs}
 use Rattle.theory_travel.specs.Table.{entryAt, entry-first}
-use Rattle.file_fields.specs.Fields.{le16}
-use Rattle.file_blocks.specs.Kind.{profilePointPer, profilePointSize}
-use Rattle.file_blocks.specs.Place.{offset, beside-at, beside-room}
+use Rattle.theory_travel.specs.Ticks.{badTick, ticks-day}
+use Rattle.file_blocks.specs.Cursor.{cursorFirst, cursorAt, moved, cursor-first, cursor-next}
+use Rattle.file_blocks.specs.Kind.{countPer}
 use Rattle.file_blocks.specs.declared.cursor.Cursor.{Cursor}
+use Rattle.file_refusals.specs.declared.Judged.the-variants.{Sound}
+use Rattle.file_refusals.specs.Refusal.{faulty}
 use Rattle.plan.specs.declared.header.PlanLayout.{PlanLayout}
-use Rattle.plan_validate.specs.declared.rising.Rise.{Rise}
-use Rattle.plan.specs.Plan.{Plan}
-use Rattle.plan.specs.PlanDecode.{decodePlan, pointTick, PlanLaid, points-stored, point-in, tick-is}
-use Rattle.file_blocks.specs.Cursor.{cursorAt}
-use Rattle.plan_validate.specs.PlanScan.{Scanned}
+use Rattle.plan.specs.Plan.{Plan, pointCount, pointStart, pointTicks}
+use Rattle.plan.specs.PlanDecode.{decodePlan, PlanLaid, pointTick, pointTotal, plan-sizes}
+use Rattle.plan.specs.PlanRules.{badCount, badProfile, firstBadPoint, judgedTicks, judgedSum, judgedCounts}
+use Rattle.plan_validate.specs.Breaks.{broken}
 
--- the first i ticks rise, and `low` is one more than the last of them
-pub record Rising (t : ℕ → ℕ) (i low : ℕ) : Type 0 where
-  pub rise : (k : ℕ) → suc k < i → t k < t (suc k)
-  pub low-is : (k : ℕ) → suc k ≡ i → low ≡ suc (t k)
+-- m points from number `from` on, with these ticks: no more than the period has ticks, in the file, the first
+-- at tick 0 and the last below the period
+pub record Kept (l : PlanLayout) (t : ℕ → ℕ) (from m : ℕ) : Type 0 where
+  pub few : m ≤ l .period
+  pub room : from + m ≤ l .points
+  pub start : 0 < m → t 0 ≡ 0
+  pub below : 0 < m → t (m - 1) < l .period
 
--- the tick of point i stands at byte b
-abbrev pub tickAt : List ℕ → (ℕ → ℕ) → ℕ → ℕ → Type 0
-tickAt file t i b = t i ≡ le16 file b
+-- profile k has points
+abbrev pub held : Plan → ℕ → Bool
+held p k = ltb 0 (pointCount p k)
 
-module _ (t : ℕ → ℕ) where
-  rising-none : Rising t 0 0
-  rising-none = record { rise = λ k h. absurd (omega arith); low-is = λ k h. absurd (omega arith) }
+-- all profiles are so, h of them have points, and the counts add up
+pub record AllKept (p : Plan) (l : PlanLayout) (h : ℕ) : Type 0 where
+  pub profile : (k : ℕ) → k < l .profiles → Kept l (pointTicks p k) (pointStart p k) (pointCount p k)
+  pub sum : pointStart p (l .profiles) ≡ l .points
+  pub some : h ≡ Count.count (l .profiles) (held p)
 
-  -- one point more
-  rising-more : (i low x : ℕ) → Rising t i low → t i ≡ x → low ≤ x → Rising t (i + 1) (x + 1)
-  rising-more i low x s e l = record {
-    rise = λ k h. elim (decLt (suc k) i) [
-      | yes g ↦ s .rise k g
-      | no g ↦ let q : suc k ≡ i = omega arith in omega (arith, s .low-is k q, ap t q)
-    ];
-    low-is = λ k h. let q : k ≡ i = omega arith in omega (arith, ap t q);
+-- ALL PROFILES
+module _ (p : Plan) (l : PlanLayout) (h : ℕ) (points-are : l .points ≡ pointTotal p) (a : AllKept p l h)
+    (few : Count.count (pointTotal p) (broken (pointTick p)) ≡ h) where
+  next : (k : ℕ) → pointStart p (suc k) ≡ pointStart p k + pointCount p k
+  unfolding pointStart
+  next k =
+      rw (← add-one k)
+      (sym (total-more (pointCount p) (total k (pointCount p)) (pointCount p k) k refl refl))
+
+  -- the first point of each profile that has points is a break
+  begun : Begun (broken (pointTick p)) (held p) (pointStart p) (l .profiles)
+  unfolding broken
+  begun = record {
+    grows = λ k o. omega (arith, next k);
+    some = λ k o e. omega (arith, next k, ltb-true 0 (pointCount p k) e);
+    first = λ k o e.
+        let z : pointTick p (pointStart p k) ≡ 0 =
+        entry-first (p .ticks) (pointStart p k) ∙ a .profile k o .start (ltb-true 0 (pointCount p k) e) in
+        rw z (le-leb 0 (before (pointTick p) (pointStart p k)) (omega arith));
   }
 
-  module _ (m low period : ℕ) (s : Rising t m low) (h : 0 < m) (z : t 0 ≡ 0) (l : low ≤ period) where
-    last : suc (m - 1) ≡ m
-    last = omega arith
+  module _ (k : ℕ) (o : k < l .profiles) where
+    -- and no other
+    inside : (i : ℕ) → suc i < pointCount p k → pointTicks p k i < pointTicks p k (suc i)
+    unfolding entryAt broken before
+    inside i b =
+        let z : pointStart p k + suc i ≡ suc (pointStart p k + i) = omega arith in
+        let w : Count.count (pointStart p (l .profiles)) (broken (pointTick p))
+        ≤ Count.count (l .profiles) (held p) =
+        rw (a .sum, points-are, few, a .some) (omega arith) in
+        rw z
+        (leb-false _ _
+        (only-first _ _ (pointStart p) (l .profiles) begun w k (suc (pointStart p k + i)) o (omega arith)
+        (omega (arith, next k))))
 
-    below : (k : ℕ) → k < m → t k < period
-    below k g =
+    below : (i : ℕ) → i < pointCount p k → pointTicks p k i < l .period
+    below i b =
+        let m = pointCount p k in
         omega (
           arith,
-          climbs t (m - 1) (λ i o. le-of-lt (s .rise i (omega arith))) k (m - 1) (omega arith) (omega arith),
-          s .low-is (m - 1) last,
+          climbs (pointTicks p k) (m - 1) (λ q u. le-of-lt (inside q (omega arith))) i (m - 1) (omega arith)
+              (omega arith),
+          a .profile k o .below (omega arith),
         )
 
-    rising-end : first m (badTick period t) ≡ m
-    rising-end =
-        let day : Day t m period = record { some = h; start = z; rise = s .rise; below = below } in
-        all-clear _ m (ticks-day period t m h .1 day)
+    fine : (i : ℕ) → i < pointCount p k → badTick (l .period) (pointTicks p k) i ≡ false
+    fine i b =
+        let z : 0 < pointCount p k = omega arith in
+        let day : Day (pointTicks p k) (pointCount p k) (l .period) =
+        record { some = z; start = a .profile k o .start z; rise = inside; below = below } in
+        ticks-day (l .period) (pointTicks p k) (pointCount p k) z .1 day i b
 
--- A RISE over m points from byte `base` on: where it is good, what held of the points before them holds of
--- them too
-abbrev pub Rose : List ℕ → ℕ → ℕ → ℕ → Rise → Type 0
-Rose file base m low r = Ran profilePointSize (tickAt file) Rising base m low (r .good) (r .low)
+    profile-fine : badProfile (l .period) p k ≡ false
+    unfolding badProfile
+    profile-fine =
+        let e = all-clear (badTick (l .period) (pointTicks p k)) (pointCount p k) fine in
+        le-ltb (first (pointCount p k) (badTick (l .period) (pointTicks p k))) (pointCount p k) (omega arith)
 
--- one point more
-pub rise-more : (file : List ℕ) (base m e s low x : ℕ)
-    → Running profilePointSize (tickAt file) Rising base m e s low → e < m
-    → x ≡ le16 file (base + profilePointSize * e) → low ≤ x
-    → Running profilePointSize (tickAt file) Rising base m (e + 1) s (x + 1)
-rise-more file base m e s low x r h f l =
-    part-one base m s e low (x + 1) r h (λ t i a w. rising-more t i low x w (a ∙ sym f) l)
+    count-fine : badCount (l .period) p k ≡ false
+    count-fine = le-ltb (l .period) (pointCount p k) (a .profile k o .few)
 
--- THE RISES over the points of a profile, which stand from number `from` on, once `done` of them are seen
-pub record Seen (p : Plan) (from m done : ℕ) (rise : Rise) : Type 0 where
-  pub within : done ≤ m
-  pub rising : Rising (entryAt (p .ticks) from) done (rise .low)
+  -- THE LAW
+  rising-sound : Sound ≡ judgedCounts (l .period) (l .profiles) p
+  unfolding judgedCounts judgedSum judgedTicks
+  rising-sound =
+      let n = l .profiles in
+      let e = all-clear (badCount (l .period) p) n count-fine in
+      let f = all-clear (badProfile (l .period) p) n profile-fine in
+      let g : Sound ≡ judgedTicks (l .period) n p =
+      past-first Sound _ (λ k. faulty 19 (firstBadPoint (l .period) p k)) n n (badProfile (l .period) p)
+      (sym f) (omega arith) refl in
+      past-first Sound _ (faulty 18) n n (badCount (l .period) p) (sym e) (omega arith)
+      (rw (eq-eqb (pointStart p n) (pointTotal p) (a .sum ∙ points-are)) g)
 
-module _ {file : List ℕ} {l : PlanLayout} (s : PlanLaid file l) (from m : ℕ)
-    (room : from + m ≤ l .points) where
-  pub seen-start : Seen (decodePlan file) from m 0 (record { low = 0; good = true })
-  seen-start = record { within = omega arith; rising = rising-none _ }
-
-  pub seen-near : (done : ℕ) → done < m → (0 < profilePointPer) × (profilePointSize * profilePointPer ≤ 500)
-      × (l .pointblock + (from + done) / profilePointPer < 2 ^ 54)
-  seen-near done h =
-      let g : from + done < l .points = omega arith in
-      let e = point-in s g in
-      (e .pos, e .fit, e .near)
-
-  -- k points more, as many as stand side by side
-  module _ (done k base : ℕ) (h : done < m)
-      (e : k ≡ min (m - done) (profilePointPer - (from + done) % profilePointPer))
-      (f : base ≡ offset (l .pointblock) profilePointPer profilePointSize (from + done)) where
-    there : (i : ℕ) → i < k
-        → base + profilePointSize * i
-        ≡ offset (l .pointblock) profilePointPer profilePointSize (from + done + i)
-    there = beside-at (points-stored s) (from + done) (omega arith) (omega arith) f
-
-    pub seen-room : base + profilePointSize * k ≤ length file
-    seen-room = beside-room (points-stored s) (from + done) (omega arith) (omega arith) f (omega arith)
-
-    beside : Beside profilePointSize (tickAt file) (entryAt (decodePlan file .ticks) from) base done k
-    unfolding entryAt
-    beside = record {
-      entry = λ i g.
-          let o : from + done + i < l .points = omega arith in
-          rw (← add-assoc, there i g) (sym (tick-is s o (rw add-zero)));
-    }
-
-    pub seen-more : (old new : Rise) → Seen (decodePlan file) from m done old
-        → Rose file base k (old .low) new → new .good ≡ true → Seen (decodePlan file) from m (done + k) new
-    seen-more old new q r g = record { within = omega arith; rising = r .on g _ _ beside (q .rising) }
-
-  pub seen-stop : false ≡ true → first m (badTick (l .period) (entryAt (decodePlan file .ticks) from)) ≡ m
-  seen-stop e = let z : _≡_ {A = ℕ} 0 1 = cc in absurd (omega arith)
-
-  -- no point is bad where there is none
-  pub seen-none : m < 1 → true ≡ true
-      → first m (badTick (l .period) (entryAt (decodePlan file .ticks) from)) ≡ m
-  seen-none h _ = let q : m ≡ 0 = omega arith in rw q (none-yet _)
-
-  pub seen-end : (done x : ℕ) (rise : Rise) → Seen (decodePlan file) from m done rise → m ≤ done → 1 ≤ m
-      → rise .low ≤ l .period → x ≡ pointTick (decodePlan file) from
-      → ltb x 1 ≡ true → first m (badTick (l .period) (entryAt (decodePlan file .ticks) from)) ≡ m
-  seen-end done x rise q h o low f g =
-      let i : done ≡ m = omega (arith, q .within) in
-      let z : x < 1 = ltb-true _ _ g in
-      rising-end _ m (rise .low) (l .period) (rw i at (q .rising)) o
-      (omega (arith, f, entry-first (decodePlan file .ticks) from)) low
-
--- for `search seens` at the needs of that loop
-pub ruleset seens = (seen-start, seen-near, seen-room, seen-more, seen-stop, seen-none, seen-end)
-
--- WHAT A SCAN TELLS of a profile with no bad tick
+-- FOR CODE that looks at one profile
 module _ (p : Plan) (l : PlanLayout) (from m : ℕ) where
-  pub scan-risen : (c : Cursor) → first m (badTick (l .period) (entryAt (p .ticks) from)) ≡ m
-      → c ≡ cursorAt (l .pointblock) profilePointPer (from + m)
-      → Scanned p l from m (record { bad = l .points; at = c })
-  scan-risen c e f = record { bad = rw (e, le-ltb m m (omega arith)); at = λ _. f }
+  pub kept-no : false ≡ true → Kept l (entryAt (p .ticks) from) from m
+  kept-no e = let z : _≡_ {A = ℕ} 0 1 = cc in absurd (omega arith)
+
+  pub kept-some : (x y : ℕ) → m ≤ l .period → from + m ≤ l .points → x ≡ pointTick p from
+      → y ≡ pointTick p (from + (m - 1)) → x ≤ 0 → ltb y (l .period) ≡ true
+      → Kept l (entryAt (p .ticks) from) from m
+  unfolding entryAt
+  kept-some x y f r e g h b = record {
+    few = f;
+    room = r;
+    start = λ o. rw add-zero (omega (arith, e));
+    below = λ o. omega (arith, g, ltb-true y (l .period) b);
+  }
+
+-- for `search keeps` where the code answers
+pub ruleset keeps = (kept-no, kept-some)
+
+-- THE LOOP over the profiles, before profile k, whose points start at `from`; `some` before it have points
+pub record Holding (p : Plan) (l : PlanLayout) (k from some : ℕ) (counts : Cursor) : Type 0 where
+  pub within : k ≤ l .profiles
+  pub from-is : from ≡ pointStart p k
+  pub room : from ≤ l .points
+  pub counts-at : counts ≡ cursorAt (l .countblock) countPer k
+  pub some-is : some ≡ Count.count k (held p)
+  pub kept : (i : ℕ) → i < k → Kept l (pointTicks p i) (pointStart p i) (pointCount p i)
+
+module _ (p : Plan) (l : PlanLayout) where
+  pub holding-none : (counts : Cursor) → counts ≡ cursorFirst (l .countblock) → Holding p l 0 0 0 counts
+  unfolding pointStart
+  holding-none counts e = record {
+    within = omega arith;
+    from-is = total-none (pointCount p);
+    room = omega arith;
+    counts-at = e ∙ cursor-first (l .countblock) countPer (lit< tt);
+    some-is = Count.count-none (held p);
+    kept = λ i o. absurd (omega arith);
+  }
+
+  pub holding-no : (some : ℕ) → false ≡ true → AllKept p l some
+  holding-no some e = let z : _≡_ {A = ℕ} 0 1 = cc in absurd (omega arith)
+
+  pub holding-more : (k from some m r : ℕ) (counts new : Cursor) (b : Bool) → Holding p l k from some counts
+      → k < l .profiles → m ≡ pointCount p k → (b ≡ true → Kept l (entryAt (p .ticks) from) from m)
+      → not b ≡ false → r ≡ flag (ltb 0 m) → new ≡ moved countPer counts
+      → Holding p l (k + 1) (from + m) (some + r) new
+  unfolding pointStart
+  holding-more k from some m r counts new b i h e f g q c =
+      let d = f (not-false b g) in
+      let here : Kept l (pointTicks p k) (pointStart p k) (pointCount p k) =
+      rw (i .from-is, e) at d in
+      record {
+        within = omega arith;
+        from-is = total-more (pointCount p) from m k (i .from-is) e;
+        room = d .room;
+        counts-at = c ∙ ap (moved countPer) (i .counts-at) ∙ cursor-next (l .countblock) countPer (lit< tt) k;
+        some-is = tally-more (held p) some k r (i .some-is) (rw e at q);
+        kept = λ j o. below-more (λ i. Kept l (pointTicks p i) (pointStart p i) (pointCount p i)) k (i .kept)
+            here j (omega arith);
+      }
+
+  -- no more have points than there are
+  pub holding-few : (k from some r : ℕ) (counts : Cursor) → Holding p l k from some counts → r < 2
+      → some + r ≤ k + 1
+  holding-few k from some r counts i e = omega (arith, i .some-is, Count.count-few (held p) k)
+
+  pub holding-end : (k from some : ℕ) (counts : Cursor) → Holding p l k from some counts → l .profiles ≤ k
+      → eqb from (l .points) ≡ true → AllKept p l some
+  holding-end k from some counts i h e =
+      let z : k ≡ l .profiles = omega (arith, i .within) in
+      record {
+        profile = λ j o. i .kept j (omega arith);
+        sum = sym (rw z at (i .from-is)) ∙ eqb-true from (l .points) e;
+        some = rw z at (i .some-is);
+      }
+
+-- for `search holdings` at the needs of that loop
+pub ruleset holdings = (holding-none, holding-no, holding-end)
+
+-- FOR CODE that has done both
+module _ {file : List ℕ} {l : PlanLayout} (s : PlanLaid file l) where
+  pub rising-no : false ≡ true → Sound ≡ judgedCounts (l .period) (l .profiles) (decodePlan file)
+  rising-no e = let z : _≡_ {A = ℕ} 0 1 = cc in absurd (omega arith)
+
+  pub rising-yes : (breaks some : ℕ) (b : Bool) → (b ≡ true → AllKept (decodePlan file) l some)
+      → not b ≡ false
+      → breaks ≡ Count.count (pointTotal (decodePlan file)) (broken (pointTick (decodePlan file)))
+      → eqb breaks some ≡ true → Sound ≡ judgedCounts (l .period) (l .profiles) (decodePlan file)
+  rising-yes breaks some b f g e h =
+      rising-sound (decodePlan file) l some (plan-sizes s .points) (f (not-false b g))
+      (sym e ∙ eqb-true breaks some h)
+
+-- for `search risings` where the code answers
+pub ruleset risings = (rising-no, rising-yes)

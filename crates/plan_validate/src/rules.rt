@@ -1,7 +1,7 @@
-// The rules 17 to 19 of document 01, on a plan file that is laid out as its header says. The counts and the
-// points are read in one pass: rule 19 is judged at the points of each profile while rule 18 is judged at its
-// count, and told where 18 holds everywhere. A profile's points are first asked whether they keep the rule
-// (rising.rt), and scanned for the place where they do not.
+// The rules 17 to 19 of document 01, on a plan file that is laid out as its header says. The profiles are
+// first asked whether they keep rules 18 and 19 (rising.rt). Where they do not, the counts and the points are
+// read in one pass: rule 19 is judged at the points of each profile while rule 18 is judged at its count, and
+// told where 18 holds everywhere.
 use crate::rising::is_rising;
 use file_blocks::cursor::Cursor;
 use file_blocks::kind;
@@ -103,23 +103,6 @@ fn find_bad(plan: &[u8], l: PlanLayout, at: Cursor, from: usize, count: usize) -
     }
 }
 
-// Rule 19 over the points of one profile. Where it is kept, a test that finds no place says so sooner.
-fn scan_profile(plan: &[u8], l: PlanLayout, at: Cursor, from: usize, count: usize) -> Scan
-    requires { ⌜ PlanLaid (now plan) l ⌝ }
-    requires { ⌜ from + count ≤ l .points ⌝ }
-    requires { ⌜ at ≡ cursorAt (l .pointblock) profilePointPer from ⌝ }
-    ensures { λ r. ⌜ Scanned (decodePlan (now (plan .entry))) l from count r ⌝ }
-{
-    if is_rising(plan, l, from, count) {
-        let after = Cursor::before(l.pointblock, kind::PROFILE_POINT_PER, from + count);
-        return Scan {
-            bad: l.points,
-            at: after,
-        };
-    }
-    find_bad(plan, l, at, from, count)
-}
-
 // The scan goes on over one profile more, as long as nothing is found and the points stand in the file.
 fn scan_on(plan: &[u8], l: PlanLayout, scan: Scan, from: usize, count: usize) -> Scan
     requires { ⌜ PlanLaid (now plan) l ⌝ }
@@ -134,11 +117,11 @@ fn scan_on(plan: &[u8], l: PlanLayout, scan: Scan, from: usize, count: usize) ->
         return scan;
     }
     let at = scan.at;
-    scan_profile(plan, l, at, from, count)
+    find_bad(plan, l, at, from, count)
 }
 
-// Rules 18 and 19.
-fn judge_profiles(plan: &[u8], l: PlanLayout) -> Judged
+// Rules 18 and 19, with the place of the fault.
+fn scan_profiles(plan: &[u8], l: PlanLayout) -> Judged
     requires { ⌜ PlanLaid (now plan) l ⌝ }
     ensures { λ r. ⌜ r ≡ judgedCounts (l .period) (l .profiles) (decodePlan (now (plan .entry))) ⌝ }
 {
@@ -164,6 +147,17 @@ fn judge_profiles(plan: &[u8], l: PlanLayout) -> Judged
         return faulty(number::PLAN_TICK, bad as u32);
     }
     Judged::Sound
+}
+
+// Rules 18 and 19. Where they are kept, a test that finds no place says so sooner.
+fn judge_profiles(plan: &[u8], l: PlanLayout) -> Judged
+    requires { ⌜ PlanLaid (now plan) l ⌝ }
+    ensures { λ r. ⌜ r ≡ judgedCounts (l .period) (l .profiles) (decodePlan (now (plan .entry))) ⌝ }
+{
+    if is_rising(plan, l) {
+        return Judged::Sound;
+    }
+    scan_profiles(plan, l)
 }
 
 // The lowest of the rules 17 to 19 that the plan breaks, and its lowest place.

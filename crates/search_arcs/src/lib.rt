@@ -10,7 +10,16 @@ pub mod tables;
 pub mod times;
 
 ghost use mathlib.Core.Path.{_≡_};
-ghost use Prim.Native.Nat.{_<_};
+ghost use Prim.Native.Nat.{_^_, _<_};
+ghost use lib.Dec.{ltb};
+
+// Is a number before another? They are compared as signed numbers, which the vector code of any x86-64 can do.
+pub fn is_before(x: u32, other: u32) -> bool
+    requires { ⌜ (x < 2 ^ 31) × (other < 2 ^ 31) ⌝ }
+    ensures { λ r. ⌜ r ≡ ltb x other ⌝ }
+{
+    (x as i32) < (other as i32)
+}
 
 // An entry of a table as a size: what its readers need of the cast.
 pub fn wide(x: u16) -> usize

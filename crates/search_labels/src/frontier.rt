@@ -2,10 +2,10 @@
 // the place of each node's key (specs/Frontier.antt). A key is a node's label and the node in one number, so
 // the least key has the nearest node; it is looked for by a scan, and no other nodes are looked at.
 use network::limits::MOST_NODES;
+use search_arcs::is_before;
 use search_arcs::wide;
 ghost use mathlib.Core.Path.{_≡_};
 ghost use Prim.Native.Nat.{_-_, _^_, _≤_, _<_};
-ghost use lib.Dec.{ltb};
 ghost use lib.ListN.{getD, set};
 ghost use Rattle.network.specs.Limits.{mostNodes};
 ghost use Rattle.search_labels.specs.Frontier.{keyOf, nodeOf, lastEnd};
@@ -19,14 +19,6 @@ pub fn node(key: u32) -> usize
     ensures { λ r. ⌜ (r ≡ nodeOf key) × (r < mostNodes) ⌝ }
 {
     (key % NODES) as usize
-}
-
-// Is a key before another? They are compared as signed numbers, which the vector code of any x86-64 can do.
-fn is_before(key: u32, other: u32) -> bool
-    requires { ⌜ (key < 2 ^ 31) × (other < 2 ^ 31) ⌝ }
-    ensures { λ r. ⌜ r ≡ ltb key other ⌝ }
-{
-    (key as i32) < (other as i32)
 }
 
 // The least key.

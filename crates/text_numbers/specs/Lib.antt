@@ -3,6 +3,7 @@
 pub mod Text
 pub mod Lines
 pub mod Number
+pub mod Digits
 pub mod Fold
 pub mod Spaced
 pub mod Scanning

@@ -2,7 +2,7 @@
 -- further line.
 use mathlib.Core.Path.{_≡_, refl, sym, _∙_}
 use mathlib.Core.Logic.{_≢_}
-use mathlib.Core.Bool.{Bool, true, false, cond}
+use mathlib.Core.Bool.{Bool, true, false, cond, _||_}
 use mathlib.Core.List.{List, [], _∷_, _++_, append-nil, append-assoc}
 use Prim.Native.Nat.{ℕ, zero, suc, _+_, _-_, _≤_, _<_}
 use native.Mathlib.Decide.{decLt}
@@ -10,7 +10,8 @@ use native.Mathlib.Omega.{arith}
 use lib.ListN.{length, getD, take, drop, length-drop, length-append, drop-of-length-le}
 use lib.Seq.{drop-drop}
 use lib.Dec.{eqb}
-use borrow.Author.Tests.{eq-eqb, ne-eqb}
+use borrow.Author.Tests.{eq-eqb, ne-eqb, eqb-false}
+use Rattle.theory_loops.specs.Pick.{or-passed}
 
 abbrev pub isEmpty : List ℕ → Bool
 isEmpty [] = true
@@ -35,6 +36,24 @@ pub record LineTo (text : List ℕ) (at end : ℕ) : Type 0 where
   pub inside : Unended text at end
   pub feed : end < length text → getD text end 0 ≡ 10
 
+-- two stretches without a line feed, one behind the other
+pub unended-join : (text : List ℕ) (at mid end : ℕ) → Unended text at mid → Unended text mid end
+    → Unended text at end
+unended-join text at mid end f g k l m = elim (decLt k mid) [
+  | yes j ↦ f k l j
+  | no j ↦ g k (omega arith) m
+]
+
+-- and a line whose end is found behind such a stretch
+pub line-behind : (text : List ℕ) (at mid end : ℕ) → Unended text at mid → at ≤ mid → LineTo text mid end
+    → LineTo text at end
+line-behind text at mid end f l h = record {
+  after = omega (arith, h .after);
+  within = h .within;
+  inside = unended-join text at mid end f (h .inside);
+  feed = h .feed;
+}
+
 -- FOR THE LOOP that looks for a line's end
 module _ (text : List ℕ) (at i : ℕ) (h : Unended text at i) where
   pub unended-more : getD text i 0 ≢ 10 → Unended text at (i + 1)
@@ -55,6 +74,20 @@ module _ (text : List ℕ) (at i : ℕ) (h : Unended text at i) where
         inside = λ k p q. h k p (omega arith);
         feed = λ p. absurd (omega arith);
       }
+
+pub unended-byte : (text : List ℕ) (at : ℕ) → getD text at 0 ≢ 10 → Unended text at (at + 1)
+unended-byte text at = unended-more text at at (λ k l m. absurd (omega arith))
+
+-- FOR THE LOOP that looks at bytes together: the first k have no line feed, unless one was found
+module _ (text : List ℕ) (at : ℕ) (found : Bool) (k : ℕ) (h : found ≡ false → Unended text at (at + k)) where
+  pub unfound-more : (found || eqb (getD text (at + k) 0) 10) ≡ false → Unended text at (at + (k + 1))
+  unfound-more e =
+      let (f, g) = or-passed found (eqb (getD text (at + k) 0) 10) e in
+      let z : at + k + 1 ≡ at + (k + 1) = omega arith in
+      rw z at (unended-more text at (at + k) (h f) (eqb-false (getD text (at + k) 0) 10 g))
+
+  pub unfound-all : (all : ℕ) → k ≤ all → all ≤ k → found ≡ false → Unended text at (at + all)
+  unfound-all all l m e = let z : k ≡ all = omega arith in rw z at (h e)
 
 -- the lines of bytes that start with one
 at-feed : (w : List ℕ) (b : ℕ) (bs : List ℕ) → b ≡ 10 → linesFrom w (b ∷ bs) ≡ w ∷ linesOf bs

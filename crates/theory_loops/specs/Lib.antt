@@ -7,7 +7,6 @@ pub mod Total
 pub mod Sums
 pub mod Select
 pub mod Stores
-pub mod Parts
 pub mod Count
 pub mod Grid
 pub mod Joined

@@ -7,7 +7,6 @@
 //   specs/Total.antt   a running sum
 //   specs/Select.antt  the indices that pass a test, listed
 //   specs/Count.antt   how many pass
-//   specs/Parts.antt   a run over entries side by side, in parts
 //   specs/Grid.antt    numbers in rows of one width in one list
 //   specs/Joined.antt  lists one behind the other
 // A file of a loop's shape has a ruleset: `search` with it closes most needs of such a loop.

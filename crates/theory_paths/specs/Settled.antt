@@ -1,18 +1,19 @@
 -- Numbers for the travels to a node b that are worked out backwards from b: each is some path's (`Sound`),
--- and no arc gives less than its tail's number (`Settled`). Such numbers are the least travels
--- (`settled-least`), in whatever order they were worked out.
+-- and no arc gives less than its tail's number (`Settled`), or only what is not wanted: a number that is not
+-- below some bar. Numbers up to the bar are the least travels then (`settled-least`), in whatever order they
+-- were worked out.
 use mathlib.Core.Path.{_≡_, refl}
 use mathlib.Core.Logic.{_≢_}
 use mathlib.Core.List.{List, [], _∷_}
-use Prim.Native.Nat.{ℕ, _+_, _%_, _≤_, _<_}
+use Prim.Native.Nat.{ℕ, _+_, _%_, _≤_, _<_, min}
 use native.Mathlib.Nat.{mod-lt, mod-eq-of-lt, mod-add-mod, mod-add-div'}
 use native.Mathlib.Omega.{arith}
-use native.Mathlib.Decide.{ℕ-discrete}
+use native.Mathlib.Decide.{ℕ-discrete, decLt}
 use Rattle.theory_paths.specs.Graph.{Graph, Lawful, ends, all, ArcFrom, IsPath, stop, step, driven}
 use Rattle.theory_paths.specs.Graph.{Arrival}
 use Rattle.theory_paths.specs.Drive.{driven-mod, arc-takes}
 use Rattle.theory_paths.specs.Earliest.{never}
-use Rattle.theory_paths.specs.Least.{Travels, Least}
+use Rattle.theory_paths.specs.Least.{Travels, IsLeast}
 
 -- What arc a gives at tick x: its travel, and its head's number at the tick at which it ends.
 unfoldable pub givesTicks : Graph → Travels → ℕ → ℕ → ℕ
@@ -23,10 +24,11 @@ pub record Sound (g : Graph) (b : ℕ) (T : Travels) : Type 0 where
   pub capped : (u x : ℕ) → u < g .nodes → x < g .period → T u x ≤ never
   pub travel : (u x : ℕ) → u < g .nodes → x < g .period → T u x < never → Arrival g all u x b (x + T u x)
 
--- At b the number is 0, and no arc gives less than its tail's number.
-pub record Settled (g : Graph) (b : ℕ) (T : Travels) : Type 0 where
+-- At b the number is 0, and no arc that gives less than the bar gives less than its tail's number.
+pub record Settled (g : Graph) (b bar : ℕ) (T : Travels) : Type 0 where
   pub home : (x : ℕ) → x < g .period → T b x ≡ 0
-  pub no-less : (a x : ℕ) → a < g .arcs → x < g .period → T (g .tail a) x ≤ givesTicks g T a x
+  pub no-less : (a x : ℕ) → a < g .arcs → x < g .period → givesTicks g T a x < bar
+      → T (g .tail a) x ≤ givesTicks g T a x
 
 -- what an arc gives, at any tick
 pub gives-at : (g : Graph) (T : Travels) (a x : ℕ)
@@ -57,29 +59,30 @@ module _ {g : Graph} (ok : Lawful g) where
       }
 
   module _ {b : ℕ} {T : Travels} (s : Sound g b T) where
-    -- SETTLED
-    settled-under : {u : ℕ} {w : List ℕ} (x : ℕ) → Settled g b T → IsPath g all u b w
-        → x + T u (x % period) ≤ driven g w x
-    settled-under x t (stop e) = rw (e, t .home (x % period) (below x)) (omega arith)
-    settled-under x t (step {a = a} f i) =
-        rw (← (f .leaves))
-        (omega (
-          arith,
-          gives-at g T a x,
-          t .no-less a (x % period) (f .listed) (below x),
-          settled-under (ends g a x) t i,
-        ))
+    -- SETTLED: no path takes less than the number, or less than the bar
+    module _ {bar : ℕ} (t : Settled g b bar T) where
+      settled-under : {u : ℕ} {w : List ℕ} (x : ℕ) → IsPath g all u b w
+          → x + min bar (T u (x % period)) ≤ driven g w x
+      settled-under x (stop e) = rw (e, t .home (x % period) (below x)) (omega arith)
+      settled-under x (step {a = a} f i) =
+          rw (← (f .leaves))
+          (elim (decLt (givesTicks g T a (x % period)) bar) [
+            | yes l ↦ omega (
+              arith,
+              gives-at g T a x,
+              arc-takes ok x f,
+              t .no-less a (x % period) (f .listed) (below x) l,
+              settled-under (ends g a x) i,
+            )
+            | no l ↦ omega (arith, gives-at g T a x, arc-takes ok x f, settled-under (ends g a x) i)
+          ])
 
-    pub settled-least : Settled g b T → Least g b T
-    settled-least t = record {
-      at = λ u x n h.
-          record {
-            capped = s .capped u x n h;
-            travel = s .travel u x n h;
-            least =
-                λ w i. rw (mod-eq-of-lt h) at (settled-under x t i);
-          };
-    }
+      pub settled-least : (u x : ℕ) → u < nodes → x < period → T u x ≤ bar → IsLeast g b u x (T u x)
+      settled-least u x n h l = record {
+        capped = s .capped u x n h;
+        travel = s .travel u x n h;
+        least = λ w i. let k = rw (mod-eq-of-lt h) at (settled-under x i) in omega arith;
+      }
 
     -- what an arc gives is a path's, where it is a number
     pub arc-path : (a x : ℕ) → a < arcs → x < period → givesTicks g T a x < never

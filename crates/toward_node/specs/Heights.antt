@@ -4,7 +4,7 @@
 -- at most a period more; after that they only fall. So no number comes to a period for each node that has
 -- some.
 use mathlib.Core.Path.{_≡_, sym, _∙_, ap}
-use mathlib.Core.Bool.{Bool, true}
+use mathlib.Core.Bool.{Bool, true, false}
 use mathlib.Core.Logic.{_≢_}
 use mathlib.Core.List.{List}
 use Prim.Native.Nat.{ℕ, _+_, _-_, _*_, _≤_, _<_, min}
@@ -38,6 +38,19 @@ pub record Heights (l : Layout) (W D H : List ℕ) : Type 0 where
   pub dirty : (u : ℕ) → u < l .nodes → getD D u 0 ≢ 0 → getD H u 0 ≢ 0
   pub low : (u x : ℕ) → u < l .nodes → x < l .period → getD D u 0 ≢ 0
       → never ≤ gridAt (l .period) W u x + getD D u 0
+
+-- A third table has for each clean node never less a number that no entry of its row is below.
+pub record Lows (l : Layout) (W D L : List ℕ) : Type 0 where
+  pub long : l .nodes ≤ length L
+  pub least : (u x : ℕ) → u < l .nodes → x < l .period → getD D u 0 ≡ 0
+      → never ≤ gridAt (l .period) W u x + getD L u 0
+
+-- Where every node is clean, two tables have such bounds of all rows.
+pub record Bounds (l : Layout) (W L H : List ℕ) : Type 0 where
+  pub wide : l .nodes ≤ length L
+  pub tall : l .nodes ≤ length H
+  pub low : (u x : ℕ) → u < l .nodes → x < l .period → never ≤ gridAt (l .period) W u x + getD L u 0
+  pub high : (u x : ℕ) → u < l .nodes → x < l .period → gridAt (l .period) W u x + getD H u 0 ≤ never
 
 -- hs is the row of node v, which has numbers, and `near` is never less a number that none of them is below.
 pub record Held (wide near : ℕ) (hs W H : List ℕ) (v : ℕ) : Type 0 where
@@ -112,13 +125,19 @@ module _ {l : Layout} (s : Small l) {W D H : List ℕ} (o : Heights l W D H) whe
 
   -- FOR CODE that lowers the row of node u
   pub heights-fresh : {u : ℕ} {first : Bool} → u < l .nodes → (first ≡ true → getD H u 0 ≡ 0)
-      → Fresh first W (u * l .period) (u * l .period + l .period)
+      → (first ≡ false → getD H u 0 ≢ 0) → Fresh first W (u * l .period) (u * l .period + l .period)
   unfolding gridAt
-  heights-fresh {u} n e = record {
-    entry = λ t k lo hi.
-        let q : u * l .period + (k - u * l .period) ≡ k = omega arith in
-        rw q at (o .bare u (k - u * l .period) n (omega arith) (e t));
+  heights-fresh {u} n e f = record {
+    none = λ t k lo hi. rw (place k lo) at (o .bare u (k - u * l .period) n (omega arith) (e t));
+    known = λ t. record {
+      entry = λ k lo hi.
+          let z = rw (place k lo) at (number-early u (k - u * l .period) n (omega arith) (f t)) in
+          omega (arith, numbered-early);
+    };
   }
+    where
+      place : (k : ℕ) → u * l .period ≤ k → u * l .period + (k - u * l .period) ≡ k
+      place k lo = omega arith
 
   -- node u's row has fallen to what a node with numbers gives
   module _ {M : List ℕ} {u near high : ℕ} (n : u < l .nodes) (long : length M ≡ length W)
@@ -191,6 +210,30 @@ module _ {l : Layout} (s : Small l) {W D H : List ℕ} (o : Heights l W D H) whe
       ];
     }
 
+-- node v is taken, and its row noted
+pub lows-taken : {l : Layout} {W D H L : List ℕ} → Heights l W D H → Lows l W D L → (v : ℕ) → v < l .nodes
+    → getD D v 0 ≢ 0 → Lows l W (set D v 0) (set L v (getD D v 0))
+lows-taken {D = D} {L = L} o k v n d = record {
+  long = rw (length-set L v (getD D v 0)) (k .long);
+  least = λ u x m h z. elim (ℕ-discrete u v) [
+    | yes e ↦ rw (e, getD-set-same L v (getD D v 0) 0 (omega (arith, k .long))) (o .low v x n h d)
+    | no e ↦
+        rw (getD-set-other L v u (getD D v 0) 0 e)
+        (k .least u x m h (sym (getD-set-other D v u 0 0 e) ∙ z))
+  ];
+}
+
+-- where every node is clean
+pub lows-bounds : {l : Layout} {W D H L : List ℕ} → Heights l W D H → Lows l W D L
+    → ((u : ℕ) → u < l .nodes → getD D u 0 ≡ 0)
+    → Bounds l W L H
+lows-bounds o k clean = record {
+  wide = k .long;
+  tall = o .tall;
+  low = λ u x n h. k .least u x n h (clean u n);
+  high = o .high;
+}
+
 -- A TABLE with an entry for node b alone
 module _ (b e : ℕ) (n : b < mostNodes) where
   only-long : length (set (replicate mostNodes 0) b e) ≡ mostNodes
@@ -211,6 +254,18 @@ module _ (b e : ℕ) (n : b < mostNodes) where
         total-set (replicate mostNodes 0) mostNodes b e n (rw (length-replicate {A = ℕ} mostNodes 0) n),
         getD-replicate {A = ℕ} mostNodes b 0 0 n,
       )
+
+-- at first every node but b is clean, and has no number
+pub lows-first : {l : Layout} {b : ℕ} {W : List ℕ} → b < l .nodes → l .nodes ≤ mostNodes
+    → ((u x : ℕ) → u < l .nodes → x < l .period → u ≢ b → gridAt (l .period) W u x ≡ never)
+    → Lows l W (set (replicate mostNodes 0) b never) (replicate mostNodes 0)
+lows-first {b = b} n few away = record {
+  long = rw (length-replicate {A = ℕ} mostNodes 0) few;
+  least = λ u x m h z. elim (ℕ-discrete u b) [
+    | yes e ↦ absurd (omega (arith, only-same b never (omega arith), rw e at z))
+    | no e ↦ omega (arith, away u x m h e)
+  ];
+}
 
 -- b's row is 0, and no other row has a number
 pub heights-first : {l : Layout} {b : ℕ} {W : List ℕ} → b < l .nodes → length W ≡ l .nodes * l .period

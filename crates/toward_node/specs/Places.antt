@@ -154,15 +154,15 @@ module _ (D : List ℕ) where
     all = λ u l e. elim (ℕ-discrete u v) [ yes i ↦ q (rw i at e) | no i ↦ w .all u (omega arith) e ];
   }
 
-  pub found-most : (nodes v most : ℕ) → v < nodes → getD D v 0 ≡ most → most ≢ 0 → Found nodes D v
-  found-most nodes v most l q ne =
-      record { dirty = λ _ e. ne (sym q ∙ e); none = λ m. absurd (omega arith) }
-
-  pub found-end : (nodes v most : ℕ) → Most nodes most D → Unmet v most D → nodes ≤ v → most ≢ 0
-      → Found nodes D nodes
-  found-end nodes v most w n l ne =
+  -- of the nodes below v none has `most`, so v is one of those that are left
+  pub unmet-end : {A : Type 0} (nodes v most : ℕ) → Most nodes most D → Unmet v most D → nodes ≤ v → most ≢ 0
+      → A
+  unmet-end nodes v most w n l ne =
       let o = w .met (omega arith) in absurd (n .all (w .at) (omega (arith, o .0)) (o .1))
 
-  pub found-none : (nodes most : ℕ) → Most nodes most D → most ≡ 0 → Found nodes D nodes
-  found-none nodes most w e =
-      record { dirty = λ m. absurd (omega arith); none = λ _ u m. omega (arith, w .all u m) }
+  module _ (nodes bar most : ℕ) where
+    pub found-most : (v : ℕ) → v < nodes → getD D v 0 ≡ most → bar < most → Found nodes bar D v
+    found-most v l q m = record { dirty = λ _ e. omega arith; none = λ n. absurd (omega arith) }
+
+    pub found-none : Most nodes most D → most ≤ bar → Found nodes bar D nodes
+    found-none w l = record { dirty = λ m. absurd (omega arith); none = λ _ u m. omega (arith, w .all u m) }

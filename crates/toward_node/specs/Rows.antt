@@ -1,6 +1,6 @@
 -- Numbers in one list, row by row: node u's number at tick x stands at place u × period + x. What an arc
 -- lowered into the row of its tail makes of the list.
-use mathlib.Core.Path.{_≡_, sym, _∙_, ap}
+use mathlib.Core.Path.{_≡_, refl, sym, _∙_, ap}
 use mathlib.Core.Bool.{Bool}
 use mathlib.Core.Logic.{_≢_}
 use mathlib.Core.List.{List, _++_}
@@ -24,6 +24,22 @@ rowsOf wide W u x = gridAt wide W u x
 -- The list holds the least travels to b.
 pub record Worked (g : Graph) (b : ℕ) (W : List ℕ) : Type 0 where
   pub at : (u x : ℕ) → u < g .nodes → x < g .period → gridAt (g .period) W u x ≡ leastTicks g b u x
+
+-- The row of node u holds them.
+pub record WorkedRow (g : Graph) (b u : ℕ) (W : List ℕ) : Type 0 where
+  pub at : (x : ℕ) → x < g .period → gridAt (g .period) W u x ≡ leastTicks g b u x
+
+-- The row of node `goal` does, or every row, where there is no such node.
+pub record WorkedFor (g : Graph) (b goal : ℕ) (W : List ℕ) : Type 0 where
+  pub at : (u x : ℕ) → u < g .nodes → (goal < g .nodes → u ≡ goal) → x < g .period
+      → gridAt (g .period) W u x ≡ leastTicks g b u x
+
+pub worked-all : {g : Graph} {b goal : ℕ} {W : List ℕ} → g .nodes ≤ goal → WorkedFor g b goal W → Worked g b W
+worked-all l w = record { at = λ u x n h. w .at u x n (λ k. absurd (omega arith)) h }
+
+pub worked-one : {g : Graph} {b goal : ℕ} {W : List ℕ} → goal < g .nodes → WorkedFor g b goal W
+    → WorkedRow g b goal W
+worked-one {goal = goal} l w = record { at = λ x h. w .at goal x l (λ _. refl) h }
 
 -- A row that starts at place p, lowered by an arc with travel w, where h has its head's numbers.
 unfoldable pub rowLowered : (ℕ → ℕ) → (ℕ → ℕ) → ℕ → ℕ → List ℕ → ℕ → ℕ
@@ -138,11 +154,16 @@ row-lent w h W ys p s n r e l c =
 pub fresh-lent : {first : Bool} {W : List ℕ} {p s n : ℕ} → p ≡ s → Fresh first W s (s + n)
     → Fresh first (take (p + n - p) (drop p W)) 0 n
 fresh-lent {W = W} {p = p} {n = n} e f = record {
-  entry = λ t x _ h.
-      let q : p + x - p ≡ x = omega arith in
-      (rw q at (part-was W p (p + n) (p + x) (omega arith) (omega arith)))
-      ∙ f .entry t (p + x) (omega arith) (omega arith);
+  none = λ t x _ h. was x h ∙ f .none t (p + x) (omega arith) (omega arith);
+  known = λ t. record {
+    entry = λ x _ h. omega (arith, was x h, f .known t .entry (p + x) (omega arith) (omega arith));
+  };
 }
+  where
+    was : (x : ℕ) → x < n → getD (take (p + n - p) (drop p W)) x 0 ≡ getD W (p + x) 0
+    was x h =
+        let q : p + x - p ≡ x = omega arith in
+        rw q at (part-was W p (p + n) (p + x) (omega arith) (omega arith))
 
 -- nothing fell: the list is as it was
 pub row-same : {p e r : ℕ} {f : ℕ → ℕ} {W M : List ℕ} → Cut p e f W M r → r ≡ 0 → M ≡ W

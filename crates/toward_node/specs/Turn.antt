@@ -1,14 +1,15 @@
--- The laws of the code: an arc's turn, a node's turn, and turn after turn until no node is dirty.
+-- The laws of the code: an arc's turn, a node's turn, and turn after turn until no dirty node is near enough.
+-- `bar` is on the scale of the tables: what is not below never less `bar` is not wanted.
 use mathlib.Core.Path.{_≡_, refl, sym, _∙_, ap}
 use mathlib.Core.Bool.{Bool, true}
 use mathlib.Core.Logic.{_≢_}
 use mathlib.Core.List.{List}
-use Prim.Native.Nat.{ℕ, _+_, _-_, _*_, _%_, _≤_, _<_, zero-le}
+use Prim.Native.Nat.{ℕ, _+_, _-_, _*_, _%_, _≤_, _<_, max, zero-le}
 use native.Mathlib.Nat.{mul-le-mul, mul-le-mul-right, mod-lt}
 use native.Mathlib.Omega.{arith}
-use native.Mathlib.Decide.{decLt}
+use native.Mathlib.Decide.{ℕ-discrete, decLt}
 use lib.ListN.{length, getD, set, replicate}
-use lib.Seq.{getD-set-other}
+use lib.Seq.{getD-set-same, getD-set-other}
 use Rattle.theory_loops.specs.Fill.{Filled}
 use Rattle.theory_loops.specs.Grid.{gridAt, grid-in}
 use Rattle.theory_paths.specs.Graph.{Graph}
@@ -25,14 +26,14 @@ use Rattle.toward_row.specs.Arcs.{Primed}
 use Rattle.toward_row.specs.Cut.{Cut}
 use Rattle.toward_row.specs.Lower.{entries}
 use Rattle.theory_paths.specs.Queue.{Queue, queue-begin, queue-skip, queue-quiet, queue-lower, queue-least}
-use Rattle.theory_paths.specs.Queue.{queue-first, Lowering}
+use Rattle.theory_paths.specs.Queue.{queue-first, queue-bar, Lowering}
 use Rattle.toward_node.specs.Burden.{burden, burden-clear, burden-lower}
 use Rattle.toward_node.specs.Heights.{Heights, Held, Near, NearFirst, Highest, numbered}
 use Rattle.toward_node.specs.Heights.{number-early, heights-held}
 use Rattle.toward_node.specs.Heights.{heights-clear, heights-lower, heights-first, numbered-early}
-use Rattle.toward_node.specs.Heights.{only-same}
+use Rattle.toward_node.specs.Heights.{only-same, Lows, Bounds, lows-taken, lows-bounds, lows-first}
 use Rattle.toward_node.specs.Leasts.{LeastTravel}
-use Rattle.toward_node.specs.Rows.{rowsOf, Worked, rowLowered, row-lower, row-same, row-lowering}
+use Rattle.toward_node.specs.Rows.{rowsOf, WorkedFor, rowLowered, row-lower, row-same, row-lowering}
 use Rattle.toward_node.specs.Rows.{row-quiet, row-held}
 use Rattle.network.specs.Limits.{mostArcs, mostNodes, mostPeriod}
 
@@ -42,48 +43,83 @@ pub record Ready (file : List ℕ) (l : Layout) (starts into next : List ℕ) : 
   pub chained : Chained (head (decode file)) (l .nodes) (l .arcs) 0 into next
 
 -- All that is to be done of the arcs into the clean nodes is done.
-abbrev pub Idle : Graph → ℕ → Travels → List ℕ → Type 0
-Idle g b T D = Queue g b 0 (g .arcs) T D
+abbrev pub Idle : Graph → ℕ → ℕ → Travels → List ℕ → Type 0
+Idle g b bar T D = Queue g b (never - bar) 0 (g .arcs) T D
 
 -- what is left to do
 abbrev pub left : Layout → List ℕ → List ℕ → ℕ
 left l W D = burden (l .nodes * l .period) W D
 
+-- A node that is clean in the end was clean before, and its row has stayed.
+pub record Kept (l : Layout) (W D M E : List ℕ) : Type 0 where
+  pub clean : (u : ℕ) → u < l .nodes → getD E u 0 ≡ 0 → getD D u 0 ≡ 0
+  pub row : (u x : ℕ) → u < l .nodes → x < l .period → getD E u 0 ≡ 0
+      → gridAt (l .period) M u x ≡ gridAt (l .period) W u x
+
+kept-same : {l : Layout} {W D : List ℕ} → Kept l W D W D
+kept-same = record { clean = λ u n z. z; row = λ u x n h z. refl }
+
+kept-on : {l : Layout} {W D M E N F : List ℕ} → Kept l W D M E → Kept l M E N F → Kept l W D N F
+kept-on j k = record {
+  clean = λ u n z. j .clean u n (k .clean u n z);
+  row = λ u x n h z. k .row u x n h z ∙ j .row u x n h (k .clean u n z);
+}
+
+kept-lows : {l : Layout} {W D M E L : List ℕ} → Kept l W D M E → Lows l W D L → Lows l M E L
+kept-lows j k = record {
+  long = k .long;
+  least = λ u x n h z. omega (arith, j .row u x n h z, k .least u x n h (j .clean u n z));
+}
+
 -- What arc a's turn makes of the list and the tables: W, D and H become M, E and I.
-pub record Stepped (file : List ℕ) (l : Layout) (a near : ℕ) (hs W D H M E I : List ℕ) : Type 0 where
+pub record Stepped (file : List ℕ) (l : Layout) (a near bar : ℕ) (hs W D H M E I : List ℕ) : Type 0 where
   pub heights : Heights l M E I
   pub held : Held (l .period) near hs M I (head (decode file) a)
   pub lighter : left l M E ≤ left l W D
-  pub carried : (b v : ℕ) → Queue (graphOf (decode file)) b v a (rowsOf (l .period) W) D
-      → Queue (graphOf (decode file)) b v (a + 1) (rowsOf (l .period) M) E
+  pub rises : (u : ℕ) → u < l .nodes → getD H u 0 ≤ getD I u 0
+  pub kept : Kept l W D M E
+  pub carried : (b v : ℕ) → Queue (graphOf (decode file)) b (never - bar) v a (rowsOf (l .period) W) D
+      → Queue (graphOf (decode file)) b (never - bar) v (a + 1) (rowsOf (l .period) M) E
 
 -- Node v's turn under way, from where it is clean: arc a is next.
-pub record Walking (file : List ℕ) (l : Layout) (v a near : ℕ) (hs W D M E I : List ℕ) : Type 0 where
+pub record Walking (file : List ℕ) (l : Layout) (v a near bar : ℕ) (hs W D H M E I : List ℕ) : Type 0 where
   pub within : a ≤ mostArcs
   pub meets : a < l .arcs → head (decode file) a ≡ v
   pub heights : Heights l M E I
   pub held : Held (l .period) near hs M I v
   pub lighter : left l M E ≤ left l W D
-  pub carried : (b : ℕ) → Queue (graphOf (decode file)) b v 0 (rowsOf (l .period) W) D
-      → Queue (graphOf (decode file)) b v a (rowsOf (l .period) M) E
+  pub rises : (u : ℕ) → u < l .nodes → getD H u 0 ≤ getD I u 0
+  pub kept : Kept l W D M E
+  pub carried : (b : ℕ) → Queue (graphOf (decode file)) b (never - bar) v 0 (rowsOf (l .period) W) D
+      → Queue (graphOf (decode file)) b (never - bar) v a (rowsOf (l .period) M) E
 
 -- What a node's turn makes of them.
-pub record Turned (file : List ℕ) (l : Layout) (W D M E I : List ℕ) : Type 0 where
+pub record Turned (file : List ℕ) (l : Layout) (bar : ℕ) (W D H M E I L : List ℕ) : Type 0 where
   pub heights : Heights l M E I
+  pub lows : Lows l M E L
   pub lighter : left l M E < left l W D
-  pub carried : (b : ℕ) → Idle (graphOf (decode file)) b (rowsOf (l .period) W) D
-      → Idle (graphOf (decode file)) b (rowsOf (l .period) M) E
+  pub rises : (u : ℕ) → u < l .nodes → getD H u 0 ≤ getD I u 0
+  pub carried : (b : ℕ) → Idle (graphOf (decode file)) b bar (rowsOf (l .period) W) D
+      → Idle (graphOf (decode file)) b bar (rowsOf (l .period) M) E
 
--- v is a dirty node, or there is none.
-pub record Found (nodes : ℕ) (D : List ℕ) (v : ℕ) : Type 0 where
+-- v is a dirty node, or none has more than `bar` in D.
+pub record Found (nodes bar : ℕ) (D : List ℕ) (v : ℕ) : Type 0 where
   pub dirty : v < nodes → getD D v 0 ≢ 0
-  pub none : nodes ≤ v → (u : ℕ) → u < nodes → getD D u 0 ≡ 0
+  pub none : nodes ≤ v → (u : ℕ) → u < nodes → getD D u 0 ≤ bar
+
+-- What is wanted are the numbers of the node `goal`, so nothing that is not below its greatest; or those of
+-- all nodes, where there is no such node.
+pub record Bar (nodes goal : ℕ) (H : List ℕ) (bar : ℕ) : Type 0 where
+  pub one : goal < nodes → bar ≡ getD H goal 0
+  pub all : nodes ≤ goal → bar ≡ 0
 
 -- Between two turns: v is next.
-pub record Waiting (file : List ℕ) (l : Layout) (b : ℕ) (W D H : List ℕ) (v : ℕ) : Type 0 where
+pub record Waiting (file : List ℕ) (l : Layout) (b goal bar : ℕ) (W D H L : List ℕ) (v : ℕ) : Type 0 where
   pub heights : Heights l W D H
-  pub queue : Idle (graphOf (decode file)) b (rowsOf (l .period) W) D
-  pub found : Found (l .nodes) D v
+  pub lows : Lows l W D L
+  pub bars : Bar (l .nodes) goal H bar
+  pub queue : Idle (graphOf (decode file)) b bar (rowsOf (l .period) W) D
+  pub found : Found (l .nodes) bar D v
 
 module _ {file : List ℕ} {l : Layout} (t : Town file l) where
   pub modest : Modest (graphOf (decode file))
@@ -140,15 +176,17 @@ module _ {file : List ℕ} {l : Layout} {starts hs W D H : List ℕ} {a u near :
         numbered-early (t .town .small) o,
       )
 
-  -- no entry of its tail's row is above what it gives, by the tables alone
-  pub stepped-skip : {m : ℕ} → LeastTravel file l a m → near ≤ getD H u 0 + m
-      → Stepped file l a near hs W D H W D H
+  -- no entry of its tail's row is above what it gives, or it gives nothing that is wanted, by the tables alone
+  pub stepped-skip : {m bar : ℕ} → LeastTravel file l a m → near ≤ max (getD H u 0) bar + m
+      → Stepped file l a near bar hs W D H W D H
   unfolding givesTicks
   stepped-skip w z = record {
     heights = o;
     held = k;
     lighter = omega arith;
-    carried = λ b v q. queue-quiet q (λ x i.
+    rises = λ w m. omega arith;
+    kept = kept-same;
+    carried = λ b v q. queue-quiet q (λ x i j.
         let y : x < l .period = omega (arith, t .town .sizes .period) in
         let f = rw e at (o .high u x node y) in
         omega (arith, w .all x y, rw e at z, k .at _ (ended x), k .least _ (ended x)));
@@ -176,16 +214,18 @@ module _ {file : List ℕ} {l : Layout} {starts hs W D H : List ℕ} {a u near :
       least = k .least;
     }
 
-    pub stepped-quiet : r ≡ 0 → Stepped file l a near hs W D H M D H
+    pub stepped-quiet : {bar : ℕ} → r ≡ 0 → Stepped file l a near bar hs W D H M D H
     stepped-quiet z =
         let same : M ≡ W = row-same c z in
         record {
           heights = rw same o;
           held = still (k .some);
           lighter = rw same (omega arith);
-          carried = λ b v q. rw same (queue-quiet q
-              (row-quiet (graphOf (decode file)) a (l .period) (u * l .period) (u * l .period + l .period) r
-              hs W M (t .town .sizes .period) (t .town .small .period-some) start refl (k .at) c z));
+          rises = λ w m. omega arith;
+          kept = rw same kept-same;
+          carried = λ b v q. rw same (queue-quiet q (λ x i _.
+              row-quiet (graphOf (decode file)) a (l .period) (u * l .period) (u * l .period + l .period) r
+              hs W M (t .town .sizes .period) (t .town .small .period-some) start refl (k .at) c z x i));
         }
 
     -- what it gives is at most a period more than its head's numbers
@@ -227,20 +267,25 @@ module _ {file : List ℕ} {l : Layout} {starts hs W D H : List ℕ} {a u near :
         let x = t .town .small .period-some in
         omega (arith, n .all 0 x, given 0 x, numbered-early (t .town .small) o)
 
-    pub stepped-lower : 0 < r → {d high : ℕ} → Near (l .period) M u d → Highest (l .period) M u high
-        → Stepped file l a near hs W D H M (set D u d) (set H u (never - high))
+    other-row : (w x : ℕ) → w < l .nodes → x < l .period → w ≢ u
+        → gridAt (l .period) M w x ≡ gridAt (l .period) W w x
+    other-row w x m i ne =
+        lowering .other w x (omega (arith, t .town .sizes .nodes)) (omega (arith, t .town .sizes .period))
+        (λ q. ne (q ∙ sym e))
+
+    -- a node that is clean once the tail is dirty is another
+    other-clean : {d : ℕ} → Near (l .period) M u d → (w : ℕ) → getD (set D u d) w 0 ≡ 0 → w ≢ u
+    other-clean {d} n w q i =
+        omega (arith, near-some n, getD-set-same D u d 0 (omega (arith, node, o .wide)), rw i at q)
+
+    pub stepped-lower : {bar : ℕ} → 0 < r → {d high : ℕ} → Near (l .period) M u d → Highest (l .period) M u high
+        → Stepped file l a near bar hs W D H M (set D u d) (set H u (never - high))
     stepped-lower z {d} {high} n top =
         let apart : head (decode file) a ≢ u = λ q. arc-apart (t .town) a h (sym e ∙ sym q) in
         let kept = getD-set-other H u (head (decode file) a) (never - high) 0 apart in
         record {
           heights = heights-lower (t .town .small) o node (c .filled .long)
-              (λ w x m i ne.
-              lowering .other w x (omega (arith, t .town .sizes .nodes)) (omega (
-                arith,
-                t .town .sizes
-                    .period,
-              ))
-              (λ q. ne (q ∙ sym e)))
+              other-row
               (λ x i. rw e (omega (arith, lowering .at x (omega (arith, t .town .sizes .period))))) given n
               top;
           held = still (λ q. k .some (sym kept ∙ q));
@@ -253,6 +298,18 @@ module _ {file : List ℕ} {l : Layout} {starts hs W D H : List ℕ} {a u near :
                     m,
               ))
               (λ i _ _. row-lower _ _ _ _ W i) d;
+          rises = λ w m. elim (ℕ-discrete w u) [
+            | yes i ↦
+                let was = o .high u (top .at) node (top .within) in
+                let falls = lowering .at (top .at) (omega (arith, t .town .sizes .period, top .within)) in
+                rw (i, getD-set-same H u (never - high) 0 (omega (arith, node, o .tall)))
+                (omega (arith, top .met, rw (← e) at falls))
+            | no i ↦ omega (arith, getD-set-other H u w (never - high) 0 i)
+          ];
+          kept = record {
+            clean = λ w m q. sym (getD-set-other D u w d 0 (other-clean n w q)) ∙ q;
+            row = λ w x m i q. other-row w x m i (other-clean n w q);
+          };
           carried = λ b v q. rw e
               (queue-lower (lawful (t .town)) lowering in-graph d (near-some n) q
               (omega (arith, node, o .wide, e)));
@@ -261,14 +318,15 @@ module _ {file : List ℕ} {l : Layout} {starts hs W D H : List ℕ} {a u near :
 -- A NODE'S TURN
 module _ {file : List ℕ} {l : Layout} {starts into next : List ℕ} (t : Ready file l starts into next) where
   -- on to the arc that the table says
-  walk-skip : {b v i j : ℕ} {T : Travels} {D : List ℕ} → NextArc (head (decode file)) (l .arcs) v i j
-      → Queue (graphOf (decode file)) b v i T D
-      → Queue (graphOf (decode file)) b v j T D
+  walk-skip : {b bar v i j : ℕ} {T : Travels} {D : List ℕ} → NextArc (head (decode file)) (l .arcs) v i j
+      → Queue (graphOf (decode file)) b bar v i T D
+      → Queue (graphOf (decode file)) b bar v j T D
   walk-skip n q = queue-skip q (λ a lo hi m. n .none a lo hi (omega (arith, t .primed .town .sizes .arcs)))
 
-  pub walking-start : {v a : ℕ} {old hs W D H : List ℕ} → v < l .nodes → Heights l W D H → getD D v 0 ≢ 0
-      → l .period ≤ length old → Filled 0 (l .period) (rowsOf (l .period) W v) old hs → a ≡ getD into v 0
-      → Walking file l v a (getD D v 0) hs W (set D v 0) W (set D v 0) H
+  pub walking-start : {v a bar : ℕ} {old hs W D H : List ℕ} → v < l .nodes → Heights l W D H
+      → getD D v 0 ≢ 0 → l .period ≤ length old → Filled 0 (l .period) (rowsOf (l .period) W v) old hs
+      → a ≡ getD into v 0
+      → Walking file l v a (getD D v 0) bar hs W (set D v 0) H W (set D v 0) H
   walking-start {v} {a} {W = W} {D = D} h o d room f e =
       let n = t .chained .firsts v h in
       let small = t .primed .town .small in
@@ -278,17 +336,19 @@ module _ {file : List ℕ} {l : Layout} {starts into next : List ℕ} (t : Ready
         heights = heights-clear small o v h;
         held = heights-held small o h d (omega (arith, f .long)) (λ y m. f .written y (omega arith) m);
         lighter = omega arith;
+        rises = λ u m. omega arith;
+        kept = kept-same;
         carried = λ b q. walk-skip n q;
       })
 
-  module _ {v a near : ℕ} {hs W D M E I : List ℕ} (w : Walking file l v a near hs W D M E I) where
+  module _ {v a near bar : ℕ} {hs W D H M E I : List ℕ} (w : Walking file l v a near bar hs W D H M E I) where
     -- FOR THE CALL at arc a
     pub walking-held : a < l .arcs → Held (l .period) near hs M I (head (decode file) a)
     walking-held h = rw (w .meets h) (w .held)
 
-    pub walking-next : {c : ℕ} {N F J : List ℕ} → a < l .arcs → Stepped file l a near hs M E I N F J
+    pub walking-next : {c : ℕ} {N F J : List ℕ} → a < l .arcs → Stepped file l a near bar hs M E I N F J
         → c ≡ getD next a 0
-        → Walking file l v c near hs W D N F J
+        → Walking file l v c near bar hs W D H N F J
     walking-next h s e =
         let m = w .meets h in
         let n = rw m at (t .chained .nexts a zero-le h) in
@@ -298,14 +358,17 @@ module _ {file : List ℕ} {l : Layout} {starts into next : List ℕ} (t : Ready
           heights = s .heights;
           held = rw m at (s .held);
           lighter = omega (arith, s .lighter, w .lighter);
+          rises = λ u m. omega (arith, s .rises u m, w .rises u m);
+          kept = kept-on (w .kept) (s .kept);
           carried = λ b q. walk-skip n (s .carried b v (w .carried b q));
         })
 
     pub walking-less : {c : ℕ} → a < l .arcs → c ≡ getD next a 0 → l .arcs - c < l .arcs - a
     walking-less h e = let n = t .chained .nexts a zero-le h .from in omega (arith, n)
 
-    walking-all : l .arcs ≤ a → {b : ℕ} → Queue (graphOf (decode file)) b v a (rowsOf (l .period) M) E
-        → Idle (graphOf (decode file)) b (rowsOf (l .period) M) E
+    walking-all : l .arcs ≤ a → {b : ℕ}
+        → Queue (graphOf (decode file)) b (never - bar) v a (rowsOf (l .period) M) E
+        → Idle (graphOf (decode file)) b bar (rowsOf (l .period) M) E
     walking-all h q = record {
       node = q .node;
       sound = q .sound;
@@ -313,12 +376,13 @@ module _ {file : List ℕ} {l : Layout} {starts into next : List ℕ} (t : Ready
       settled = λ c x m k d _. q .settled c x m k d (λ _. omega (arith, t .primed .town .sizes .arcs));
     }
 
-  pub walking-end : {v a near : ℕ} {hs W M E H I : List ℕ} (D : List ℕ) → v < l .nodes → Heights l W D H
-      → getD D v 0 ≢ 0
-      → Walking file l v a near hs W (set D v 0) M E I → l .arcs ≤ a
-      → Turned file l W D M E I
-  walking-end {v} {W = W} D n o d w h = record {
+  pub walking-end : {v a near bar : ℕ} {hs W M E H I L : List ℕ} (D : List ℕ) → v < l .nodes
+      → Heights l W D H → Lows l W D L → getD D v 0 ≢ 0
+      → Walking file l v a near bar hs W (set D v 0) H M E I → l .arcs ≤ a
+      → Turned file l bar W D H M E I (set L v (getD D v 0))
+  walking-end {v} {W = W} D n o k d w h = record {
     heights = w .heights;
+    lows = kept-lows (w .kept) (lows-taken o k v n d);
     lighter =
         omega (
           arith,
@@ -326,68 +390,121 @@ module _ {file : List ℕ} {l : Layout} {starts into next : List ℕ} (t : Ready
           burden-clear (l .nodes * l .period) D v (omega (arith, t .primed .town .small .nodes-most))
               (omega (arith, o .wide)) W d,
         );
+    rises = w .rises;
     carried = λ b q. walking-all w h (w .carried b (queue-begin q (omega arith) v));
   }
 
 -- TURN AFTER TURN
-module _ {file : List ℕ} {l : Layout} {starts into next : List ℕ} (t : Ready file l starts into next) {b : ℕ}
-  where
-    pub waiting-start : {old W M : List ℕ} → b < l .nodes → length old ≡ l .nodes * l .period
-        → Filled 0 (length old) (λ _. never) old W
-        → Filled (b * l .period) (b * l .period + l .period) (λ _. 0) W M
-        → Waiting file l b M (set (replicate mostNodes 0) b never) (set (replicate mostNodes 0) b never) b
-    unfolding gridAt
-    waiting-start {W = W} {M = M} h s f z = record {
-      heights = heights-first h (z .long ∙ f .long ∙ s) few
-          (λ x k. home x (omega (arith, town .sizes .period)))
-          (λ u x n k. away u x (omega (arith, town .sizes .nodes)) (omega (arith, town .sizes .period)));
-      queue = queue-first (lawful town) (omega (arith, town .sizes .nodes)) home away
-          (λ e. omega (arith, dirty));
-      found = record {
-        dirty = λ _ e. omega (arith, dirty);
-        none = λ m. absurd (omega arith);
-      };
+module _ {file : List ℕ} {l : Layout} {starts into next : List ℕ} (t : Ready file l starts into next)
+    {b goal : ℕ} where
+  pub waiting-start : {old W M : List ℕ} {bar : ℕ} → b < l .nodes → length old ≡ l .nodes * l .period
+      → Filled 0 (length old) (λ _. never) old W
+      → Filled (b * l .period) (b * l .period + l .period) (λ _. 0) W M
+      → Bar (l .nodes) goal (set (replicate mostNodes 0) b never) bar
+      → Waiting file l b goal bar M (set (replicate mostNodes 0) b never)
+      (set (replicate mostNodes 0) b never) (replicate mostNodes 0) b
+  unfolding gridAt
+  waiting-start {W = W} {M = M} h s f z k = record {
+    heights = heights-first h (z .long ∙ f .long ∙ s) few
+        (λ x k. home x (omega (arith, town .sizes .period)))
+        (λ u x n k. away u x (omega (arith, town .sizes .nodes)) (omega (arith, town .sizes .period)));
+    lows = lows-first h few
+        (λ u x n k. away u x (omega (arith, town .sizes .nodes)) (omega (arith, town .sizes .period)));
+    bars = k;
+    queue = queue-first (lawful town) (omega (arith, town .sizes .nodes)) home away
+        (λ e. omega (arith, dirty));
+    found = record {
+      dirty = λ _ e. omega (arith, dirty);
+      none = λ m. absurd (omega arith);
+    };
+  }
+    where
+      town : Town file l
+      town = t .primed .town
+
+      few : l .nodes ≤ mostNodes
+      few = town .small .nodes-most
+
+      dirty : getD (set (replicate mostNodes 0) b never) b 0 ≡ never
+      dirty = only-same b never (omega arith)
+
+      home : (x : ℕ) → x < graphOf (decode file) .period → gridAt (l .period) M b x ≡ 0
+      home x k = z .written (b * l .period + x) (omega arith) (omega (arith, town .sizes .period))
+
+      away : (u x : ℕ) → u < graphOf (decode file) .nodes → x < graphOf (decode file) .period → u ≢ b
+          → gridAt (l .period) M u x ≡ never
+      away u x n k ne =
+          let y : x < l .period = omega (arith, town .sizes .period) in
+          let w : getD W (u * l .period + x) 0 ≡ never =
+          f .written (u * l .period + x) (omega arith)
+          (omega (arith, s, grid-in (l .period) (l .nodes) u x (omega (arith, town .sizes .nodes)) y)) in
+          elim (decLt u b) [
+            | yes m ↦ z .before (u * l .period + x) (omega (arith, mul-le-mul-right (l .period) m)) ∙ w
+            | no m ↦
+                let q : b < u = omega arith in
+                z .after (u * l .period + x) (omega (arith, mul-le-mul-right (l .period) q)) ∙ w
+          ]
+
+  module _ {W D H L : List ℕ} {bar v : ℕ} (w : Waiting file l b goal bar W D H L v) where
+    -- the bar does not fall
+    bar-rises : {M E I K : List ℕ} {next-bar : ℕ} → Turned file l bar W D H M E I K
+        → Bar (l .nodes) goal I next-bar
+        → bar ≤ next-bar
+    bar-rises s k = elim (decLt goal (l .nodes)) [
+      | yes m ↦ omega (arith, w .bars .one m, k .one m, s .rises goal m)
+      | no m ↦ omega (arith, w .bars .all (omega arith))
+    ]
+
+    pub waiting-next : {M E I K : List ℕ} {next-bar u : ℕ} → Turned file l bar W D H M E I K
+        → Bar (l .nodes) goal I next-bar
+        → Found (l .nodes) next-bar E u
+        → Waiting file l b goal next-bar M E I K u
+    waiting-next s k f = record {
+      heights = s .heights;
+      lows = s .lows;
+      bars = k;
+      queue = queue-bar (omega (arith, bar-rises s k)) (s .carried b (w .queue));
+      found = f;
+    }
+
+    -- where every row is wanted no node is dirty in the end
+    pub waiting-bounds : l .nodes ≤ v → l .nodes ≤ goal → Bounds l W L H
+    waiting-bounds h all =
+        lows-bounds (w .heights) (w .lows)
+        (λ u n. omega (arith, w .found .none h u n, w .bars .all all))
+
+    pub waiting-end : l .nodes ≤ v → WorkedFor (graphOf (decode file)) b goal W
+    waiting-end h = record {
+      at = λ u x n q y.
+          let m = modest town in
+          let z : x < l .period = omega (arith, town .sizes .period) in
+          let o : u < l .nodes = omega (arith, town .sizes .nodes) in
+          ap (λ (p : ℕ). gridAt p W u x) (sym (town .sizes .period))
+          ∙ least-is m b n y (queue-least (m .lawful) (w .queue) (omega arith) far u x n y
+          (wanted u x o z (λ k. q (omega (arith, town .sizes .nodes)))));
     }
       where
         town : Town file l
         town = t .primed .town
 
-        few : l .nodes ≤ mostNodes
-        few = town .small .nodes-most
+        far : (u x : ℕ) → u < graphOf (decode file) .nodes → x < graphOf (decode file) .period
+            → getD D u 0 ≢ 0
+            → never - bar ≤ gridAt (l .period) W u x
+        far u x n y d =
+            let o : u < l .nodes = omega (arith, town .sizes .nodes) in
+            omega (
+              arith,
+              w .heights .low u x o (omega (arith, town .sizes .period)) d,
+              w .found .none h u o,
+            )
 
-        dirty : getD (set (replicate mostNodes 0) b never) b 0 ≡ never
-        dirty = only-same b never (omega arith)
-
-        home : (x : ℕ) → x < graphOf (decode file) .period → gridAt (l .period) M b x ≡ 0
-        home x k = z .written (b * l .period + x) (omega arith) (omega (arith, town .sizes .period))
-
-        away : (u x : ℕ) → u < graphOf (decode file) .nodes → x < graphOf (decode file) .period → u ≢ b
-            → gridAt (l .period) M u x ≡ never
-        away u x n k ne =
-            let y : x < l .period = omega (arith, town .sizes .period) in
-            let w : getD W (u * l .period + x) 0 ≡ never =
-            f .written (u * l .period + x) (omega arith)
-            (omega (arith, s, grid-in (l .period) (l .nodes) u x (omega (arith, town .sizes .nodes)) y)) in
-            elim (decLt u b) [
-              | yes m ↦ z .before (u * l .period + x) (omega (arith, mul-le-mul-right (l .period) m)) ∙ w
-              | no m ↦
-                  let q : b < u = omega arith in
-                  z .after (u * l .period + x) (omega (arith, mul-le-mul-right (l .period) q)) ∙ w
-            ]
-
-    module _ {W D H : List ℕ} {v : ℕ} (w : Waiting file l b W D H v) where
-      pub waiting-next : {M E I : List ℕ} {u : ℕ} → Turned file l W D M E I → Found (l .nodes) E u
-          → Waiting file l b M E I u
-      waiting-next s f = record { heights = s .heights; queue = s .carried b (w .queue); found = f }
-
-      pub waiting-end : l .nodes ≤ v → Worked (graphOf (decode file)) b W
-      waiting-end h =
-          let town = t .primed .town in
-          let m = modest town in
-          let k = queue-least (m .lawful) (w .queue) (omega arith)
-          (λ u n. w .found .none h u (omega (arith, town .sizes .nodes))) in
-          record {
-            at =
-                λ u x n y. ap (λ (p : ℕ). gridAt p W u x) (sym (town .sizes .period))
-                ∙ least-is m b n y (k .at u x n y);
-          }
+        -- the numbers that are wanted are not above the bar
+        wanted : (u x : ℕ) → u < l .nodes → x < l .period → (goal < l .nodes → u ≡ goal)
+            → gridAt (l .period) W u x ≤ never - bar
+        wanted u x n y q = elim (decLt goal (l .nodes)) [
+          | yes m ↦
+              let e = q m in
+              let k = rw (← e) at (w .bars .one m) in
+              omega (arith, w .heights .high u x n y)
+          | no m ↦ omega (arith, w .bars .all (omega arith), w .heights .high u x n y)
+        ]

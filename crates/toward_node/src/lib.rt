@@ -2,6 +2,7 @@
 // a lent list of numbers. The list has a row for each node and in it a number for each tick. A node whose
 // row has fallen is dirty; the arcs into a dirty node lower the rows of their tails, whole rows at a time,
 // until no node is dirty. The order in which nodes are taken is free; the nearest dirty node is taken first.
+// Where the row of one node is wanted alone, what is not below its greatest number is left out.
 //   leasts   the least travel of each arc
 //   work     the lent list as a whole
 // Two tables stand beside the rows: `near`, 0 where a node is clean and else never less a number that no
@@ -22,7 +23,7 @@ use search_arcs::wide;
 ghost use mathlib.Core.Path.{_≡_};
 ghost use mathlib.Core.Logic.{_≢_};
 ghost use Prim.Native.Nat.{_+_, _-_, _*_, _≤_, _<_, min, max};
-ghost use lib.ListN.{length, getD};
+ghost use lib.ListN.{length, getD, replicate};
 ghost use lib.Dec.{leb};
 ghost use Rattle.theory_loops.specs.Fill.{Filled};
 ghost use Rattle.theory_paths.specs.Earliest.{never};
@@ -33,10 +34,10 @@ ghost use Rattle.network.specs.Town.{graphOf, travelAt};
 ghost use Rattle.toward_row.specs.Arcs.{Primed};
 ghost use Rattle.toward_row.specs.Cut.{Cut};
 ghost use Rattle.toward_row.specs.Lower.{entries, Capped, Fresh};
-ghost use Rattle.toward_node.specs.Heights.{Heights, Held, Near, NearFirst, Highest};
+ghost use Rattle.toward_node.specs.Heights.{Heights, Held, Near, NearFirst, Highest, Lows, Bounds};
 ghost use Rattle.toward_node.specs.Leasts.{Leasts};
-ghost use Rattle.toward_node.specs.Rows.{rowsOf, rowLowered, Worked};
-ghost use Rattle.toward_node.specs.Turn.{Ready, Stepped, Turned, Found};
+ghost use Rattle.toward_node.specs.Rows.{rowsOf, rowLowered, Worked, WorkedFor, WorkedRow};
+ghost use Rattle.toward_node.specs.Turn.{Ready, Stepped, Turned, Found, Bar};
 ghost use Rattle.toward_node.specs.Places.{Most};
 
 // The place of a node's row.
@@ -103,7 +104,7 @@ fn greater(a: u32, b: u32) -> u32
 }
 
 // How near a node is: never less the least number of its row.
-pub fn nearness(l: Layout, u: usize, work: &[u32]) -> u32
+fn nearness(l: Layout, u: usize, work: &[u32]) -> u32
     requires { ⌜ Small l ⌝ }
     requires { ⌜ (u < l .nodes) × (length (now work) ≡ l .nodes * l .period) ⌝ }
     ensures { λ r. ⌜ Near (l .period) (now (work .entry)) u r ⌝ }
@@ -132,7 +133,7 @@ fn nearness_after(first: bool, reach: u32, least: u16, l: Layout, u: usize, work
 }
 
 // The greatest number of a node's row.
-pub fn highest(l: Layout, u: usize, work: &[u32]) -> u32
+fn highest(l: Layout, u: usize, work: &[u32]) -> u32
     requires { ⌜ Small l ⌝ }
     requires { ⌜ (u < l .nodes) × (length (now work) ≡ l .nodes * l .period) ⌝ }
     ensures { λ r. ⌜ Highest (l .period) (now (work .entry)) u r ⌝ }
@@ -146,16 +147,16 @@ pub fn highest(l: Layout, u: usize, work: &[u32]) -> u32
     high
 }
 
-// Whether an arc gives no less than its tail's row has: `near` is that of its head, `room` that of its tail,
-// and `least` its least travel.
-fn is_idle(near: u32, room: u32, least: u16) -> bool
-    ensures { λ r. ⌜ r ≡ leb near (room + least) ⌝ }
+// Whether an arc gives no less than its tail's row has, or nothing that is wanted: `near` is that of its head,
+// `room` that of its tail, and `least` its least travel.
+fn is_idle(near: u32, room: u32, bar: u32, least: u16) -> bool
+    ensures { λ r. ⌜ r ≡ leb near (max room bar + least) ⌝ }
 {
-    near as u64 <= room as u64 + least as u64
+    near as u64 <= greater(room, bar) as u64 + least as u64
 }
 
 // An arc's turn: its tail's row is lowered, and where an entry fell the tail is dirty. `hs` is its head's row
-// and `reach` what `near` had of the head.
+// and `reach` what `near` had of the head; numbers that are not below never less `bar` are not wanted.
 fn lower_tail(
     file: &[u8],
     l: Layout,
@@ -164,6 +165,7 @@ fn lower_tail(
     arc: usize,
     hs: &[u32; MOST_PERIOD],
     reach: u32,
+    bar: u32,
     work: &mut [u32],
     near: &mut [u32; MOST_NODES],
     room: &mut [u32; MOST_NODES],
@@ -171,12 +173,12 @@ fn lower_tail(
     requires { ⌜ Primed (now file) l (now starts) × Leasts (now file) l (l .arcs) (now least) ⌝ }
     requires { ⌜ (arc < l .arcs) × Heights l (now work) (now near) (now room)
         × Held (l .period) reach (now hs) (now work) (now room) (head (decode (now file)) arc) ⌝ }
-    ensures { λ _. ⌜ Stepped (now (file .entry)) l arc reach (now (hs .entry)) (now (work .entry))
+    ensures { λ _. ⌜ Stepped (now (file .entry)) l arc reach bar (now (hs .entry)) (now (work .entry))
         (now (near .entry)) (now (room .entry)) (now (work .exit)) (now (near .exit)) (now (room .exit)) ⌝ }
 {
     let u = read::tail(file, l, arc);
     let top = room[u];
-    if is_idle(reach, top, least[arc]) {
+    if is_idle(reach, top, bar, least[arc]) {
         return;
     }
     let first = top == 0;
@@ -197,24 +199,29 @@ fn settle(
     next: &[u16; MOST_ARCS],
     least: &[u16; MOST_ARCS],
     v: usize,
+    bar: u32,
     hs: &mut [u32; MOST_PERIOD],
     work: &mut [u32],
     near: &mut [u32; MOST_NODES],
+    low: &mut [u32; MOST_NODES],
     room: &mut [u32; MOST_NODES],
 )
     requires { ⌜ Ready (now file) l (now starts) (now into) (now next)
         × Leasts (now file) l (l .arcs) (now least) ⌝ }
-    requires { ⌜ (v < l .nodes) × Heights l (now work) (now near) (now room) × (getD (now near) v 0 ≢ 0)
+    requires { ⌜ (v < l .nodes) × Heights l (now work) (now near) (now room)
+        × Lows l (now work) (now near) (now low) × (getD (now near) v 0 ≢ 0)
         × (l .period ≤ length (now hs)) ⌝ }
-    ensures { λ _. ⌜ Turned (now (file .entry)) l (now (work .entry)) (now (near .entry)) (now (work .exit))
-        (now (near .exit)) (now (room .exit)) × (length (now (hs .exit)) ≡ length (now (hs .entry))) ⌝ }
+    ensures { λ _. ⌜ Turned (now (file .entry)) l bar (now (work .entry)) (now (near .entry))
+        (now (room .entry)) (now (work .exit)) (now (near .exit)) (now (room .exit)) (now (low .exit))
+        × (length (now (hs .exit)) ≡ length (now (hs .entry))) ⌝ }
 {
     copy_row(l, v, work, hs);
     let reach = near[v];
     near[v] = 0;
+    low[v] = reach;
     let mut a = wide(into[v]);
     while a < l.arcs {
-        lower_tail(file, l, starts, least, a, hs, reach, work, near, room);
+        lower_tail(file, l, starts, least, a, hs, reach, bar, work, near, room);
         a = wide(next[a]);
     }
 }
@@ -234,7 +241,7 @@ fn most_near(near: &[u32; MOST_NODES], nodes: usize) -> u32
 // The first node that has `most` in `near`.
 fn first_with(near: &[u32; MOST_NODES], nodes: usize, most: u32) -> usize
     requires { ⌜ (nodes ≤ mostNodes) × Most nodes most (now near) × (most ≢ 0) ⌝ }
-    ensures { λ r. ⌜ Found nodes (now (near .entry)) r ⌝ }
+    ensures { λ r. ⌜ (r < nodes) × (getD (now (near .entry)) r 0 ≡ most) ⌝ }
 {
     for v in 0..nodes {
         if near[v] == most {
@@ -244,17 +251,28 @@ fn first_with(near: &[u32; MOST_NODES], nodes: usize, most: u32) -> usize
     nodes
 }
 
-// The nearest dirty node, or the number of nodes where none is dirty. Two looks, the first of which has no
-// test in its loop and becomes vector code.
-fn nearest(near: &[u32; MOST_NODES], nodes: usize) -> usize
+// The nearest dirty node, or the number of nodes where none has more than `bar` in `near`. Two looks, the
+// first of which has no test in its loop and becomes vector code.
+fn nearest(near: &[u32; MOST_NODES], nodes: usize, bar: u32) -> usize
     requires { ⌜ nodes ≤ mostNodes ⌝ }
-    ensures { λ r. ⌜ Found nodes (now (near .entry)) r ⌝ }
+    ensures { λ r. ⌜ Found nodes bar (now (near .entry)) r ⌝ }
 {
     let most = most_near(near, nodes);
-    if most == 0 {
+    if most <= bar {
         return nodes;
     }
     first_with(near, nodes, most)
+}
+
+// What `room` has of the node whose row is wanted; 0 where every row is.
+fn bar_of(room: &[u32; MOST_NODES], nodes: usize, goal: usize) -> u32
+    requires { ⌜ nodes ≤ mostNodes ⌝ }
+    ensures { λ r. ⌜ Bar nodes goal (now (room .entry)) r ⌝ }
+{
+    if goal < nodes {
+        return room[goal];
+    }
+    0
 }
 
 // No node has a number.
@@ -281,8 +299,10 @@ fn zero_row(l: Layout, b: usize, work: &mut [u32])
     }
 }
 
-// The least travels to node b, by turn after turn until no node is dirty. `hs` is a row to work in.
-pub fn least_travels(
+// The least travels to node b, by turn after turn: from the node `goal`, or from every node, where there is no
+// such node. `hs` is a row to work in; `low` and `room` begin as zeros, and where every node is asked for they
+// end with bounds of its row.
+fn work_out(
     file: &[u8],
     l: Layout,
     starts: &[u16; MOST_ARCS],
@@ -290,22 +310,27 @@ pub fn least_travels(
     next: &[u16; MOST_ARCS],
     least: &[u16; MOST_ARCS],
     b: usize,
+    goal: usize,
     work: &mut [u32],
     hs: &mut [u32; MOST_PERIOD],
+    low: &mut [u32; MOST_NODES],
+    room: &mut [u32; MOST_NODES],
 )
     requires { ⌜ Ready (now file) l (now starts) (now into) (now next)
         × Leasts (now file) l (l .arcs) (now least) ⌝ }
     requires { ⌜ (b < l .nodes) × (length (now work) ≡ l .nodes * l .period)
-        × (l .period ≤ length (now hs)) ⌝ }
-    ensures { λ _. ⌜ Worked (graphOf (decode (now (file .entry)))) b (now (work .exit))
+        × (l .period ≤ length (now hs)) × (now low ≡ replicate mostNodes 0)
+        × (now room ≡ replicate mostNodes 0) ⌝ }
+    ensures { λ _. ⌜ WorkedFor (graphOf (decode (now (file .entry)))) b goal (now (work .exit))
+        × (l .nodes ≤ goal → Bounds l (now (work .exit)) (now (low .exit)) (now (room .exit)))
         × (length (now (hs .exit)) ≡ length (now (hs .entry))) ⌝ }
 {
     clear(work);
     zero_row(l, b, work);
     let mut near = [0u32; MOST_NODES];
-    let mut room = [0u32; MOST_NODES];
     near[b] = NEVER;
     room[b] = NEVER;
+    let mut bar = bar_of(room, l.nodes, goal);
     let mut v = b;
     while v < l.nodes {
         settle(
@@ -316,11 +341,91 @@ pub fn least_travels(
             next,
             least,
             v,
+            bar,
             hs,
             work,
             &mut near,
-            &mut room,
+            low,
+            room,
         );
-        v = nearest(&near, l.nodes);
+        bar = bar_of(room, l.nodes, goal);
+        v = nearest(&near, l.nodes, bar);
     }
+}
+
+// The least travels to node b from every node. `low` and `room` begin as zeros, and end with never less a
+// number that no entry of a node's row is below, and never less one that none is above.
+pub fn least_travels(
+    file: &[u8],
+    l: Layout,
+    starts: &[u16; MOST_ARCS],
+    into: &[u16; MOST_NODES],
+    next: &[u16; MOST_ARCS],
+    least: &[u16; MOST_ARCS],
+    b: usize,
+    work: &mut [u32],
+    hs: &mut [u32; MOST_PERIOD],
+    low: &mut [u32; MOST_NODES],
+    room: &mut [u32; MOST_NODES],
+)
+    requires { ⌜ Ready (now file) l (now starts) (now into) (now next)
+        × Leasts (now file) l (l .arcs) (now least) ⌝ }
+    requires { ⌜ (b < l .nodes) × (length (now work) ≡ l .nodes * l .period)
+        × (l .period ≤ length (now hs)) × (now low ≡ replicate mostNodes 0)
+        × (now room ≡ replicate mostNodes 0) ⌝ }
+    ensures { λ _. ⌜ Worked (graphOf (decode (now (file .entry)))) b (now (work .exit))
+        × Bounds l (now (work .exit)) (now (low .exit)) (now (room .exit))
+        × (length (now (hs .exit)) ≡ length (now (hs .entry))) ⌝ }
+{
+    work_out(
+        file,
+        l,
+        starts,
+        into,
+        next,
+        least,
+        b,
+        l.nodes,
+        work,
+        hs,
+        low,
+        room,
+    );
+}
+
+// The least travels to node b from node `from`: its row is theirs, and the others are left as they come.
+pub fn least_travels_from(
+    file: &[u8],
+    l: Layout,
+    starts: &[u16; MOST_ARCS],
+    into: &[u16; MOST_NODES],
+    next: &[u16; MOST_ARCS],
+    least: &[u16; MOST_ARCS],
+    b: usize,
+    from: usize,
+    work: &mut [u32],
+    hs: &mut [u32; MOST_PERIOD],
+)
+    requires { ⌜ Ready (now file) l (now starts) (now into) (now next)
+        × Leasts (now file) l (l .arcs) (now least) ⌝ }
+    requires { ⌜ (b < l .nodes) × (from < l .nodes) × (length (now work) ≡ l .nodes * l .period)
+        × (l .period ≤ length (now hs)) ⌝ }
+    ensures { λ _. ⌜ WorkedRow (graphOf (decode (now (file .entry)))) b from (now (work .exit)) ⌝ }
+{
+    let mut low = [0u32; MOST_NODES];
+    let mut room = [0u32; MOST_NODES];
+    work_out(
+        file,
+        l,
+        starts,
+        into,
+        next,
+        least,
+        b,
+        from,
+        work,
+        hs,
+        &mut low,
+        &mut room,
+    );
 }

@@ -1,9 +1,9 @@
 -- What an arc gives at every tick, lowered into a row. An entry of a row is a travel to one node, and
 -- 4,294,967,295 where there is none yet.
 use mathlib.Core.Path.{_≡_, refl, _∙_}
-use mathlib.Core.Bool.{Bool, true}
+use mathlib.Core.Bool.{Bool, true, false}
 use mathlib.Core.List.{List}
-use Prim.Native.Nat.{ℕ, _+_, _-_, _%_, _≤_, _<_, min}
+use Prim.Native.Nat.{ℕ, _+_, _-_, _%_, _^_, _≤_, _<_, min}
 use native.Mathlib.Nat.{mod-eq-of-lt, mod-eq-sub-mod, le-of-lt}
 use native.Mathlib.Omega.{arith}
 use lib.ListN.{length, getD, set}
@@ -37,14 +37,20 @@ unfoldable pub copied : List ℕ → ℕ → ℕ → ℕ → ℕ → ℕ
 copied hs from a more x = getD hs (from + (x - a)) 0 + more
 
 -- the first n entries of a head's row are there and leave room for a travel: what an arc gives there is a
--- number
+-- number, and one that compares as a signed number
 pub record Capped (hs : List ℕ) (n : ℕ) : Type 0 where
   pub long : n ≤ length hs
-  pub entry : (y : ℕ) → y < n → getD hs y 0 + mostPeriod < never
+  pub entry : (y : ℕ) → y < n → getD hs y 0 + mostPeriod < 2 ^ 31
 
--- a row that is written for the first time has no number yet from tick a up to tick b
+-- the entries of a row from tick a up to tick b are such numbers
+pub record Numbers (row : List ℕ) (a b : ℕ) : Type 0 where
+  pub entry : (x : ℕ) → a ≤ x → x < b → getD row x 0 < 2 ^ 31
+
+-- a row that is written for the first time has no number yet from tick a up to tick b, and any other has one
+-- at each tick
 pub record Fresh (first : Bool) (row : List ℕ) (a b : ℕ) : Type 0 where
-  pub entry : first ≡ true → (x : ℕ) → a ≤ x → x < b → getD row x 0 ≡ never
+  pub none : first ≡ true → (x : ℕ) → a ≤ x → x < b → getD row x 0 ≡ never
+  pub known : first ≡ false → Numbers row a b
 
 -- what the code that lowers a piece from (a, v) to (b, w) by a head's row rests on
 pub record Ready (first : Bool) (hs row : List ℕ) (period a v b w : ℕ) : Type 0 where
@@ -61,14 +67,27 @@ pub record Ready (first : Bool) (hs row : List ℕ) (period a v b w : ℕ) : Typ
 pub fresh-on : {first : Bool} {f : ℕ → ℕ} {old new : List ℕ} {a b x e : ℕ} → Fresh first old a b
     → Filled a x f old new → a ≤ x → e ≤ b → Fresh first new x e
 fresh-on h w l m = record {
-  entry = λ t y lo hi. w .after y lo ∙ h .entry t y (omega arith) (omega arith);
+  none = λ t y lo hi. w .after y lo ∙ h .none t y (omega arith) (omega arith);
+  known = λ t. record {
+    entry = λ y lo hi. omega (arith, w .after y lo, h .known t .entry y (omega arith) (omega arith));
+  };
 }
 
 pub fresh-part : {first : Bool} {row : List ℕ} {a b e : ℕ} → Fresh first row a b → e ≤ b → Fresh first row a e
-fresh-part h m = record { entry = λ t x lo hi. h .entry t x lo (omega arith) }
+fresh-part h m = record {
+  none = λ t x lo hi. h .none t x lo (omega arith);
+  known = λ t. record { entry = λ x lo hi. h .known t .entry x lo (omega arith) };
+}
 
 pub capped-part : {hs : List ℕ} {n m : ℕ} → Capped hs n → m ≤ n → Capped hs m
 capped-part c l = record { long = omega (arith, c .long); entry = λ y h. c .entry y (omega arith) }
+
+-- the lesser of two numbers, once it is known which that is
+pub least-left : (x y : ℕ) → x ≤ y → x ≡ min x y
+least-left x y l = omega arith
+
+pub least-right : (x y : ℕ) → y < x → y ≡ min x y
+least-right x y l = omega arith
 
 -- FOR THE LOOP of a run that is copied
 pub copy-more : (hs : List ℕ) (from a more : ℕ) (old mid : List ℕ) (x v b : ℕ)
@@ -90,7 +109,7 @@ pub run-copied : {hs old new : List ℕ} {first : Bool} (from more a b : ℕ) �
 unfolding copied shifted
 run-copied {hs} {old} {new} from more a b t l m c h w = record {
   filled = fill-within (copied hs from a more) (shifted hs from a more old) a b old new
-      (λ x lo hi. omega (arith, less x lo hi, h .entry t x lo hi)) w;
+      (λ x lo hi. omega (arith, less x lo hi, h .none t x lo hi)) w;
   few = omega arith;
   none = λ e x lo hi. absurd (omega arith);
   some = λ s. record {
@@ -101,7 +120,7 @@ run-copied {hs} {old} {new} from more a b t l m c h w = record {
       arith,
       w .written a (omega arith) (omega arith),
       less a (omega arith) (omega arith),
-      h .entry t a (omega arith) (omega arith),
+      h .none t a (omega arith) (omega arith),
     );
   };
 }

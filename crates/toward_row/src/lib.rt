@@ -7,9 +7,10 @@
 use network::header::Layout;
 use network::limits::MOST_ARCS;
 use network::read;
+use search_arcs::is_before;
 use search_arcs::wide;
 ghost use mathlib.Core.Path.{_≡_};
-ghost use Prim.Native.Nat.{_+_, _-_, _/_, _≤_, _<_, min};
+ghost use Prim.Native.Nat.{_+_, _-_, _/_, _^_, _≤_, _<_, min};
 ghost use lib.ListN.{length, getD};
 ghost use Rattle.theory_travel.specs.Pieces.{lineAt};
 ghost use Rattle.theory_travel.specs.Table.{valueAt};
@@ -20,16 +21,16 @@ ghost use Rattle.theory_loops.specs.Fill.{Filled};
 ghost use Rattle.theory_paths.specs.Earliest.{never};
 ghost use Rattle.toward_row.specs.Cut.{Cut, Fell};
 ghost use Rattle.toward_row.specs.Lower.{entries, always, lowered, shifted, copied};
-ghost use Rattle.toward_row.specs.Lower.{Capped, Fresh, Ready};
+ghost use Rattle.toward_row.specs.Lower.{Capped, Numbers, Fresh, Ready};
 ghost use Rattle.toward_row.specs.Arcs.{Arc, Primed};
 
 // The lesser of an entry and a head's entry with `more` added.
 fn lesser(old: u32, value: u32, more: u32) -> u32
-    requires { ⌜ value + more < never ⌝ }
+    requires { ⌜ (old < 2 ^ 31) × (value + more < 2 ^ 31) ⌝ }
     ensures { λ r. ⌜ r ≡ min old (value + more) ⌝ }
 {
     let sum = value + more;
-    if sum < old { sum } else { old }
+    if is_before(sum, old) { sum } else { old }
 }
 
 // 1 where an entry that does not rise fell.
@@ -64,7 +65,7 @@ fn copy_run(hs: &[u32], from: usize, more: u32, row: &mut [u32], a: usize, b: us
 // Lowers the entries from `a` up to `b` by the head's entries from `from` on, with `more` added.
 fn fold_run(hs: &[u32], from: usize, more: u32, row: &mut [u32], a: usize, b: usize) -> u32
     requires { ⌜ (a ≤ b) × (b ≤ length (now row)) × (b ≤ mostPeriod) × (more ≤ mostPeriod) ⌝ }
-    requires { ⌜ Capped (now hs) (from + (b - a)) ⌝ }
+    requires { ⌜ Capped (now hs) (from + (b - a)) × Numbers (now row) a b ⌝ }
     ensures { λ r. ⌜ Cut a b (shifted (now (hs .entry)) from a more (now (row .entry))) (now (row .entry))
         (now (row .exit)) r ⌝ }
 {

@@ -184,10 +184,6 @@ pub known-at : (wide : ℕ) (W : List ℕ) (u p x : ℕ) → HasNumbers wide W u
 unfolding gridAt
 known-at wide W u p x k e h = rw e (k .entry x h)
 
--- a raised row is not written for the first time
-pub not-fresh : {row : List ℕ} {a b : ℕ} → Fresh false row a b
-not-fresh = record { entry = λ e. absurd (true≢false (sym e)) }
-
 -- FOR CODE at an arc of a town: u is its tail and v its head
 module _ {file : List ℕ} {l : Layout} {first : List ℕ} (t : Primed file l first) {b : ℕ} {W : List ℕ}
     (w : Worked (graphOf (decode file)) b W) {a u v : ℕ} (h : a < l .arcs) (e : u ≡ tail (decode file) a)
@@ -233,6 +229,24 @@ module _ {file : List ℕ} {l : Layout} {first : List ℕ} (t : Primed file l fi
     tail-row =
         rw (same, e)
         (known-tail (modest town) w a arc (omega (arith, early)) head-known)
+
+    -- the tail's row with one more at each tick: numbers, not written for the first time
+    pub raised-fresh : {after row : List ℕ} → Filled 0 (l .period) (raised (l .period) W u) after row
+        → Fresh false row 0 (l .period)
+    unfolding raised
+    raised-fresh i = record {
+      none = λ y. absurd (true≢false (sym y));
+      known = λ _. record {
+        entry = λ x lo n.
+            let m : x < g .period = omega (arith, same) in
+            let j : (g .nodes - 1 + 1) * g .period ≡ g .nodes * g .period =
+            ap (λ (i : ℕ). i * g .period) (omega (arith, lawful town .heads a arc)) in
+            let k = known-small (modest town) w (g .tail a) x (lawful town .tails a arc) m
+            (known-tail (modest town) w a arc (omega (arith, early)) head-known) in
+            let o : gridAt (l .period) W u x ≡ gridAt (g .period) W (g .tail a) x = rw (same, e) in
+            omega (arith, i .written x (omega arith) n, k, j, o, early);
+      };
+    }
 
     pub head-capped : {o : ℕ} → o ≡ p + l .period → o ≤ length W
         → Capped (take (o - p) (drop p W)) (l .period)

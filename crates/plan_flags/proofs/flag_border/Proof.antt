@@ -7,37 +7,31 @@ use Rattle.theory_loops.specs.Fill.{Filled, fill-none, fill-up, fill-end}
 use Rattle.network.specs.Network.{cell}
 use Rattle.network.specs.Decode.{decode}
 use Rattle.plan_flags.specs.Words.{wordAfter, cell-below, cell-few, word-next, flags-more}
-use Rattle.plan_flags.specs.Bounds.{Bounds}
 use borrow.Author.Needs.{needs}
 use Rattle.plan_flags.proofs.flag_border.Statement.{statement}
 use Rattle.plan_flags.proofs.flag_border.Tie as tie
 
 abbrev Inv-loop : tie.InvT-loop
-Inv-loop file l starts least b work row₀ words₀ c near room a₀ a-end row words a =
+Inv-loop file l starts least b low room work row₀ words₀ c a₀ a-end row words a =
     (a ≤ a-end)
     × (a-end ≡ l .arcs)
     × (a-end ≤ length words₀)
     × (c ≡ cell (decode file) b)
-    × Bounds l (l .nodes) work near room
     × Filled 0 a (wordAfter (decode file) b words₀) words₀ words
     × (length row ≡ length row₀)
 
 abbrev μ-loop : tie.MeasureT-loop
-μ-loop file l starts least b work row₀ words₀ c near room a₀ a-end row words a = a-end - a
+μ-loop file l starts least b low room work row₀ words₀ c a₀ a-end row words a = a-end - a
 
 cell-requires : tie.Need-cell-requires Inv-loop μ-loop
 cell-requires c κs = search needs
-
-bound-rows-requires : tie.Need-bound-rows-requires Inv-loop μ-loop
-bound-rows-requires c κs = search needs
 
 loop-holds : tie.Need-loop-holds Inv-loop μ-loop
 loop-holds c = (
   search needs,
   search needs,
   search needs,
-  c .before .before .before .cell .ensures .0,
-  c .bound-rows .ensures,
+  c .cell .ensures .0,
   fill-none _ _ _,
   refl,
 )
@@ -50,60 +44,55 @@ element-copy-out-flag-arc c = search needs
 
 flag-arc-requires : tie.Need-flag-arc-requires Inv-loop μ-loop
 flag-arc-requires c κs =
-    let s = c .before .before .before .before .before .before .before .before .before .before .before .before
-    in
-    let i = c .before .before .before .before .before .loop .inv in
+    let s = c .before .before .before .before .before .before .before in
+    let i = c .before .before .before .loop .inv in
     let h = s .pre .1 .0 in
-    let long : s .args .l .period ≤ length (c .before .before .before .before .before .loop .row) = omega
-    (arith, i .6, h .2) in (
+    let long : s .args .l .period ≤ length (c .before .before .before .loop .row) = omega
+    (arith, i .5, h .2) in (
       s .pre .0,
-      ((omega arith, h .0, cell-few (s .pre .0 .0 .town) (h .0) (i .3), h .1, long), (s .pre .1 .1, i .4)),
+      ((omega arith, h .0, cell-few (s .pre .0 .0 .town) (h .0) (i .3), h .1, long), s .pre .1 .1),
     )
 
 mul-words : tie.Need-mul-words Inv-loop μ-loop
 mul-words c =
-    let i = c .before .before .before .before .before .before .loop .inv in
-    let t = c .before .before .before .before .before .before .before .before .before .before .before .before
-    .before .pre .0 .0 .town in
-    omega (arith, i .1, c .before .before .before .before .before .loop-test .taken, t .small .arcs-most)
+    let i = c .before .before .before .before .loop .inv in
+    let t = c .before .before .before .before .before .before .before .before .pre .0 .0 .town in
+    omega (arith, i .1, c .before .before .before .loop-test .taken, t .small .arcs-most)
 
 element-write-words : tie.Need-element-write-words Inv-loop μ-loop
 element-write-words c =
-    let i = c .before .before .before .before .before .before .loop .inv in
-    let t = c .before .before .before .before .before .before .before .before .before .before .before .before
-    .before .pre .0 .0 .town in
-    omega (arith, i .1, c .before .before .before .before .before .loop-test .taken, t .small .arcs-most)
+    let i = c .before .before .before .before .loop .inv in
+    let t = c .before .before .before .before .before .before .before .before .pre .0 .0 .town in
+    omega (arith, i .1, c .before .before .before .loop-test .taken, t .small .arcs-most)
 
 add-a : tie.Need-add-a Inv-loop μ-loop
 add-a c =
-    let i = c .before .before .before .before .before .before .loop .inv in
-    let t = c .before .before .before .before .before .before .before .before .before .before .before .before
-    .before .pre .0 .0 .town in
-    omega (arith, i .1, c .before .before .before .before .before .loop-test .taken, t .small .arcs-most)
+    let i = c .before .before .before .before .loop .inv in
+    let t = c .before .before .before .before .before .before .before .before .pre .0 .0 .town in
+    omega (arith, i .1, c .before .before .before .loop-test .taken, t .small .arcs-most)
 
 loop-less : tie.Need-loop-less Inv-loop μ-loop
 loop-less c = search needs
 
 loop-again : tie.Need-loop-again Inv-loop μ-loop
-loop-again c = let i = c .before .before .before .before .before .before .loop .inv in (
+loop-again c = let i = c .before .before .before .before .loop .inv in (
   search needs,
   i .1,
   i .2,
   i .3,
-  i .4,
-  fill-up _ _ _ _ _ _ (i .5) (omega arith) (omega arith)
-      (word-next _ _ _ _ _ _ _ (i .5) (i .3) (c .flag-arc .ensures .0)),
-  c .flag-arc .ensures .1 ∙ i .6,
+  fill-up _ _ _ _ _ _ (i .4) (omega arith) (omega arith)
+      (word-next _ _ _ _ _ _ _ (i .4) (i .3) (c .flag-arc .ensures .0)),
+  c .flag-arc .ensures .1 ∙ i .5,
 )
 
 returns : tie.Need-returns Inv-loop μ-loop
 returns c =
-    let s = c .before .before .before .before .before .before .before .before in
+    let s = c .before .before .before .before .before in
     let i = c .before .loop .inv in
     let t = s .pre .0 .0 .town in
     let flags = flags-more _ _ _ _ _ (i .1 ∙ t .sizes .arcs) (cell-below t (s .pre .1 .0 .0) refl)
-    (fill-end _ _ _ _ _ _ (i .5) (i .0) (c .loop-test .left)) in
-    (flags, i .6)
+    (fill-end _ _ _ _ _ _ (i .4) (i .0) (c .loop-test .left)) in
+    (flags, i .5)
 
 pub flag-border-spec : {M : Type 1} → statement M
 flag-border-spec =
@@ -112,7 +101,6 @@ flag-border-spec =
     Inv-loop
     μ-loop
     cell-requires
-    bound-rows-requires
     loop-holds
     mul-flag-arc
     element-copy-out-flag-arc

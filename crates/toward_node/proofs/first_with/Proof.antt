@@ -1,6 +1,6 @@
 -- `first_with` meets its contract: of the nodes passed none has the most, and one has.
 use Prim.Native.Nat.{_-_, _≤_}
-use Rattle.toward_node.specs.Places.{Unmet, unmet-none, unmet-more, found-most, found-end}
+use Rattle.toward_node.specs.Places.{Unmet, unmet-none, unmet-more, unmet-end}
 use borrow.Author.Needs.{needs}
 use Rattle.toward_node.proofs.first_with.Statement.{statement}
 use Rattle.toward_node.proofs.first_with.Tie as tie
@@ -21,9 +21,7 @@ element-copy-out-if1 : tie.Need-element-copy-out-if1 Inv-loop μ-loop
 element-copy-out-if1 c = search needs
 
 returns : tie.Need-returns Inv-loop μ-loop
-returns c =
-    found-most _ _ _ _ (c .before .before .loop-test .taken) (c .if1 .taken) (c .before .before .before
-    .before .pre .2)
+returns c = (c .before .before .loop-test .taken, c .if1 .taken)
 
 add-v : tie.Need-add-v Inv-loop μ-loop
 add-v c = search needs
@@ -36,7 +34,7 @@ loop-again c = (search needs, unmet-more _ _ _ (c .before .before .before .loop 
 
 returns-2 : tie.Need-returns-2 Inv-loop μ-loop
 returns-2 c =
-    found-end _ _ _ _ (c .before .before .pre .1) (c .before .loop .inv .1) (c .loop-test .left) (c .before
+    unmet-end _ _ _ _ (c .before .before .pre .1) (c .before .loop .inv .1) (c .loop-test .left) (c .before
     .before .pre .2)
 
 pub first-with-spec : {M : Type 1} → statement M

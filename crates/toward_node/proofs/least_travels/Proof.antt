@@ -1,108 +1,24 @@
--- `least_travels` meets its contract: what is left to do falls with each turn, and where no node is dirty the
--- numbers are least.
-use mathlib.Core.Path.{_≡_, refl, sym, _∙_}
-use Prim.Native.Nat.{_≤_}
+-- `least_travels` meets its contract: there is no node of which the row is wanted alone.
 use native.Mathlib.Omega.{arith}
-use lib.ListN.{length}
-use Rattle.toward_node.specs.Turn.{left, Waiting, waiting-start, waiting-next, waiting-end}
+use Rattle.toward_node.specs.Rows.{worked-all}
 use borrow.Author.Needs.{needs}
 use Rattle.toward_node.proofs.least_travels.Statement.{statement}
 use Rattle.toward_node.proofs.least_travels.Tie as tie
 
-abbrev Inv-loop : tie.InvT-loop
-Inv-loop file l starts into next least b work₀ hs₀ near₀ room₀ v₀ work hs near room v =
-    Waiting file l b work near room v × (length hs ≡ length hs₀)
+work-out-requires : tie.Need-work-out-requires
+work-out-requires c κs = search needs
 
-abbrev μ-loop : tie.MeasureT-loop
-μ-loop file l starts into next least b work₀ hs₀ near₀ room₀ v₀ work hs near room v = left l work near
+same-length : tie.Need-same-length
+same-length c = search needs
 
-clear-requires : tie.Need-clear-requires Inv-loop μ-loop
-clear-requires c κs = search needs
-
-zero-row-requires : tie.Need-zero-row-requires Inv-loop μ-loop
-zero-row-requires c κs = search needs
-
-mul-near : tie.Need-mul-near Inv-loop μ-loop
-mul-near c = search needs
-
-array-write-near : tie.Need-array-write-near Inv-loop μ-loop
-array-write-near c = search needs
-
-mul-room : tie.Need-mul-room Inv-loop μ-loop
-mul-room c = search needs
-
-array-write-room : tie.Need-array-write-room Inv-loop μ-loop
-array-write-room c = search needs
-
-loop-holds : tie.Need-loop-holds Inv-loop μ-loop
-loop-holds c =
-    let s = c .before .before .before .before .before .before .before .before .before .before in (
-      waiting-start (s .pre .0 .0) (s .pre .1 .0) (s .pre .1 .1) (c .before .before .before .before .before
-          .before .clear .ensures)
-          (c .before .before .zero-row .ensures),
-      refl,
-    )
-
-settle-requires : tie.Need-settle-requires Inv-loop μ-loop
-settle-requires c κs =
-    let s = c .before .before .before .before .before .before .before .before .before .before .before .before
-    .before .before .before .before .before in
-    let at = c .before .before .before .before .before .before .loop in
-    let w = at .inv in
-    let h = c .before .before .before .before .if1 .taken in
-    let long : s .args .l .period ≤ length (at .hs) = omega (arith, w .1, s .pre .1 .2) in
-    (s .pre .0, (h, w .0 .heights, w .0 .found .dirty h, long))
-
-nearest-requires : tie.Need-nearest-requires Inv-loop μ-loop
-nearest-requires c κs =
-    c .before .before .before .before .before .before .before .before .before .before .before .before
-    .before .before .before .before .before .before .before .before .before .pre .0 .0 .primed .town .small
-    .nodes-most
-
-loop-less : tie.Need-loop-less Inv-loop μ-loop
-loop-less c = c .before .before .before .before .settle .ensures .0 .lighter
-
-loop-again : tie.Need-loop-again Inv-loop μ-loop
-loop-again c =
-    let w = c .before .before .before .before .before .before .before .before .before .before .before .loop
-    .inv in
-    let t = c .before .before .before .before .settle .ensures in (
-      waiting-next (c .before .before .before .before .before .before .before .before .before .before .before
-          .before .before .before .before .before .before .before .before .before .before .before .pre .0 .0)
-          (w
-          .0) (t .0) (c .nearest .ensures),
-      t .1 ∙ w .1,
-    )
-
-same-length : tie.Need-same-length Inv-loop μ-loop
-same-length c =
-    c .before .before .loop .inv .0 .heights .size ∙ sym (c .before .before .before .before .before .before
-    .before .before .before .before .before .before .before .pre .1 .1)
-
-returns : tie.Need-returns Inv-loop μ-loop
+returns : tie.Need-returns
 returns c =
-    let w = c .before .before .loop .inv in (
-      waiting-end (c .before .before .before .before .before .before .before .before .before .before .before
-          .before .before .pre .0 .0) (w .0) (c .if1 .left),
-      w .1,
+    let s = c .before .before .before .before .before .before .before .before .before in
+    let e = c .before .before .work-out .ensures in (
+      worked-all (omega (arith, s .pre .0 .0 .primed .town .sizes .nodes)) (e .0),
+      e .1 (omega arith),
+      e .2,
     )
 
 pub least-travels-spec : {M : Type 1} → statement M
-least-travels-spec =
-    tie.close
-    (tie.spec
-    Inv-loop
-    μ-loop
-    clear-requires
-    zero-row-requires
-    mul-near
-    array-write-near
-    mul-room
-    array-write-room
-    loop-holds
-    settle-requires
-    nearest-requires
-    loop-less
-    loop-again
-    same-length
-    returns)
+least-travels-spec = tie.close (tie.spec work-out-requires same-length returns)

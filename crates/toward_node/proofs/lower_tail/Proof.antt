@@ -2,7 +2,7 @@
 use mathlib.Core.Path.{refl, sym, _∙_}
 use Prim.Native.Nat.{_<_}
 use native.Mathlib.Omega.{arith}
-use borrow.Author.Tests.{leb-true, eqb-true}
+use borrow.Author.Tests.{leb-true, eqb-true, eqb-false}
 use Rattle.search_arcs.specs.Town.{tail-node, head-node}
 use Rattle.toward_node.specs.Heights.{held-capped, heights-fresh}
 use Rattle.toward_node.specs.Turn.{stepped-skip, stepped-quiet, stepped-lower, least-near, near-first}
@@ -54,7 +54,7 @@ lower-row-requires c κs =
         (h, node, o .size),
         (
           held-capped (p .town .small) o (s .pre .1 .2) met,
-          heights-fresh (p .town .small) o node (λ t. eqb-true _ _ t),
+          heights-fresh (p .town .small) o node (λ t. eqb-true _ _ t) (λ t. eqb-false _ _ t),
         ),
       ),
     )

@@ -1,5 +1,6 @@
--- `nearest` meets its contract: where no node has more than 0, none is dirty.
-use Rattle.toward_node.specs.Places.{found-none}
+-- `nearest` meets its contract: a node that has more than the bar is dirty.
+use native.Mathlib.Omega.{arith}
+use Rattle.toward_node.specs.Places.{found-most, found-none}
 use borrow.Author.Needs.{needs}
 use Rattle.toward_node.proofs.nearest.Statement.{statement}
 use Rattle.toward_node.proofs.nearest.Tie as tie
@@ -8,13 +9,14 @@ most-near-requires : tie.Need-most-near-requires
 most-near-requires c κs = search needs
 
 returns : tie.Need-returns
-returns c = found-none _ _ _ (c .before .most-near .ensures) (c .if1 .taken)
+returns c = found-none _ _ _ _ (c .before .most-near .ensures) (c .if1 .taken)
 
 first-with-requires : tie.Need-first-with-requires
 first-with-requires c κs = search needs
 
 returns-2 : tie.Need-returns-2
-returns-2 c = search needs
+returns-2 c =
+    found-most _ _ _ _ _ (c .first-with .ensures .0) (c .first-with .ensures .1) (omega (arith, c .before .if1 .left))
 
 pub nearest-spec : {M : Type 1} → statement M
 nearest-spec = tie.close (tie.spec most-near-requires returns first-with-requires returns-2)

@@ -10,11 +10,11 @@ use Rattle.toward_node.proofs.settle.Statement.{statement}
 use Rattle.toward_node.proofs.settle.Tie as tie
 
 abbrev Inv-loop : tie.InvT-loop
-Inv-loop file l starts into next least v hs work₀ near₀ room₀ reach a₀ work near room a =
-    Walking file l v a reach hs work₀ near₀ work near room
+Inv-loop file l starts into next least v bar hs work₀ near₀ low room₀ reach a₀ work near room a =
+    Walking file l v a reach bar hs work₀ near₀ room₀ work near room
 
 abbrev μ-loop : tie.MeasureT-loop
-μ-loop file l starts into next least v hs work₀ near₀ room₀ reach a₀ work near room a = l .arcs - a
+μ-loop file l starts into next least v bar hs work₀ near₀ low room₀ reach a₀ work near room a = l .arcs - a
 
 copy-row-requires : tie.Need-copy-row-requires Inv-loop μ-loop
 copy-row-requires c κs = search needs
@@ -31,6 +31,12 @@ mul-near c = search needs
 element-write-near : tie.Need-element-write-near Inv-loop μ-loop
 element-write-near c = search needs
 
+mul-low : tie.Need-mul-low Inv-loop μ-loop
+mul-low c = search needs
+
+element-write-low : tie.Need-element-write-low Inv-loop μ-loop
+element-write-low c = search needs
+
 mul-wide : tie.Need-mul-wide Inv-loop μ-loop
 mul-wide c = search needs
 
@@ -43,7 +49,7 @@ wide-requires c κs = search needs
 loop-holds : tie.Need-loop-holds Inv-loop μ-loop
 loop-holds c =
     let s = c .before .before .before .before .before .before .before .before in
-    walking-start (s .pre .0 .0) (s .pre .1 .0) (s .pre .1 .1) (s .pre .1 .2) (s .pre .1 .3)
+    walking-start (s .pre .0 .0) (s .pre .1 .0) (s .pre .1 .1) (s .pre .1 .3) (s .pre .1 .4)
     (c .before .before .before .copy-row .ensures) (c .wide .ensures .0)
 
 lower-tail-requires : tie.Need-lower-tail-requires Inv-loop μ-loop
@@ -96,7 +102,7 @@ same-length c =
 returns : tie.Need-returns Inv-loop μ-loop
 returns c =
     let s = c .before .before .before .before .before .before .before .before .before .before .before in (
-      walking-end (s .pre .0 .0) _ (s .pre .1 .0) (s .pre .1 .1) (s .pre .1 .2) (c .before .before .loop .inv)
+      walking-end (s .pre .0 .0) _ (s .pre .1 .0) (s .pre .1 .1) (s .pre .1 .2) (s .pre .1 .3) (c .before .before .loop .inv)
           (c .if1 .left),
       c .before .before .before .before .before .before .copy-row .ensures .long,
     )
@@ -112,6 +118,8 @@ settle-spec =
     element-copy-out-reach
     mul-near
     element-write-near
+    mul-low
+    element-write-low
     mul-wide
     element-copy-out-wide
     wide-requires

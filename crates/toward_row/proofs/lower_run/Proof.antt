@@ -24,7 +24,9 @@ returns c =
     (s .pre .1 .1) (c .before .before .copy-run .ensures)
 
 fold-run-requires : tie.Need-fold-run-requires
-fold-run-requires c κs = search needs
+fold-run-requires c κs =
+    let s = c .before .before .before .before in
+    (s .pre .0, (s .pre .1 .0, s .pre .1 .1 .known (c .before .if1 .left)))
 
 same-length-2 : tie.Need-same-length-2
 same-length-2 c = search needs

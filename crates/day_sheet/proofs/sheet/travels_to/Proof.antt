@@ -20,8 +20,8 @@ least-of-arcs-requires c κs =
       s .pre .0 .small .arcs-most,
     )
 
-least-travels-requires : tie.Need-least-travels-requires
-least-travels-requires c κs =
+least-travels-from-requires : tie.Need-least-travels-from-requires
+least-travels-from-requires c κs =
     let s = c .before .before .before .before .before .before .before .before .before .before .before .before
     .before .before .before .before in
     let town = s .pre .0 in (
@@ -33,7 +33,7 @@ least-travels-requires c κs =
         },
         c .before .before .before .before .before .before .least-of-arcs .ensures,
       ),
-      (s .pre .1 .0, s .pre .1 .1, town .small .period-most),
+      (s .pre .1 .1, s .pre .1 .0, s .pre .1 .2, town .small .period-most),
     )
 
 same-length : tie.Need-same-length
@@ -49,6 +49,6 @@ travels-to-spec =
     first-points-requires
     chain-requires
     least-of-arcs-requires
-    least-travels-requires
+    least-travels-from-requires
     same-length
     returns)

@@ -1,8 +1,6 @@
 -- `dimacs_import::import::import_dimacs` meets its contract.
-use mathlib.Core.Path.{sym, _∙_}
-use denote.Ref.{now}
 use Rattle.dimacs_import.specs.Import.{import-refused}
-use Rattle.dimacs_import.specs.Imported.{accepted-fit}
+use Rattle.dimacs_import.specs.Roads.{accepted-within, roads-imported}
 use borrow.Author.Needs.{needs}
 use Rattle.dimacs_import.proofs.import.import_dimacs.Statement.{statement}
 use Rattle.dimacs_import.proofs.import.import_dimacs.Tie as tie
@@ -18,9 +16,8 @@ enum-known-k c = search needs
 
 import-sized-requires : tie.Need-import-sized-requires
 import-sized-requires c κs =
-    let s = c .before .before .before .before .before .before .before in
-    let e = sym (c .before .before .before .before .judge .ensures) ∙ c .before .before .k .given .1 in
-    (e, accepted-fit (now (s .args .text)) _ e)
+    let s = c .before .before .before .before .before in
+    accepted-within _ _ _ _ _ _ (s .before .before .judge .ensures) (s .k .given .1)
 
 returns : tie.Need-returns
 returns c = search import-refused
@@ -29,7 +26,7 @@ same-length : tie.Need-same-length
 same-length c = search needs
 
 returns-2 : tie.Need-returns-2
-returns-2 c = search needs
+returns-2 c = search roads-imported
 
 pub import-dimacs-spec : {M : Type 1} → statement M
 import-dimacs-spec =

@@ -2,7 +2,6 @@
 use borrow.Author.Tests.{not-true, not-false}
 use Rattle.theory_loops.specs.Pick.{picks}
 use Rattle.dimacs_text.specs.Reading.{unfinished}
-use borrow.Author.Needs.{needs}
 use Rattle.dimacs_text.proofs.judge.is_unfinished.Statement.{statement}
 use Rattle.dimacs_text.proofs.judge.is_unfinished.Tie as tie
 

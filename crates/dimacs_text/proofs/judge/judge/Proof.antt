@@ -1,6 +1,5 @@
 -- `dimacs_text::judge::judge` meets its contract.
-use mathlib.Core.Path.{_∙_, ap}
-use Rattle.dimacs_text.specs.Reading.{judged}
+use Rattle.dimacs_text.specs.Noting.{judged-into}
 use borrow.Author.Needs.{needs}
 use Rattle.dimacs_text.proofs.judge.judge.Statement.{statement}
 use Rattle.dimacs_text.proofs.judge.judge.Tie as tie
@@ -12,7 +11,7 @@ judged-requires : tie.Need-judged-requires
 judged-requires c κs = search needs
 
 returns : tie.Need-returns
-returns c = c .judged .ensures ∙ ap judged (c .before .read .ensures)
+returns c = search judged-into
 
 pub judge-spec : {M : Type 1} → statement M
 judge-spec = tie.close (tie.spec read-requires judged-requires returns)

@@ -2,7 +2,6 @@
 use borrow.Author.Tests.{not-true, not-false}
 use Rattle.theory_loops.specs.Pick.{picks}
 use Rattle.dimacs_text.specs.Reading.{noted}
-use borrow.Author.Needs.{needs}
 use Rattle.dimacs_text.proofs.reading.note.Statement.{statement}
 use Rattle.dimacs_text.proofs.reading.note.Tie as tie
 

@@ -178,32 +178,29 @@ add-b-6 c = search needs
 sub-b : tie.Need-sub-b Inv-loop μ-loop
 sub-b c = search needs
 
-add-t21 : tie.Need-add-t21 Inv-loop μ-loop
-add-t21 c = search needs
+add-reduced-both : tie.Need-add-reduced-both Inv-loop μ-loop
+add-reduced-both c = search needs
 
-add-t29 : tie.Need-add-t29 Inv-loop μ-loop
-add-t29 c = search needs
+add-reduced-both-2 : tie.Need-add-reduced-both-2 Inv-loop μ-loop
+add-reduced-both-2 c = search needs
 
-cast-t20 : tie.Need-cast-t20 Inv-loop μ-loop
-cast-t20 c = search needs
+mul-reduced-both : tie.Need-mul-reduced-both Inv-loop μ-loop
+mul-reduced-both c = search needs
 
-mul-t26 : tie.Need-mul-t26 Inv-loop μ-loop
-mul-t26 c = search needs
+add-reduced-both-3 : tie.Need-add-reduced-both-3 Inv-loop μ-loop
+add-reduced-both-3 c = search needs
 
-add-t25 : tie.Need-add-t25 Inv-loop μ-loop
-add-t25 c = search needs
+mul-reduced-both-2 : tie.Need-mul-reduced-both-2 Inv-loop μ-loop
+mul-reduced-both-2 c = search needs
 
-mul-t24 : tie.Need-mul-t24 Inv-loop μ-loop
-mul-t24 c = search needs
+add-reduced-both-4 : tie.Need-add-reduced-both-4 Inv-loop μ-loop
+add-reduced-both-4 c = search needs
 
-add-t22 : tie.Need-add-t22 Inv-loop μ-loop
-add-t22 c = search needs
+add-reduced-both-5 : tie.Need-add-reduced-both-5 Inv-loop μ-loop
+add-reduced-both-5 c = search needs
 
-add-t23 : tie.Need-add-t23 Inv-loop μ-loop
-add-t23 c = search needs
-
-cast-t30 : tie.Need-cast-t30 Inv-loop μ-loop
-cast-t30 c = search needs
+reduced-both-requires : tie.Need-reduced-both-requires Inv-loop μ-loop
+reduced-both-requires c κs = search needs
 
 returns : tie.Need-returns Inv-loop μ-loop
 returns c = search columns-end
@@ -259,13 +256,12 @@ sums-of-spec =
     mul-b-3
     add-b-6
     sub-b
-    add-t21
-    add-t29
-    cast-t20
-    mul-t26
-    add-t25
-    mul-t24
-    add-t22
-    add-t23
-    cast-t30
+    add-reduced-both
+    add-reduced-both-2
+    mul-reduced-both
+    add-reduced-both-3
+    mul-reduced-both-2
+    add-reduced-both-4
+    add-reduced-both-5
+    reduced-both-requires
     returns)

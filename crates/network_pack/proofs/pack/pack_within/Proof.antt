@@ -1,6 +1,4 @@
 -- `network_pack::pack::pack_within` meets its contract.
-use native.Mathlib.Omega.{arith}
-use Rattle.network.specs.Validate.{blocks-few}
 use Rattle.network_pack.specs.Pack.{now-packable, tables-short, tables-long}
 use borrow.Author.Needs.{needs}
 use Rattle.network_pack.proofs.pack.pack_within.Statement.{statement}
@@ -20,14 +18,12 @@ layout-requires c κs = search needs
 
 pack-tables-requires : tie.Need-pack-tables-requires
 pack-tables-requires c κs =
-    let laid = c .before .before in
+    let laid = c .before in
     let left = laid .before in
-    let far = left .before .before .before .before .before .before .before .before .before .before in
-    let pre = far .before .pre in (
-      now-packable _ _ _ _ (pre .0) (pre .1) (laid .layout .ensures) (left .before .is-short .ensures)
-          (left .if1 .left),
-      omega (arith, blocks-few _ _ (pre .0) (laid .layout .ensures)),
-    )
+    let asked = left .before in
+    let pre = asked .before .before .before .before .before .before .before .before .before .before .pre in
+    now-packable _ _ _ _ (pre .0) (pre .1) (laid .layout .ensures) (asked .is-short .ensures)
+    (left .if1 .left)
 
 same-length : tie.Need-same-length
 same-length c = search needs

@@ -1,6 +1,6 @@
 -- `network_rules::rules::judge_arcs` meets its contract.
 use native.Mathlib.Omega.{arith}
-use Rattle.network.specs.Decode.{laid-small}
+use Rattle.network.specs.Decode.{laid-sizes, laid-small}
 use Rattle.network_rules.specs.Judge.{arcs-passed, sum-taken, sum-passed, counted, judgings}
 use borrow.Author.Needs.{needs}
 use Rattle.network_rules.proofs.rules.judge_arcs.Statement.{statement}
@@ -16,7 +16,7 @@ faulty-requires : tie.Need-faulty-requires
 faulty-requires c κs = search needs
 
 returns : tie.Need-returns
-returns c = search judgings
+returns c = search (judgings, laid-sizes)
 
 cast-faulty-2 : tie.Need-cast-faulty-2
 cast-faulty-2 c = omega
@@ -28,17 +28,17 @@ faulty-requires-2 c κs = search needs
 returns-2 : tie.Need-returns-2
 returns-2 c =
     let d = c .before .before in
-    arcs-passed (d .before .before .before .before .before .before .before .pre) _ _
+    arcs-passed (laid-sizes (d .before .before .before .before .before .before .before .pre)) _ _
     (d .before .before .before .before .before .scan-arcs .ensures .0)
     (d .before .before .before .if1 .left)
-    (sum-taken (d .before .before .before .before .before .before .before .pre) _ _
+    (sum-taken (laid-sizes (d .before .before .before .before .before .before .before .pre)) _ _
     (d .before .before .before .before .before .scan-arcs .ensures .1
     (d .before .before .before .if1 .left)) (d .if2 .taken) (c .faulty2 .ensures))
 
 judge-points-requires : tie.Need-judge-points-requires
 judge-points-requires c κs = (
   search needs,
-  counted (c .before .before .before .before .before .before .before .pre) _ _
+  counted (laid-sizes (c .before .before .before .before .before .before .before .pre)) _ _
       (c .before .before .before .before .before .scan-arcs .ensures .0)
       (c .before .before .before .if1 .left)
       (c .before .before .before .before .before .scan-arcs .ensures .1
@@ -49,10 +49,10 @@ judge-points-requires c κs = (
 returns-3 : tie.Need-returns-3
 returns-3 c =
     let d = c .before in
-    arcs-passed (d .before .before .before .before .before .before .before .pre) _ _
+    arcs-passed (laid-sizes (d .before .before .before .before .before .before .before .pre)) _ _
     (d .before .before .before .before .before .scan-arcs .ensures .0)
     (d .before .before .before .if1 .left)
-    (sum-passed (d .before .before .before .before .before .before .before .pre) _ _
+    (sum-passed (laid-sizes (d .before .before .before .before .before .before .before .pre)) _ _
     (d .before .before .before .before .before .scan-arcs .ensures .1
     (d .before .before .before .if1 .left)) (d .if2 .left) (c .judge-points .ensures))
 

@@ -1,44 +1,59 @@
 -- `network_rules::rules::judge_points` meets its contract.
 use native.Mathlib.Omega.{arith}
-use Rattle.network.specs.Decode.{laid-small}
+use Rattle.network.specs.Decode.{laid-sizes, laid-small}
 use Rattle.network_rules.specs.Judge.{judgings}
 use borrow.Author.Needs.{needs}
 use Rattle.network_rules.proofs.rules.judge_points.Statement.{statement}
 use Rattle.network_rules.proofs.rules.judge_points.Tie as tie
 
+is-steady-requires : tie.Need-is-steady-requires
+is-steady-requires c κs = search needs
+
+returns : tie.Need-returns
+returns c = c .before .is-steady .ensures (c .if1 .taken)
+
 scan-points-requires : tie.Need-scan-points-requires
 scan-points-requires c κs = search needs
 
 cast-faulty : tie.Need-cast-faulty
-cast-faulty c = omega (arith, laid-small (c .before .before .before .before .pre .0))
+cast-faulty c = omega (arith, laid-small (c .before .before .before .before .before .before .pre .0))
 
 faulty-requires : tie.Need-faulty-requires
 faulty-requires c κs = search needs
 
-returns : tie.Need-returns
-returns c = search judgings
+returns-2 : tie.Need-returns-2
+returns-2 c =
+    let pre = c .before .before .before .before .before .before .before .pre in
+    search (judgings, laid-sizes (pre .0) .points)
 
 cast-faulty-2 : tie.Need-cast-faulty-2
-cast-faulty-2 c = omega (arith, laid-small (c .before .before .before .before .before .before .pre .0))
+cast-faulty-2 c =
+    omega (arith, laid-small (c .before .before .before .before .before .before .before .before .pre .0))
 
 faulty-requires-2 : tie.Need-faulty-requires-2
 faulty-requires-2 c κs = search needs
 
-returns-2 : tie.Need-returns-2
-returns-2 c = search judgings
-
 returns-3 : tie.Need-returns-3
-returns-3 c = search judgings
+returns-3 c =
+    let pre = c .before .before .before .before .before .before .before .before .before .pre in
+    search (judgings, laid-sizes (pre .0) .points)
+
+returns-4 : tie.Need-returns-4
+returns-4 c =
+    let pre = c .before .before .before .before .before .before .before .before .pre in
+    search (judgings, laid-sizes (pre .0) .points)
 
 pub judge-points-spec : {M : Type 1} → statement M
 judge-points-spec =
     tie.close
     (tie.spec
+    is-steady-requires
+    returns
     scan-points-requires
     cast-faulty
     faulty-requires
-    returns
+    returns-2
     cast-faulty-2
     faulty-requires-2
-    returns-2
-    returns-3)
+    returns-3
+    returns-4)

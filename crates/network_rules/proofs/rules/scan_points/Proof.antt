@@ -25,8 +25,8 @@ loop-holds c =
 count-requires : tie.Need-count-requires Inv-loop μ-loop
 count-requires c κs = search needs
 
-scan-arc-requires : tie.Need-scan-arc-requires Inv-loop μ-loop
-scan-arc-requires c κs = (search needs, (search alls, search alls))
+find-faults-requires : tie.Need-find-faults-requires Inv-loop μ-loop
+find-faults-requires c κs = (search needs, (search alls, search alls))
 
 add-t12 : tie.Need-add-t12 Inv-loop μ-loop
 add-t12 c = omega (
@@ -68,7 +68,7 @@ scan-points-spec =
     μ-loop
     loop-holds
     count-requires
-    scan-arc-requires
+    find-faults-requires
     add-t12
     returns
     late-in-requires

@@ -4,11 +4,9 @@ use native.Mathlib.Omega.{arith}
 use denote.Ref.{now}
 use lib.ListN.{length}
 use Rattle.network.specs.Decode.{decode}
-use Rattle.network.specs.Town.{partitionOf}
 use Rattle.plan_make.specs.Rounds.{pointsBefore, PutTo, counted-none, put-none, put-more, rows-low}
 use Rattle.plan_make.specs.Rounds.{profiles-few, profiles-room, points-room, listed, put-kept, put-end}
 use Rattle.plan_make.specs.Rounds.{border-index}
-use Rattle.plan.specs.Borders.{at-node}
 use borrow.Author.Needs.{needs}
 use Rattle.plan_make.proofs.rounds.put_borders.Statement.{statement}
 use Rattle.plan_make.proofs.rounds.put_borders.Tie as tie
@@ -33,70 +31,39 @@ loop-holds c =
       town .small .period-most,
     )
 
-travels-to-requires : tie.Need-travels-to-requires Inv-loop μ-loop
-travels-to-requires c κs =
-    let s = c .before .before .before .before .before .before .before in
-    let i = c .before .before .before .loop .inv in (
+flags-to-requires : tie.Need-flags-to-requires Inv-loop μ-loop
+flags-to-requires c κs =
+    let s = c .before .before .before .before .before .before .before .before in
+    let at = c .before .before .before .before .loop in
+    let town = s .pre .0 .ready .primed .town in (
       s .pre .0,
       (
-        listed (s .pre .0 .ready .primed .town) (s .pre .1 .0 .0) (c .before .before .loop-test .taken),
-        i .1 ∙ s .pre .1 .1 .0,
-        i .4,
-      ),
-    )
-
-flag-border-requires : tie.Need-flag-border-requires Inv-loop μ-loop
-flag-border-requires c κs =
-    let s = c .before .before .before .before .before .before .before .before .before .before .before .before
-    .before in
-    let at = c .before .before .before .before .before .before .before .before .before .loop in
-    let town = s .pre .0 .ready .primed .town in
-    let told = c .before .before .before .before .before .travels-to .ensures in
-    let b = told .0 .border in
-    let h = listed town (s .pre .1 .0 .0) (c .before .before .before .before .before .before .before .before
-    .loop-test .taken) in (
-      (s .pre .0 .ready .primed, s .pre .0 .leasts),
-      (
-        (
-          omega (
-            arith,
-            b,
-            at-node (partitionOf (decode (now (s .args .file)))) (at .i) h,
-            town .sizes .nodes,
-          ),
-          omega arith,
-          omega (arith, told .2, at .inv .4),
-          omega (arith, at .inv .3 .flags .long, town .sizes .arcs),
-        ),
-        rw b (told .0 .worked),
+        listed town (s .pre .1 .0 .0) (c .before .before .before .loop-test .taken),
+        at .inv .1 ∙ s .pre .1 .1 .0,
+        at .inv .4,
+        omega (arith, at .inv .3 .flags .long, town .sizes .arcs),
       ),
     )
 
 mul-put-rows : tie.Need-mul-put-rows Inv-loop μ-loop
 mul-put-rows c =
-    let s = c .before .before .before .before .before .before .before .before .before .before .before .before
-    .before .before .before .before .before in
-    let test = c .before .before .before .before .before .before .before .before .before .before .before
-    .before .loop-test in
+    let s = c .before .before .before .before .before .before .before .before .before .before .before .before .before .before in
+    let test = c .before .before .before .before .before .before .before .before .before .loop-test in
     omega (arith, profiles-few (s .pre .0 .ready .primed .town) (s .pre .1 .0 .0) (test .taken))
 
 put-rows-requires : tie.Need-put-rows-requires Inv-loop μ-loop
 put-rows-requires c κs =
-    let s = c .before .before .before .before .before .before .before .before .before .before .before .before
-    .before .before .before .before .before in
-    let at = c .before .before .before .before .before .before .before .before .before .before .before .before
-    .before .loop in
-    let test = c .before .before .before .before .before .before .before .before .before .before .before
-    .before .loop-test in
+    let s = c .before .before .before .before .before .before .before .before .before .before .before .before .before .before in
+    let at = c .before .before .before .before .before .before .before .before .before .before .loop in
+    let test = c .before .before .before .before .before .before .before .before .before .loop-test in
     let town = s .pre .0 .ready .primed .town in
     let held = s .pre .1 .0 .0 in
     let h = listed town held (test .taken) in
-    let told = c .before .before .before .before .before .before .before .before .before .travels-to .ensures
-    in
+    let told = c .before .before .before .before .before .flags-to .ensures in
     let w = told .0 .worked in (
       (town .small, put-kept (s .pre .1 .0 .1) (at .inv .3)),
       (
-        (told .1 ∙ at .inv .1 ∙ s .pre .1 .1 .0, rows-low town h w),
+        (told .2 ∙ at .inv .1 ∙ s .pre .1 .1 .0, rows-low town h w),
         (
           profiles-room town held (test .taken) refl,
           points-room town held (test .taken) w (at .inv .2),
@@ -106,10 +73,8 @@ put-rows-requires c κs =
 
 add-i : tie.Need-add-i Inv-loop μ-loop
 add-i c =
-    let s = c .before .before .before .before .before .before .before .before .before .before .before .before
-    .before .before .before .before .before .before .before .before in
-    let test = c .before .before .before .before .before .before .before .before .before .before .before
-    .before .before .before .before .loop-test in
+    let s = c .before .before .before .before .before .before .before .before .before .before .before .before .before .before .before .before .before in
+    let test = c .before .before .before .before .before .before .before .before .before .before .before .before .loop-test in
     omega (
       arith,
       border-index (s .pre .0) (listed (s .pre .0 .ready .primed .town) (s .pre .1 .0 .0) (test .taken)),
@@ -120,20 +85,15 @@ loop-less c = search needs
 
 loop-again : tie.Need-loop-again Inv-loop μ-loop
 loop-again c =
-    let s = c .before .before .before .before .before .before .before .before .before .before .before .before
-    .before .before .before .before .before .before .before .before in
-    let at = c .before .before .before .before .before .before .before .before .before .before .before .before
-    .before .before .before .before .loop in
-    let test = c .before .before .before .before .before .before .before .before .before .before .before
-    .before .before .before .before .loop-test in
+    let s = c .before .before .before .before .before .before .before .before .before .before .before .before .before .before .before .before .before in
+    let at = c .before .before .before .before .before .before .before .before .before .before .before .before .before .loop in
+    let test = c .before .before .before .before .before .before .before .before .before .before .before .before .loop-test in
     let town = s .pre .0 .ready .primed .town in
-    let told = c .before .before .before .before .before .before .before .before .before .before .before
-    .before .travels-to .ensures in
-    let done = c .before .before .before .before .before .before .flag-border .ensures in
-    let flags = rw (told .0 .border) at (done .0) in
+    let told = c .before .before .before .before .before .before .before .before .flags-to .ensures in
+    let flags = rw (told .0 .border) at (told .1) in
     let m = put-more town (s .pre .1 .0 .0) (test .taken) (told .0 .worked) (at .inv .3) flags refl
     (at .inv .2) (c .before .before .put-rows .ensures) in
-    (omega arith, told .1 ∙ at .inv .1, m .0, m .1, omega (arith, told .2, done .1, at .inv .4))
+    (omega arith, told .2 ∙ at .inv .1, m .0, m .1, omega (arith, told .3, at .inv .4))
 
 same-length : tie.Need-same-length Inv-loop μ-loop
 same-length c = c .before .loop .inv .1
@@ -153,8 +113,7 @@ put-borders-spec =
     Inv-loop
     μ-loop
     loop-holds
-    travels-to-requires
-    flag-border-requires
+    flags-to-requires
     mul-put-rows
     put-rows-requires
     add-i

@@ -1,3 +1,4 @@
+use mathlib.Core.Path.{refl}
 use native.Mathlib.Omega.{arith}
 use Rattle.plan_make.specs.Rounds.{border-index, border-node, border-aimed}
 use borrow.Author.Needs.{needs}
@@ -19,12 +20,14 @@ wide-requires c κs = search needs
 
 least-travels-requires : tie.Need-least-travels-requires
 least-travels-requires c κs =
-    let s = c .before .before .before .before .before .before in (
+    let s = c .before .before .before .before .before .before .before .before in (
       (s .pre .0 .ready, s .pre .0 .leasts),
       (
-        border-node (s .pre .0) (s .pre .1 .0) (c .before .before .wide .ensures .0),
+        border-node (s .pre .0) (s .pre .1 .0) (c .before .before .before .before .wide .ensures .0),
         s .pre .1 .1,
         s .pre .1 .2,
+        refl,
+        refl,
       ),
     )
 
@@ -33,12 +36,12 @@ same-length c = search needs
 
 returns : tie.Need-returns
 returns c =
-    let s = c .before .before .before .before .before .before .before .before .before in
+    let s = c .before .before .before .before .before .before .before .before .before .before .before in
     let done = c .before .before .least-travels .ensures in (
-      border-aimed (s .pre .0) (s .pre .1 .0) (c .before .before .before .before .before .wide .ensures .0)
+      border-aimed (s .pre .0) (s .pre .1 .0) (c .before .before .before .before .before .before .before .wide .ensures .0)
           (done .0),
       omega arith,
-      done .1,
+      done .2,
     )
 
 pub travels-to-spec : {M : Type 1} → statement M

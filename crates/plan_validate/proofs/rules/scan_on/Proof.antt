@@ -14,11 +14,11 @@ add-if2 c = search needs
 returns-2 : tie.Need-returns-2
 returns-2 c = search goings
 
-scan-profile-requires : tie.Need-scan-profile-requires
-scan-profile-requires c κs = (search needs, (search needs, search goings))
+find-bad-requires : tie.Need-find-bad-requires
+find-bad-requires c κs = (search needs, (search needs, search goings))
 
 returns-3 : tie.Need-returns-3
 returns-3 c = search goings
 
 pub scan-on-spec : {M : Type 1} → statement M
-scan-on-spec = tie.close (tie.spec returns add-if2 returns-2 scan-profile-requires returns-3)
+scan-on-spec = tie.close (tie.spec returns add-if2 returns-2 find-bad-requires returns-3)
