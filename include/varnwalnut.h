@@ -16,8 +16,8 @@
  *
  * Threads: the functions have no state and may run at once on any number of threads, also on the same files.
  * Stack: below 24 KB for each function but four: varnwalnut_check_plan needs below 64 KB,
- * varnwalnut_make_plan below 56 KB, varnwalnut_day_sheet below 32 KB and varnwalnut_import_dimacs below 26 KB.
- * varnwalnut_pack_network needs below 1 KB.
+ * varnwalnut_make_plan below 56 KB, varnwalnut_day_sheet below 32 KB, and varnwalnut_import_dimacs below
+ * 26 KB. varnwalnut_pack_network needs below 2 KB.
  *
  * Link with libvarnwalnut.a: cc program.c -Iinclude target/staticlib/libvarnwalnut.a
  */
