@@ -5,9 +5,10 @@
 // Where the row of one node is wanted alone, what is not below its greatest number is left out.
 //   leasts   the least travel of each arc
 //   work     the lent list as a whole
-// Two tables stand beside the rows: `near`, 0 where a node is clean and else never less a number that no
-// entry of its row is below, and `room`, 0 where it has no number yet and else never less its greatest
-// (specs/Heights.antt). By them an arc that cannot lower its tail's row is passed over.
+// Three tables stand beside the rows: `near`, 0 where a node is clean and else never less a number that no
+// entry of its row is below; `room`, 0 where it has no number yet and else never less its greatest; and `low`,
+// what `near` last had of a clean node (specs/Heights.antt). By the first two an arc that cannot lower its
+// tail's row is passed over.
 // It may call `toward_row` for an arc lowered into a row and `network` for the entries of the file; it cites
 // `search_arcs`, `theory_loops`, `theory_paths` and `theory_travel`.
 pub mod leasts;
