@@ -1,6 +1,6 @@
--- The arcs that start no least path, told without a look at their ticks: two tables have bounds of each node's
--- row, and an arc whose least travel and the lower bound of its head's row come to more than the upper bound
--- of its tail's gives its tail's number nowhere.
+-- The arcs that start no least path, told without a look at their ticks: two tables have bounds of each
+-- node's row, and an arc whose least travel and the lower bound of its head's row come to more than the upper
+-- bound of its tail's gives its tail's number nowhere.
 use mathlib.Core.Path.{_≡_}
 use mathlib.Core.Bool.{false}
 use mathlib.Core.List.{List}

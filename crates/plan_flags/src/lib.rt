@@ -101,8 +101,8 @@ fn flag_arc(
     word
 }
 
-// The flag words with border b counted, to which `work` has the least travels, with `low` and `room` as bounds
-// of its rows. `row` is a row to work in.
+// The flag words with border b counted, to which `work` has the least travels, with `low` and `room` as
+// bounds of its rows. `row` is a row to work in.
 pub fn flag_border(
     file: &[u8],
     l: Layout,

@@ -176,7 +176,7 @@ module _ {file : List ℕ} {l : Layout} {starts hs W D H : List ℕ} {a u near :
         numbered-early (t .town .small) o,
       )
 
-  -- no entry of its tail's row is above what it gives, or it gives nothing that is wanted, by the tables alone
+  -- no entry of its tail's row is above what it gives, or it gives nothing that is wanted: by the tables
   pub stepped-skip : {m bar : ℕ} → LeastTravel file l a m → near ≤ max (getD H u 0) bar + m
       → Stepped file l a near bar hs W D H W D H
   unfolding givesTicks
@@ -278,7 +278,8 @@ module _ {file : List ℕ} {l : Layout} {starts hs W D H : List ℕ} {a u near :
     other-clean {d} n w q i =
         omega (arith, near-some n, getD-set-same D u d 0 (omega (arith, node, o .wide)), rw i at q)
 
-    pub stepped-lower : {bar : ℕ} → 0 < r → {d high : ℕ} → Near (l .period) M u d → Highest (l .period) M u high
+    pub stepped-lower : {bar : ℕ} → 0 < r → {d high : ℕ} → Near (l .period) M u d
+        → Highest (l .period) M u high
         → Stepped file l a near bar hs W D H M (set D u d) (set H u (never - high))
     stepped-lower z {d} {high} n top =
         let apart : head (decode file) a ≢ u = λ q. arc-apart (t .town) a h (sym e ∙ sym q) in

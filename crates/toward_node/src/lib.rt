@@ -6,9 +6,9 @@
 //   leasts   the least travel of each arc
 //   work     the lent list as a whole
 // Three tables stand beside the rows: `near`, 0 where a node is clean and else never less a number that no
-// entry of its row is below; `room`, 0 where it has no number yet and else never less its greatest; and `low`,
-// what `near` last had of a clean node (specs/Heights.antt). By the first two an arc that cannot lower its
-// tail's row is passed over.
+// entry of its row is below; `room`, 0 where it has no number yet and else never less its greatest; and
+// `low`, what `near` last had of a clean node (specs/Heights.antt). By the first two an arc that cannot lower
+// its tail's row is passed over.
 // It may call `toward_row` for an arc lowered into a row and `network` for the entries of the file; it cites
 // `search_arcs`, `theory_loops`, `theory_paths` and `theory_travel`.
 pub mod leasts;
@@ -148,8 +148,8 @@ fn highest(l: Layout, u: usize, work: &[u32]) -> u32
     high
 }
 
-// Whether an arc gives no less than its tail's row has, or nothing that is wanted: `near` is that of its head,
-// `room` that of its tail, and `least` its least travel.
+// Whether an arc gives no less than its tail's row has, or nothing that is wanted: `near` is that of its
+// head, `room` that of its tail, and `least` its least travel.
 fn is_idle(near: u32, room: u32, bar: u32, least: u16) -> bool
     ensures { λ r. ⌜ r ≡ leb near (max room bar + least) ⌝ }
 {
@@ -300,9 +300,9 @@ fn zero_row(l: Layout, b: usize, work: &mut [u32])
     }
 }
 
-// The least travels to node b, by turn after turn: from the node `goal`, or from every node, where there is no
-// such node. `hs` is a row to work in; `low` and `room` begin as zeros, and where every node is asked for they
-// end with bounds of its row.
+// The least travels to node b, by turn after turn: from the node `goal`, or from every node, where there is
+// no such node. `hs` is a row to work in; `low` and `room` begin as zeros, and where every node is asked for
+// they end with bounds of its row.
 fn work_out(
     file: &[u8],
     l: Layout,

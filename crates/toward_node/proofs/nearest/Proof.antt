@@ -16,7 +16,11 @@ first-with-requires c κs = search needs
 
 returns-2 : tie.Need-returns-2
 returns-2 c =
-    found-most _ _ _ _ _ (c .first-with .ensures .0) (c .first-with .ensures .1) (omega (arith, c .before .if1 .left))
+    found-most _ _ _ _ _ (c .first-with .ensures .0) (c .first-with .ensures .1) (omega (
+      arith,
+      c
+          .before .if1 .left,
+    ))
 
 pub nearest-spec : {M : Type 1} → statement M
 nearest-spec = tie.close (tie.spec most-near-requires returns first-with-requires returns-2)

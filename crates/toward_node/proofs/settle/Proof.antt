@@ -73,7 +73,8 @@ element-copy-out-wide-2 c =
     omega (
       arith,
       c .before .before .before .before .before .before .before .before .before .before .before
-          .before .before .before .before .before .before .before .pre .0 .0 .primed .town .small .arcs-most,
+          .before .before .before .before .before .before
+          .before .pre .0 .0 .primed .town .small .arcs-most,
     )
 
 wide-requires-2 : tie.Need-wide-requires-2 Inv-loop μ-loop
@@ -102,7 +103,8 @@ same-length c =
 returns : tie.Need-returns Inv-loop μ-loop
 returns c =
     let s = c .before .before .before .before .before .before .before .before .before .before .before in (
-      walking-end (s .pre .0 .0) _ (s .pre .1 .0) (s .pre .1 .1) (s .pre .1 .2) (s .pre .1 .3) (c .before .before .loop .inv)
+      walking-end (s .pre .0 .0) _ (s .pre .1 .0) (s .pre .1 .1) (s .pre .1 .2) (s .pre .1 .3) (c
+          .before .before .loop .inv)
           (c .if1 .left),
       c .before .before .before .before .before .before .copy-row .ensures .long,
     )

@@ -4,7 +4,8 @@ use mathlib.Core.Path.{_≡_, refl, sym, _∙_}
 use Prim.Native.Nat.{_≤_}
 use native.Mathlib.Omega.{arith}
 use lib.ListN.{length}
-use Rattle.toward_node.specs.Turn.{left, Waiting, waiting-start, waiting-next, waiting-bounds, waiting-end}
+use Rattle.toward_node.specs.Turn.{left, Waiting, waiting-start, waiting-next}
+use Rattle.toward_node.specs.Turn.{waiting-bounds, waiting-end}
 use borrow.Author.Needs.{needs}
 use Rattle.toward_node.proofs.work_out.Statement.{statement}
 use Rattle.toward_node.proofs.work_out.Tie as tie
@@ -36,20 +37,26 @@ element-write-room : tie.Need-element-write-room Inv-loop μ-loop
 element-write-room c = search needs
 
 bar-of-requires : tie.Need-bar-of-requires Inv-loop μ-loop
-bar-of-requires c κs = c .before .before .before .before .before .before .before .before .before .before .before .pre .0 .0 .primed .town .small .nodes-most
+bar-of-requires c κs =
+    c .before .before .before .before .before .before .before .before .before .before
+    .before .pre .0 .0 .primed .town .small .nodes-most
 
 loop-holds : tie.Need-loop-holds Inv-loop μ-loop
 loop-holds c =
-    let s = c .before .before .before .before .before .before .before .before .before .before .before .before in (
+    let s = c .before .before .before .before .before .before .before .before .before .before
+    .before .before in (
       rw (s .pre .1 .3, s .pre .1 .4)
-          (waiting-start (s .pre .0 .0) (s .pre .1 .0) (s .pre .1 .1) (c .before .before .before .before .before .before .before .before .clear .ensures)
-          (c .before .before .before .before .zero-row .ensures) (rw (s .pre .1 .4) at (c .bar-of .ensures))),
+          (waiting-start (s .pre .0 .0) (s .pre .1 .0) (s .pre .1 .1) (c .before .before .before
+          .before .before .before .before .before .clear .ensures)
+          (c .before .before .before .before .zero-row .ensures) (rw (s .pre .1 .4) at
+          (c .bar-of .ensures))),
       refl,
     )
 
 settle-requires : tie.Need-settle-requires Inv-loop μ-loop
 settle-requires c κs =
-    let s = c .before .before .before .before .before .before .before .before .before .before .before .before .before .before .before .before .before .before .before .before in
+    let s = c .before .before .before .before .before .before .before .before .before .before
+    .before .before .before .before .before .before .before .before .before .before in
     let at = c .before .before .before .before .before .before .before .loop in
     let w = at .inv in
     let h = c .before .before .before .before .before .if1 .taken in
@@ -57,18 +64,27 @@ settle-requires c κs =
     (s .pre .0, (h, w .0 .heights, w .0 .lows, w .0 .found .dirty h, long))
 
 bar-of-requires-2 : tie.Need-bar-of-requires-2 Inv-loop μ-loop
-bar-of-requires-2 c κs = c .before .before .before .before .before .before .before .before .before .before .before .before .before .before .before .before .before .before .before .before .before .before .before .before .pre .0 .0 .primed .town .small .nodes-most
+bar-of-requires-2 c κs =
+    c .before .before .before .before .before .before .before .before .before .before .before
+    .before .before .before .before .before .before .before .before .before .before .before
+    .before .before .pre .0 .0 .primed .town .small .nodes-most
 
 nearest-requires : tie.Need-nearest-requires Inv-loop μ-loop
-nearest-requires c κs = c .before .before .before .before .before .before .before .before .before .before .before .before .before .before .before .before .before .before .before .before .before .before .before .before .before .before .pre .0 .0 .primed .town .small .nodes-most
+nearest-requires c κs =
+    c .before .before .before .before .before .before .before .before .before .before .before
+    .before .before .before .before .before .before .before .before .before .before .before
+    .before .before .before .before .pre .0 .0 .primed .town .small .nodes-most
 
 loop-less : tie.Need-loop-less Inv-loop μ-loop
 loop-less c = c .before .before .before .before .before .before .settle .ensures .0 .lighter
 
 loop-again : tie.Need-loop-again Inv-loop μ-loop
 loop-again c =
-    let s = c .before .before .before .before .before .before .before .before .before .before .before .before .before .before .before .before .before .before .before .before .before .before .before .before .before .before .before in
-    let w = c .before .before .before .before .before .before .before .before .before .before .before .before .before .before .loop .inv in
+    let s = c .before .before .before .before .before .before .before .before .before .before
+    .before .before .before .before .before .before .before .before .before .before .before
+    .before .before .before .before .before .before in
+    let w = c .before .before .before .before .before .before .before .before .before .before
+    .before .before .before .before .loop .inv in
     let t = c .before .before .before .before .before .before .settle .ensures in (
       waiting-next (s .pre .0 .0) (w .0) (t .0) (c .before .before .bar-of2 .ensures) (c .nearest .ensures),
       t .1 ∙ w .1,
@@ -76,12 +92,14 @@ loop-again c =
 
 same-length : tie.Need-same-length Inv-loop μ-loop
 same-length c =
-    c .before .before .loop .inv .0 .heights .size ∙ sym (c .before .before .before .before .before .before .before .before .before .before .before .before .before .before .before .pre .1 .1)
+    c .before .before .loop .inv .0 .heights .size ∙ sym (c .before .before .before .before
+    .before .before .before .before .before .before .before .before .before .before .before .pre .1 .1)
 
 returns : tie.Need-returns Inv-loop μ-loop
 returns c =
     let w = c .before .before .loop .inv in
-    let t = c .before .before .before .before .before .before .before .before .before .before .before .before .before .before .before .pre .0 .0 in
+    let t = c .before .before .before .before .before .before .before .before .before .before
+    .before .before .before .before .before .pre .0 .0 in
     (waiting-end t (w .0) (c .if1 .left), λ all. waiting-bounds t (w .0) (c .if1 .left) all, w .1)
 
 pub work-out-spec : {M : Type 1} → statement M

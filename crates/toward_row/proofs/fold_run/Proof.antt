@@ -41,8 +41,15 @@ lesser-requires c κs =
     let s = c .before .before .before .before .before .before in
     let at = c .before .before .before .loop in
     let h : s .args .from + (at .x - s .args .a) < s .args .from + (s .args .b - s .args .a) = omega arith in
-    let was = at .inv .2 .filled .after (at .x) (omega arith) in
-    (omega (arith, was, s .pre .1 .1 .entry (at .x) (omega (arith, at .inv .0)) (omega arith)), omega (arith, s .pre .1 .0 .entry _ h))
+    let was = at .inv .2 .filled .after (at .x) (omega arith) in (
+      omega (
+        arith,
+        was,
+        s .pre .1 .1 .entry (at .x) (omega (arith, at .inv .0))
+            (omega arith),
+      ),
+      omega (arith, s .pre .1 .0 .entry _ h),
+    )
 
 mul-row : tie.Need-mul-row Inv-loop μ-loop
 mul-row c = search needs

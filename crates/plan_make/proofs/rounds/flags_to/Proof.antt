@@ -33,12 +33,14 @@ least-travels-requires c κs =
 
 flag-border-requires : tie.Need-flag-border-requires
 flag-border-requires c κs =
-    let s = c .before .before .before .before .before .before .before .before .before .before .before .before .before .before .before .before in
+    let s = c .before .before .before .before .before .before .before .before .before .before
+    .before .before .before .before .before .before in
     let done = c .before .before .before .before .before .before .before .least-travels .ensures in (
       (s .pre .0 .ready .primed, s .pre .0 .leasts),
       (
         (
-          border-node (s .pre .0) (s .pre .1 .0) (c .before .before .before .before .before .before .before .before .before .before .before .before .wide .ensures .0),
+          border-node (s .pre .0) (s .pre .1 .0) (c .before .before .before .before .before
+              .before .before .before .before .before .before .before .wide .ensures .0),
           omega (arith, s .pre .1 .1),
           omega (arith, done .2, s .pre .1 .2),
           s .pre .1 .3,
@@ -52,10 +54,12 @@ same-length c = search needs
 
 returns : tie.Need-returns
 returns c =
-    let s = c .before .before .before .before .before .before .before .before .before .before .before .before .before .before .before .before .before in
+    let s = c .before .before .before .before .before .before .before .before .before .before
+    .before .before .before .before .before .before .before in
     let done = c .before .before .before .before .before .before .before .before .least-travels .ensures in
     let flags = c .flag-border .ensures in (
-      border-aimed (s .pre .0) (s .pre .1 .0) (c .before .before .before .before .before .before .before .before .before .before .before .before .before .wide .ensures .0) (done .0),
+      border-aimed (s .pre .0) (s .pre .1 .0) (c .before .before .before .before .before .before
+          .before .before .before .before .before .before .before .wide .ensures .0) (done .0),
       flags .0,
       omega arith,
       flags .1 ∙ done .2,

@@ -47,13 +47,15 @@ flags-to-requires c κs =
 
 mul-put-rows : tie.Need-mul-put-rows Inv-loop μ-loop
 mul-put-rows c =
-    let s = c .before .before .before .before .before .before .before .before .before .before .before .before .before .before in
+    let s = c .before .before .before .before .before .before .before .before .before .before
+    .before .before .before .before in
     let test = c .before .before .before .before .before .before .before .before .before .loop-test in
     omega (arith, profiles-few (s .pre .0 .ready .primed .town) (s .pre .1 .0 .0) (test .taken))
 
 put-rows-requires : tie.Need-put-rows-requires Inv-loop μ-loop
 put-rows-requires c κs =
-    let s = c .before .before .before .before .before .before .before .before .before .before .before .before .before .before in
+    let s = c .before .before .before .before .before .before .before .before .before .before
+    .before .before .before .before in
     let at = c .before .before .before .before .before .before .before .before .before .before .loop in
     let test = c .before .before .before .before .before .before .before .before .before .loop-test in
     let town = s .pre .0 .ready .primed .town in
@@ -73,8 +75,10 @@ put-rows-requires c κs =
 
 add-i : tie.Need-add-i Inv-loop μ-loop
 add-i c =
-    let s = c .before .before .before .before .before .before .before .before .before .before .before .before .before .before .before .before .before in
-    let test = c .before .before .before .before .before .before .before .before .before .before .before .before .loop-test in
+    let s = c .before .before .before .before .before .before .before .before .before .before
+    .before .before .before .before .before .before .before in
+    let test = c .before .before .before .before .before .before .before .before .before .before
+    .before .before .loop-test in
     omega (
       arith,
       border-index (s .pre .0) (listed (s .pre .0 .ready .primed .town) (s .pre .1 .0 .0) (test .taken)),
@@ -85,9 +89,12 @@ loop-less c = search needs
 
 loop-again : tie.Need-loop-again Inv-loop μ-loop
 loop-again c =
-    let s = c .before .before .before .before .before .before .before .before .before .before .before .before .before .before .before .before .before in
-    let at = c .before .before .before .before .before .before .before .before .before .before .before .before .before .loop in
-    let test = c .before .before .before .before .before .before .before .before .before .before .before .before .loop-test in
+    let s = c .before .before .before .before .before .before .before .before .before .before
+    .before .before .before .before .before .before .before in
+    let at = c .before .before .before .before .before .before .before .before .before .before
+    .before .before .before .loop in
+    let test = c .before .before .before .before .before .before .before .before .before .before
+    .before .before .loop-test in
     let town = s .pre .0 .ready .primed .town in
     let told = c .before .before .before .before .before .before .before .before .flags-to .ensures in
     let flags = rw (told .0 .border) at (told .1) in

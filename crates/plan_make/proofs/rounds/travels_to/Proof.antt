@@ -38,7 +38,8 @@ returns : tie.Need-returns
 returns c =
     let s = c .before .before .before .before .before .before .before .before .before .before .before in
     let done = c .before .before .least-travels .ensures in (
-      border-aimed (s .pre .0) (s .pre .1 .0) (c .before .before .before .before .before .before .before .wide .ensures .0)
+      border-aimed (s .pre .0) (s .pre .1 .0) (c .before .before .before .before .before .before
+          .before .wide .ensures .0)
           (done .0),
       omega arith,
       done .2,
