@@ -13,7 +13,8 @@ ghost use mathlib.Core.Path.{_≡_};
 ghost use Prim.Native.Nat.{_^_, _<_};
 ghost use lib.Dec.{ltb};
 
-// Is a number before another? They are compared as signed numbers, which the vector code of any x86-64 can do.
+// Is a number before another? They are compared as signed numbers, which the vector code of any x86-64 can
+// do.
 pub fn is_before(x: u32, other: u32) -> bool
     requires { ⌜ (x < 2 ^ 31) × (other < 2 ^ 31) ⌝ }
     ensures { λ r. ⌜ r ≡ ltb x other ⌝ }

@@ -108,8 +108,8 @@ module _ {g : Graph} {b bar : ℕ} {T : Travels} {D : List ℕ} where
   }
 
   -- on to the next arc into v
-  pub queue-skip : {v i j : ℕ} → Queue g b bar v i T D → ((a : ℕ) → i ≤ a → a < j → a < g .arcs → g .head a ≢ v)
-      → Queue g b bar v j T D
+  pub queue-skip : {v i j : ℕ} → Queue g b bar v i T D
+      → ((a : ℕ) → i ≤ a → a < j → a < g .arcs → g .head a ≢ v) → Queue g b bar v j T D
   queue-skip {v} {i} q none = record {
     node = q .node;
     sound = q .sound;
