@@ -6,6 +6,7 @@ pub mod Cursor
 pub mod Table
 pub mod Form
 pub mod Read
+pub mod SoundBlock
 pub mod Bytes
 pub mod Run
 pub mod RunLaws

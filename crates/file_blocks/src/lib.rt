@@ -4,6 +4,7 @@
 //   cursor  a walk over entries in their order
 //   form    a block's head and fill
 //   reader  the walk over a file's blocks
+//   sound   check and form of a block together
 //   write   a block's head, fill and check written
 // It may call `file_fields` for fields and for a block's check, and cites `theory_loops`.
 pub mod cursor;
@@ -11,4 +12,5 @@ pub mod form;
 pub mod kind;
 pub mod place;
 pub mod reader;
+pub mod sound;
 pub mod write;

@@ -1,8 +1,6 @@
-// The rules 17 to 19 of document 01, on a plan file that is laid out as its header says. The profiles are
-// first asked whether they keep rules 18 and 19 (rising.rt). Where they do not, the counts and the points are
-// read in one pass: rule 19 is judged at the points of each profile while rule 18 is judged at its count, and
-// told where 18 holds everywhere.
-use crate::rising::is_rising;
+// The rules 17 to 19 of document 01, on a plan file that is laid out as its header says, each with the place
+// of its first fault. The counts and the points are read in one pass: rule 19 is judged at the points of each
+// profile while rule 18 is judged at its count, and told where 18 holds everywhere.
 use file_blocks::cursor::Cursor;
 use file_blocks::kind;
 use file_refusals::Judged;
@@ -52,7 +50,7 @@ fn is_bad_word(plan: &[u8], l: PlanLayout, a: usize) -> bool
 }
 
 // The first arc that breaks rule 17, or the count of arcs.
-fn first_bad_word(plan: &[u8], l: PlanLayout) -> usize
+pub fn first_bad_word(plan: &[u8], l: PlanLayout) -> usize
     requires { ⌜ PlanLaid (now plan) l ⌝ }
     ensures { λ r. ⌜ r ≡ first (l .arcs) (badFlags (l .cells) (decodePlan (now (plan .entry)))) ⌝ }
 {
@@ -121,7 +119,7 @@ fn scan_on(plan: &[u8], l: PlanLayout, scan: Scan, from: usize, count: usize) ->
 }
 
 // Rules 18 and 19, with the place of the fault.
-fn scan_profiles(plan: &[u8], l: PlanLayout) -> Judged
+fn judge_profiles(plan: &[u8], l: PlanLayout) -> Judged
     requires { ⌜ PlanLaid (now plan) l ⌝ }
     ensures { λ r. ⌜ r ≡ judgedCounts (l .period) (l .profiles) (decodePlan (now (plan .entry))) ⌝ }
 {
@@ -147,17 +145,6 @@ fn scan_profiles(plan: &[u8], l: PlanLayout) -> Judged
         return faulty(number::PLAN_TICK, bad as u32);
     }
     Judged::Sound
-}
-
-// Rules 18 and 19. Where they are kept, a test that finds no place says so sooner.
-fn judge_profiles(plan: &[u8], l: PlanLayout) -> Judged
-    requires { ⌜ PlanLaid (now plan) l ⌝ }
-    ensures { λ r. ⌜ r ≡ judgedCounts (l .period) (l .profiles) (decodePlan (now (plan .entry))) ⌝ }
-{
-    if is_rising(plan, l) {
-        return Judged::Sound;
-    }
-    scan_profiles(plan, l)
 }
 
 // The lowest of the rules 17 to 19 that the plan breaks, and its lowest place.

@@ -6,15 +6,8 @@ use native.Mathlib.Omega.{arith}
 use denote.Ref.{now}
 use borrow.Author.Needs.{needs}
 use Rattle.plan.specs.PlanDecode.{decodePlan, pointTick, plan-small}
-use Rattle.plan_validate.specs.PlanScan.{
-  Scanning,
-  scans,
-  scan-stop,
-  scan-more,
-  tick-there,
-  tick-read,
-  tick-step,
-}
+use Rattle.plan.specs.PlanCursor.{tick-there, tick-read, tick-step}
+use Rattle.plan_validate.specs.PlanScan.{Scanning, scans, scan-stop, scan-more}
 use Rattle.plan_validate.proofs.rules.find_bad.Statement.{statement}
 use Rattle.plan_validate.proofs.rules.find_bad.Tie as tie
 
