@@ -7,7 +7,7 @@ use file_blocks::place::offset;
 use file_fields::BLOCK;
 use file_fields::fields::le16;
 ghost use mathlib.Core.Path.{_≡_};
-ghost use Prim.Native.Nat.{_+_, _<_};
+ghost use Prim.Native.Nat.{_+_, _-_, _≤_, _<_, min};
 ghost use Rattle.network.specs.Network;
 ghost use Rattle.network.specs.Decode.{decode, Laid};
 ghost use Rattle.network.specs.Points.{Stands};
@@ -64,6 +64,15 @@ impl Stretch {
             };
         }
         self.next(file, l)
+    }
+
+    // How many of its points stand before point `end`.
+    pub fn count_before(self, end: usize) -> usize
+        requires { ⌜ self .first ≤ end ⌝ }
+        ensures { λ r. ⌜ r ≡ min (self .room) (end - self .first) ⌝ }
+    {
+        let left = end - self.first;
+        if left < self.room { left } else { self.room }
     }
 
     // The tick of its i-th point, from 0.
