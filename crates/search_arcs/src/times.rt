@@ -22,6 +22,7 @@ ghost use Rattle.network.specs.Points.{Stands};
 ghost use Rattle.network.specs.Town.{graphOf};
 ghost use Rattle.search_arcs.specs.Town.{Town, lastTick};
 ghost use Rattle.search_arcs.specs.Stretches.{Reaching};
+ghost use Rattle.search_arcs.specs.Halves.{Step};
 ghost use Rattle.search_arcs.specs.Times.{NextStart};
 
 // The first point of each arc.
@@ -58,10 +59,18 @@ fn stretch_of(file: &[u8], l: Layout, from: usize, count: usize, x: usize) -> St
     s
 }
 
-// The last of the first n points of a stretch that is at or before x, counted from its first. A step changes
-// one number by what it reads.
+// A step of a search: `half` where tick t is at or before x, else 0. It is reckoned, not branched for, since
+// neither is the likelier.
+fn step(half: usize, t: usize, x: usize) -> usize
+    requires { ⌜ (half < 65536) × (t < 65536) × (x < 65536) ⌝ }
+    ensures { λ r. ⌜ Step half t x r ⌝ }
+{
+    half * ((65536 + x - t) >> 16)
+}
+
+// The last of the first n points of a stretch that is at or before x, counted from its first.
 fn segment(file: &[u8], l: Layout, s: Stretch, n: usize, x: usize) -> usize
-    requires { ⌜ Laid (now file) l ⌝ }
+    requires { ⌜ Laid (now file) l × (x < 65536) ⌝ }
     requires { ⌜ Stands l s × (n ≤ s .room) × (s .first + n ≤ l .points) ⌝ }
     requires { ⌜ Sorted (entryAt (decode (now file) .ticks) (s .first)) n x ⌝ }
     ensures { λ r. ⌜ Last (entryAt (decode (now (file .entry)) .ticks) (s .first)) n x r ⌝ }
@@ -70,10 +79,7 @@ fn segment(file: &[u8], l: Layout, s: Stretch, n: usize, x: usize) -> usize
     let mut left = n;
     while 1 < left {
         let half = left / 2;
-        let m = a + half;
-        if s.tick(file, l, m) <= x {
-            a = m;
-        }
+        a += step(half, s.tick(file, l, a + half), x);
         left -= half;
     }
     a

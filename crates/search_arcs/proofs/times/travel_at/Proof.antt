@@ -1,5 +1,6 @@
 -- `search_arcs::times::travel_at` meets its contract: the segment and the next point, or the next day's
 -- first, are the ends of the line.
+use native.Mathlib.Omega.{arith}
 use Rattle.theory_travel.specs.Day.{day-sorted}
 use Rattle.search_arcs.specs.Stretches.{reach-sorted, reaching}
 use borrow.Author.Needs.{needs}
@@ -21,7 +22,7 @@ segment-requires : tie.Need-segment-requires
 segment-requires c κs =
     let p = c .before .before .before .pre in
     let r = c .before .stretch-of .ensures in
-    (p .0 .laid, (search needs, reach-sorted r (c .count-before .ensures)))
+    ((p .0 .laid, omega (arith, p .0 .small)), (search needs, reach-sorted r (c .count-before .ensures)))
 
 tick-requires : tie.Need-tick-requires
 tick-requires c κs = search needs
