@@ -6,6 +6,7 @@ pub mod Layout
 pub mod Network
 pub mod Tables
 pub mod Decode
+pub mod Points
 pub mod Rules
 pub mod FirstPoint
 pub mod Sound
