@@ -64,8 +64,7 @@ fn fill_points(
         a = b;
         v = w;
     }
-    let closed = day_runs::extend(starts, values, n, a, v, l.period, begin, finds);
-    day_runs::close(starts, values, closed, l.period, begin)
+    day_runs::finish(starts, values, n, a, v, l.period, begin, finds)
 }
 
 // The first n values as numbers of 16 bits.

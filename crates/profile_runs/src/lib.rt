@@ -57,8 +57,7 @@ fn fill_points(
         a = b;
         v = w;
     }
-    let closed = day_runs::extend(starts, values, n, a, v, l.period, begin, finds);
-    day_runs::close(starts, values, closed, l.period, begin)
+    day_runs::finish(starts, values, n, a, v, l.period, begin, finds)
 }
 
 // The runs of the profile of border number i and node u, which has points: `firsts` is the table of where

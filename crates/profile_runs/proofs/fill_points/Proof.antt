@@ -4,7 +4,7 @@ use native.Mathlib.Omega.{arith}
 use Rattle.theory_travel.specs.Table.{entryAt, entry-start}
 use Rattle.plan.specs.PlanDecode.{decodePlan}
 use Rattle.day_runs.specs.Filling.{Space, Filling, space-on, filling-start, room-next, room-last}
-use Rattle.day_runs.specs.Filling.{filling-next, filling-last, pending-ends}
+use Rattle.day_runs.specs.Filling.{filling-next, filling-leads, filling-last}
 use lib.ListN.{length, length-set}
 use lib.Seq.{getD-set-same}
 use mathlib.Core.Path.{_≡_, refl, _∙_}
@@ -103,75 +103,37 @@ loop-again c =
       omega (arith, l .inv .5, t .1),
     )
 
-extend-requires-2 : tie.Need-extend-requires-2 Inv-loop μ-loop
-extend-requires-2 c κs = let s = c .before .before .before .before .before .before .before .before .before in
-    let l = c .before .before .before .before .loop in (
-      room-last (s .pre .1 .0 .0) _ (l .inv .4) (l .inv .3) (omega (arith, s .pre .1 .0 .0 .some, l .inv .0)),
-      omega (arith, l .inv .5, s .pre .1 .1 .1, l .inv .0, s .pre .1 .0 .0 .some),
+finish-requires : tie.Need-finish-requires Inv-loop μ-loop
+finish-requires c κs = let d = c .before .before .before in
+    let s = d .before .before .before .before .before .before in
+    let l = d .before .loop in
+    let y = s .pre .1 .0 .0 in
+    let h : l .k < s .args .count = omega (arith, y .some, l .inv .0) in
+    let o : s .args .count ≤ l .k + 1 = omega (arith, d .loop-test .left) in
+    let e = entry-start _ (s .args .from) _ (d .before .before .travel .ensures) in (
+      room-last y _ (l .inv .4) (l .inv .3) h,
+      (filling-leads y _ (l .inv .4) refl e h o, omega (arith, l .inv .5, s .pre .1 .1 .1)),
     )
 
-close-requires : tie.Need-close-requires Inv-loop μ-loop
-close-requires c κs =
-    let s = c .before .before .before .before .before .before .before .before .before .before
-    .before .before .before .before .before .before in
-    let l = c .before .before .before .before .before .before .before .before .before .before
-    .before .loop in
-    let e = c .before .before .before .before .before .before .extend2 .ensures .0 in
-    let p =
-    filling-last (s .pre .1 .0 .0) _ (l .inv .4) (c .before .before .before .before .before
-    .before .extend2 .ensures .0) refl
-    (entry-start _ (s .args .from) _ (c .before .before .before .before .before .before .before
-    .before .before .before .before .before .travel .ensures))
-    (omega (arith, s .pre .1 .0 .0 .some, l .inv .0))
-    (omega (
-      arith,
-      c .before .before .before .before .before .before .before .before .before
-          .before .loop-test .left,
-    )) in
-    pending-ends (space-on (l .inv .3) e) p
-
 same-length : tie.Need-same-length Inv-loop μ-loop
-same-length c =
-    c .before .before .before .before .close .ensures .long-s ∙ c .before .before .before .before
-    .before .before .before .before .before .before .before .extend2 .ensures .0 .long-s
-    ∙ c .before .before .before .before .before .before .before .before .before .before .before
-    .before .before .before .before .before .loop .inv .1
-    ∙ length-set (c .before .before .before .before .before .before .before .before .before .before
-    .before .before .before .before .before .before .before .before .before .before
-    .before .args .starts .now) 0 0
+same-length c = let d = c .before .before .before .before .before .before .before .before in
+    c .before .before .before .before .finish .ensures .0 .long-s ∙ d .before .loop .inv .1
+    ∙ length-set (d .before .before .before .before .before .before .args .starts .now) 0 0
 
 same-length-2 : tie.Need-same-length-2 Inv-loop μ-loop
 same-length-2 c = search needs
 
 returns : tie.Need-returns Inv-loop μ-loop
-returns c =
-    let s = c .before .before .before .before .before .before .before .before .before .before
-    .before .before .before .before .before .before .before .before .before .before .before in
-    let l = c .before .before .before .before .before .before .before .before .before .before
-    .before .before .before .before .before .before .loop in
-    let t = c .before .before .before .before .before .before .before .before .before .before
-    .before .before .before .before .before .loop-test .left in
-    let p =
-    filling-last (s .pre .1 .0 .0) _ (l .inv .4) (c .before .before .before .before .before .before
-    .before .before .before .before .before .extend2 .ensures .0) refl
-    (entry-start _ (s .args .from) _ (c .before .before .before .before .before .before .before
-    .before .before .before .before .before .before .before .before .before .before .travel .ensures))
-    (omega (arith, s .pre .1 .0 .0 .some, l .inv .0))
-    (omega (
-      arith,
-      c .before .before .before .before .before .before .before .before .before .before
-          .before .before .before .before .before .loop-test .left,
-    )) in (
-      c .before .before .before .before .close .ensures .runs _ p,
-      omega (
-        arith,
-        l .inv .5,
-        c .before .before .before .before .before .before .before .before
-            .before .before .before .extend2 .ensures .1,
-        s .pre .1 .0 .0 .some,
-        l .inv .0,
-        t,
-      ),
+returns c = let d = c .before .before .before .before .before .before .before .before in
+    let s = d .before .before .before .before .before .before in
+    let l = d .before .loop in
+    let y = s .pre .1 .0 .0 in
+    let h : l .k < s .args .count = omega (arith, y .some, l .inv .0) in
+    let o : s .args .count ≤ l .k + 1 = omega (arith, d .loop-test .left) in
+    let e = entry-start _ (s .args .from) _ (d .before .before .travel .ensures) in
+    let f = c .before .before .before .before .finish .ensures in (
+      filling-last y _ (l .inv .4) refl e h o (f .0),
+      omega (arith, l .inv .5, f .1),
     )
 
 pub fill-points-spec : {M : Type 1} → statement M
@@ -194,8 +156,7 @@ fill-points-spec =
     add-k
     loop-less
     loop-again
-    extend-requires-2
-    close-requires
+    finish-requires
     same-length
     same-length-2
     returns)
