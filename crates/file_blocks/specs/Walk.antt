@@ -1,10 +1,10 @@
 -- Where a walk by bytes over the entries of a run stands before entry i: the byte at which that starts, and
 -- how many entries its block has from it on. The laws say how it comes to the next entry of the same block,
 -- and what code reads where it stands.
-use mathlib.Core.Path.{_≡_, refl}
+use mathlib.Core.Path.{_≡_}
 use mathlib.Core.List.{List}
 use Prim.Native.Nat.{ℕ, _+_, _-_, _*_, _/_, _%_, _^_, _≤_, _<_}
-use native.Mathlib.Nat.{mod-lt, div-add-mod, le-div-iff-mul-le, div-mul-le-self}
+use native.Mathlib.Nat.{div-add-mod, le-div-iff-mul-le, div-mul-le-self}
 use native.Mathlib.Omega.{arith}
 use lib.ListN.{length}
 use Rattle.file_blocks.specs.Place.{offset, offset-in, index-block, index-entry, EntryInFile}
@@ -14,6 +14,15 @@ use Rattle.file_fields.specs.Block.{blockSize, headSize, entriesSize}
 
 abbrev pub walkAt : ℕ → ℕ → ℕ → ℕ → Walk
 walkAt from per size i = record { at = offset from per size i; left = per - i % per }
+
+-- k entries on from entry i: for none, and for one more
+pub walk-first : {c : Walk} (from per size i : ℕ) → c ≡ walkAt from per size i
+    → c ≡ walkAt from per size (i + 0)
+walk-first from per size i e = let z : i + 0 ≡ i = omega arith in rw z e
+
+pub walk-on : {c : Walk} (from per size i k : ℕ) → c ≡ walkAt from per size (i + k + 1)
+    → c ≡ walkAt from per size (i + (k + 1))
+walk-on from per size i k e = let z : i + (k + 1) ≡ i + k + 1 = omega arith in rw z e
 
 module _ (from per size i : ℕ) (pos : 0 < per) (fit : size * per ≤ entriesSize) where
   -- to the next entry no sum wraps

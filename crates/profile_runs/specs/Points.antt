@@ -17,14 +17,6 @@ use Rattle.plan.specs.PlanDecode.{plan-small}
 abbrev pub pointAt : PlanLayout → ℕ → Walk
 pointAt l q = walkAt (l .pointblock) profilePointPer profilePointSize q
 
--- none on from `from`, and one more than k
-pub point-first : (l : PlanLayout) {c : Walk} (from : ℕ) → c ≡ pointAt l from → c ≡ pointAt l (from + 0)
-point-first l from e = let z : from + 0 ≡ from = omega arith in rw z e
-
-pub point-on : (l : PlanLayout) {c : Walk} (from k : ℕ) → c ≡ pointAt l (from + k + 1)
-    → c ≡ pointAt l (from + (k + 1))
-point-on l from k e = let z : from + (k + 1) ≡ from + k + 1 = omega arith in rw z e
-
 module _ {plan : List ℕ} {l : PlanLayout} (s : PlanLaid plan l) {q : ℕ} (h : q < l .points) where
   pub point-near : (l .pointblock + q / profilePointPer < 2 ^ 54) × (q < 2 ^ 64)
   point-near = (point-in s h .near, omega (arith, plan-small s .points-most))

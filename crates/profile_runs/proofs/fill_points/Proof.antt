@@ -10,7 +10,8 @@ use Rattle.theory_travel.specs.Table.{entryAt, entry-start}
 use Rattle.plan.specs.PlanDecode.{decodePlan, pointTick, pointTravel}
 use Rattle.day_runs.specs.Filling.{Space, Filling, space-on, filling-start, room-next, room-last}
 use Rattle.day_runs.specs.Filling.{filling-next, filling-leads, filling-last}
-use Rattle.profile_runs.specs.Points.{pointAt, point-first, point-on, point-near, tick-there}
+use Rattle.file_blocks.specs.Walk.{walk-first, walk-on}
+use Rattle.profile_runs.specs.Points.{pointAt, point-near, tick-there}
 use Rattle.profile_runs.specs.Points.{travel-there, tick-read, travel-read}
 use borrow.Author.Needs.{needs}
 use Rattle.profile_runs.proofs.fill_points.Statement.{statement}
@@ -52,21 +53,21 @@ inside c = omega arith
 stands : (c : tie.After-next-point Inv-loop μ-loop)
     → c .next-point .result
     ≡ pointAt (start (c .before) .args .l) (start (c .before) .args .from + (c .before .before .loop .k + 1))
-stands c = point-on (start (c .before) .args .l) _ (c .before .before .loop .k) (c .next-point .ensures)
+stands c = walk-on _ _ _ _ (c .before .before .loop .k) (c .next-point .ensures)
 
-tick : (c : tie.After-field16 Inv-loop μ-loop)
+tick-told : (c : tie.After-field16 Inv-loop μ-loop)
     → c .field16 .result
     ≡ pointTick (decodePlan (now (start (c .before .before) .args .plan)))
     (start (c .before .before) .args .from + (c .before .before .before .loop .k + 1))
-tick c =
+tick-told c =
     tick-read (start (c .before .before) .pre .0) (inside (c .before .before)) (stands (c .before))
     (c .field16 .ensures .0)
 
-travel : (c : tie.After-field322 Inv-loop μ-loop)
+travel-told : (c : tie.After-field322 Inv-loop μ-loop)
     → c .field322 .result
     ≡ pointTravel (decodePlan (now (start (c .before .before .before) .args .plan)))
     (start (c .before .before .before) .args .from + (c .before .before .before .before .loop .k + 1))
-travel c =
+travel-told c =
     travel-read (start (c .before .before .before) .pre .0) (inside (c .before .before .before))
     (stands (c .before .before)) (c .field322 .ensures)
 
@@ -94,7 +95,7 @@ loop-holds c = let s = c .before .before .before .before .before in
       filling-start (s .pre .1 .0 .0) _ _
           (getD-set-same (s .args .starts .now) 0 0 0 (omega (arith, r .in-s))) (begun c),
       omega arith,
-      point-first (s .args .l) _ (c .before .point-at .ensures),
+      walk-first _ _ _ _ (c .before .point-at .ensures),
     )
 
 add-next-point : tie.Need-add-next-point Inv-loop μ-loop
@@ -120,7 +121,7 @@ extend-requires c κs = let d = c .before .before .before .before .before .befor
     let s = start d in
     let l = d .before .loop in
     let h : l .k + 1 < s .args .count = omega arith in (
-      room-next (s .pre .1 .0 .0) _ (l .inv .4) _ (l .inv .3) (tick (c .before .before .before .before)) h,
+      room-next (s .pre .1 .0 .0) _ (l .inv .4) _ (l .inv .3) (tick-told (c .before .before .before .before)) h,
       omega (arith, l .inv .5, s .pre .1 .1 .1),
     )
 
@@ -144,7 +145,7 @@ loop-again c = let f = c .before .before .before .before .before .before .before
       e .long-s ∙ l .inv .1,
       e .long-v ∙ l .inv .2,
       space-on (l .inv .3) e,
-      filling-next (s .pre .1 .0 .0) _ (l .inv .4) e (tick (f .before)) (travel f) h,
+      filling-next (s .pre .1 .0 .0) _ (l .inv .4) e (tick-told (f .before)) (travel-told f) h,
       omega (arith, l .inv .5, t .1),
       stands (f .before .before),
     )

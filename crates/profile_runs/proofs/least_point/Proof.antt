@@ -6,7 +6,8 @@ use native.Mathlib.Omega.{arith}
 use Rattle.theory_travel.specs.Table.{entryAt, entry-start}
 use Rattle.plan.specs.PlanDecode.{decodePlan}
 use Rattle.day_runs.specs.Bounds.{Least, least-one, least-more}
-use Rattle.profile_runs.specs.Points.{pointAt, point-first, point-on, point-near}
+use Rattle.file_blocks.specs.Walk.{walk-first, walk-on}
+use Rattle.profile_runs.specs.Points.{pointAt, point-near}
 use Rattle.profile_runs.specs.Points.{travel-there, travel-read}
 use borrow.Author.Needs.{needs}
 use Rattle.profile_runs.proofs.least_point.Statement.{statement}
@@ -35,7 +36,7 @@ inside c = omega arith
 stands : (c : tie.After-next-point Inv-loop μ-loop)
     → c .next-point .result
     ≡ pointAt (start (c .before) .args .l) (start (c .before) .args .from + (c .before .before .loop .k + 1))
-stands c = point-on (start (c .before) .args .l) _ (c .before .before .loop .k) (c .next-point .ensures)
+stands c = walk-on _ _ _ _ (c .before .before .loop .k) (c .next-point .ensures)
 
 sub-last : tie.Need-sub-last Inv-loop μ-loop
 sub-last c = search needs
@@ -52,7 +53,7 @@ loop-holds c = let s = c .before .before .before in
     let e = travel-read (s .pre .0) (first s) (c .before .point-at .ensures) (c .field32 .ensures) in (
       search needs,
       least-one _ _ (entry-start _ (s .args .from) _ e),
-      point-first (s .args .l) _ (c .before .point-at .ensures),
+      walk-first _ _ _ _ (c .before .point-at .ensures),
     )
 
 add-next-point : tie.Need-add-next-point Inv-loop μ-loop

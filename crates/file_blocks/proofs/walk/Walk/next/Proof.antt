@@ -1,5 +1,5 @@
 -- `file_blocks::walk::Walk::next` meets its contract.
-use mathlib.Core.Path.{_≡_, ap}
+use mathlib.Core.Path.{ap}
 use Prim.Native.Nat.{_-_, _%_, _<_}
 use native.Mathlib.Omega.{arith}
 use Rattle.file_blocks.specs.declared.walk.Walk.{Walk}
