@@ -4,6 +4,7 @@ pub mod Place
 pub mod Laid
 pub mod Cursor
 pub mod Table
+pub mod Walk
 pub mod Form
 pub mod Read
 pub mod SoundBlock

@@ -2,6 +2,7 @@
 //   kind    the table of kinds
 //   place   where the entries of a kind stand, and a table filled from them
 //   cursor  a walk over entries in their order
+//   walk    the same by bytes, for entries of several fields
 //   form    a block's head and fill
 //   reader  the walk over a file's blocks
 //   sound   check and form of a block together
@@ -13,4 +14,5 @@ pub mod kind;
 pub mod place;
 pub mod reader;
 pub mod sound;
+pub mod walk;
 pub mod write;

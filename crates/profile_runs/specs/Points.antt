@@ -1,0 +1,35 @@
+-- The points of a plan file, walked over in their order: what the walk rests on before point q, and that what
+-- code reads there is the plan's.
+use mathlib.Core.Path.{_≡_}
+use mathlib.Core.List.{List}
+use Prim.Native.Nat.{ℕ, _+_, _/_, _^_, _≤_, _<_}
+use native.Mathlib.Omega.{arith}
+use lib.ListN.{length}
+use lib.Dec.{lit≤}
+use Rattle.file_fields.specs.Fields.{le16, le32}
+use Rattle.file_blocks.specs.Kind.{profilePointPer, profilePointSize}
+use Rattle.file_blocks.specs.declared.walk.Walk.{Walk}
+use Rattle.file_blocks.specs.Walk.{walkAt, walk-there, walk-entry}
+use Rattle.plan.specs.declared.header.PlanLayout.{PlanLayout}
+use Rattle.plan.specs.PlanDecode.{PlanLaid, decodePlan, pointTick, pointTravel, point-in, tick-is, travel-is}
+use Rattle.plan.specs.PlanDecode.{plan-small}
+
+abbrev pub pointAt : PlanLayout → ℕ → Walk
+pointAt l q = walkAt (l .pointblock) profilePointPer profilePointSize q
+
+module _ {plan : List ℕ} {l : PlanLayout} (s : PlanLaid plan l) {q : ℕ} (h : q < l .points) where
+  pub point-near : (l .pointblock + q / profilePointPer < 2 ^ 54) × (q < 2 ^ 64)
+  point-near = (point-in s h .near, omega (arith, plan-small s .points-most))
+
+  module _ {c : Walk} (e : c ≡ pointAt l q) where
+    pub tick-there : c .at + 0 + 2 ≤ length plan
+    tick-there = walk-there (point-in s h) e 0 2 (lit≤ tt)
+
+    pub travel-there : c .at + 2 + 4 ≤ length plan
+    travel-there = walk-there (point-in s h) e 2 4 (lit≤ tt)
+
+    pub tick-read : {r : ℕ} → r ≡ le16 plan (c .at + 0) → r ≡ pointTick (decodePlan plan) q
+    tick-read f = tick-is s h (walk-entry (point-in s h) e le16 0 f)
+
+    pub travel-read : {r : ℕ} → r ≡ le32 plan (c .at + 2) → r ≡ pointTravel (decodePlan plan) q
+    travel-read f = travel-is s h (walk-entry (point-in s h) e le32 2 f)
