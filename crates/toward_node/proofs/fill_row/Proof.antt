@@ -1,18 +1,18 @@
--- `toward_node::zero_row` meets its contract: the entries passed are 0.
+-- `toward_node::fill_row` meets its contract: the entries passed have the value.
 use Prim.Native.Nat.{_-_, _≤_}
 use native.Mathlib.Omega.{arith}
 use mathlib.Core.Path.{refl}
 use Rattle.theory_loops.specs.Fill.{Filled, fill-up, fill-end, fills}
-use Rattle.toward_node.specs.Places.{row-zero}
+use Rattle.toward_node.specs.Places.{row-filled}
 use borrow.Author.Needs.{needs}
-use Rattle.toward_node.proofs.zero_row.Statement.{statement}
-use Rattle.toward_node.proofs.zero_row.Tie as tie
+use Rattle.toward_node.proofs.fill_row.Statement.{statement}
+use Rattle.toward_node.proofs.fill_row.Tie as tie
 
 abbrev Inv-loop : tie.InvT-loop
-Inv-loop b work₀ p e i₀ work i = (p ≤ i) × (i ≤ e) × Filled p i (λ _. 0) work₀ work
+Inv-loop u value work₀ p e i₀ work i = (p ≤ i) × (i ≤ e) × Filled p i (λ _. value) work₀ work
 
 abbrev μ-loop : tie.MeasureT-loop
-μ-loop b work₀ p e i₀ work i = e - i
+μ-loop u value work₀ p e i₀ work i = e - i
 
 row-place-requires : tie.Need-row-place-requires Inv-loop μ-loop
 row-place-requires c κs = search needs
@@ -39,7 +39,8 @@ loop-again : tie.Need-loop-again Inv-loop μ-loop
 loop-again c = (
   search needs,
   search needs,
-  fill-up (λ _. 0) _ _ _ _ _ (c .before .loop .inv .2) (c .before .loop .inv .0)
+  fill-up (λ _. c .before .before .before .before .before .args .value) _ _ _ _ _ (c .before .loop .inv .2)
+      (c .before .loop .inv .0)
       (omega (
         arith,
         c .before .before .before .row-place .ensures .1,
@@ -52,12 +53,13 @@ same-length c = search needs
 
 returns : tie.Need-returns Inv-loop μ-loop
 returns c =
-    let f = fill-end (λ _. 0) _ _ _ _ _ (c .before .loop .inv .2) (c .before .loop .inv .1)
+    let f = fill-end (λ _. c .before .before .before .before .before .args .value) _ _ _ _ _
+    (c .before .loop .inv .2) (c .before .loop .inv .1)
     (c .loop-test .left) in
-    row-zero _ _ _ _ _ (c .before .before .before .row-place .ensures .0) f
+    row-filled _ _ _ _ _ _ (c .before .before .before .row-place .ensures .0) f
 
-pub zero-row-spec : {M : Type 1} → statement M
-zero-row-spec =
+pub fill-row-spec : {M : Type 1} → statement M
+fill-row-spec =
     tie.close
     (tie.spec
     Inv-loop
