@@ -3,8 +3,6 @@
 // on the stack.
 use crate::answer::Checking;
 use crate::answer::Report;
-use crate::judge::Found;
-use crate::judge::judge_borders;
 use file_refusals::Refusal;
 use file_refusals::number;
 use network::answer::Opening;
@@ -16,6 +14,8 @@ use node_verdict::NONE;
 use plan::answer::Planning;
 use plan::borders::list_borders;
 use plan::header::PlanHeader;
+use plan_judge::Found;
+use plan_judge::judge_borders;
 use plan_tests::tests;
 use plan_tests::tests::Layouts;
 use plan_validate::validate::validate_plan;
@@ -38,9 +38,9 @@ ghost use Rattle.plan.specs.PlanValid.{ValidPlan};
 ghost use Rattle.plan_tests.specs.Checkable.{Checkable};
 ghost use Rattle.plan.specs.Border.{Listed};
 ghost use Rattle.plan_check.specs.declared.answer.Checking.the-variants.{Accepted, Refused};
-ghost use Rattle.plan_check.specs.Finding.{Equipped};
+ghost use Rattle.plan_judge.specs.Finding.{Equipped};
 ghost use Rattle.plan_check.specs.Finds.{Finds};
-ghost use Rattle.plan_check.specs.Standing.{triplesFrom, verdictOf};
+ghost use Rattle.plan_check.specs.Verdict.{triplesFrom, verdictOf};
 
 // The verdict by what was found.
 fn verdict_of(found: Found) -> Checking

@@ -1,8 +1,8 @@
--- `plan_check::judge::judge_borders` meets its contract.
+-- `plan_judge::judge_borders` meets its contract.
 use mathlib.Core.Path.{refl}
 use borrow.Author.Needs.{needs}
-use Rattle.plan_check.proofs.judge.judge_borders.Statement.{statement}
-use Rattle.plan_check.proofs.judge.judge_borders.Tie as tie
+use Rattle.plan_judge.proofs.judge_borders.Statement.{statement}
+use Rattle.plan_judge.proofs.judge_borders.Tie as tie
 
 fill-briefs-requires : tie.Need-fill-briefs-requires
 fill-briefs-requires c κs = search needs

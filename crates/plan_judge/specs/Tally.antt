@@ -1,31 +1,19 @@
 -- The finds of the check, counted while it judges node after node (`Row`) and border after border (`Tally`):
 -- within what document 02 allows, and no fewer than the points of the profiles while no test fails.
 use mathlib.Core.Path.{_≡_, refl, sym, _∙_, ap}
-use mathlib.Core.Bool.{Bool, true, false, cond}
-use mathlib.Core.List.{List}
+use mathlib.Core.Bool.{cond}
 use Prim.Native.Nat.{ℕ, zero, suc, _+_, _-_, _*_, _≤_, _<_}
 use native.Mathlib.Decide.{ℕ-discrete}
 use native.Mathlib.Omega.{arith}
-use lib.Dec.{eqb, ltb}
-use borrow.Author.Tests.{eq-eqb, ne-eqb, ltb-false}
+use lib.Dec.{eqb}
+use borrow.Author.Tests.{eq-eqb, ne-eqb}
 use Rattle.theory_loops.specs.Total.{total, total-none, total-more, total-part, total-most, total-same}
 use Rattle.theory_loops.specs.Sums.{total-le, total-rows}
-use Rattle.file_refusals.specs.declared.Refusal.{Refusal}
-use Rattle.network.specs.Decode.{decode}
 use Rattle.network.specs.Limits.{mostNodes}
 use Rattle.network.specs.Network.{Network, nodes, arcs, tail}
 use Rattle.plan.specs.Plan.{Plan, pointCount}
-use Rattle.plan.specs.PlanDecode.{decodePlan}
-use Rattle.plan_tests.specs.declared.tests.Layouts.{Layouts}
-use Rattle.plan_tests.specs.Checkable.{Checkable}
-use Rattle.plan_tests.specs.Finds.{nodeFinds, profilePoints, allowed, pass-allowed, allowed-most}
+use Rattle.plan_tests.specs.Finds.{nodeFinds, profilePoints, allowed, pass-allowed}
 use Rattle.node_verdict.specs.Lowest.{Tallied}
-use Rattle.plan_check.specs.declared.answer.Checking.{Checking}
-use Rattle.plan_check.specs.declared.answer.Checking.the-variants.{Accepted, Refused}
-use Rattle.plan_check.specs.declared.judge.Found.{Found}
-use Rattle.plan_check.specs.Check.{refusedAt}
-use Rattle.plan_check.specs.Finds.{Finds}
-use Rattle.plan_check.specs.Standing.{verdictOf}
 
 -- the nodes below u are judged towards border number i, and `number` is the lowest test that failed so far
 pub record Row (n : Network) (p : Plan) (i u number before after : ℕ) : Type 0 where
@@ -172,44 +160,3 @@ module _ (n : Network) (p : Plan) where
         total-le (λ i. total (nodes n) (λ u. pointCount p (i * nodes n + u))) (t .each) borders (t .enough
             refl),
       )
-
--- and what the check tells of them
-module _ {network plan : List ℕ} {l : Layouts} (w : Checkable network plan l) (f : Found) {finds : ℕ}
-    (t : Tally (decode network) (decodePlan plan) (l .plan .borders) (f .number) finds) (low : 21 ≤ f .number)
-    (high : f .number ≤ 25) where
-  refused-late : (b : Bool) → ltb (f .number) 25 ≡ b → (r : Refusal)
-      → cond b (refusedAt (f .number) (f .border) (f .node) (f .tick)) Accepted ≡ Refused r → r .number ≤ 20
-      → finds ≡ 0
-  refused-late true e r q h =
-      let z : f .number ≡ r .number = ap numberOf q in
-      absurd (omega arith)
-    where
-      numberOf : Checking → ℕ
-      numberOf Accepted = 0
-      numberOf (Refused r) = r .number
-  refused-late false e r q h = let z : _≡_ {A = ℕ} 0 1 = cc in absurd (omega arith)
-
-  accepted-all : (b : Bool) → ltb (f .number) 25 ≡ b
-      → cond b (refusedAt (f .number) (f .border) (f .node) (f .tick)) Accepted ≡ Accepted → f .number ≡ 25
-  accepted-all true e q = let z : _≡_ {A = ℕ} 0 1 = cc in absurd (omega arith)
-  accepted-all false e q = omega (arith, ltb-false (f .number) 25 e)
-
-  pub finds-told : {r : Checking} → r ≡ verdictOf f → Finds network plan r finds
-  unfolding verdictOf
-  finds-told e = record {
-    none = λ q g h. refused-late (ltb (f .number) 25) refl q (sym e ∙ g) h;
-    each = t .each;
-    sum = rw (w .borders) at (t .sum);
-    within = λ i h. t .within i (omega (arith, w .borders));
-    enough = λ g.
-        let z = accepted-all (ltb (f .number) 25) refl (sym e ∙ g) in
-        rw (w .borders) at (tally-enough (decode network) (decodePlan plan) (rw z at t));
-    small =
-        omega (
-          arith,
-          t .sum,
-          w .formed .small .borders-most,
-          total-most (t .each) 3221356542 (l .plan .borders)
-              (λ i h. omega (arith, t .within i h, allowed-most w h)),
-        );
-  }

@@ -1,5 +1,9 @@
-// The tests 21 to 24 at all borders, nodes and ticks, in one pass: the lowest that fails anywhere, and the
-// first place at which it does. Once a test fails, only those with lower numbers are looked for.
+// plan_judge: the tests 21 to 24 at all borders, nodes and ticks, in one pass: the lowest that fails
+// anywhere, and the first place at which it does. Once a test fails, only those with lower numbers are looked
+// for.
+// It may call `node_verdict` and `node_runs` for the tests at a node, `arc_runs` for arcs in brief,
+// `plan_values` for where profiles start, and `network` to read the file; it cites `plan`, `plan_tests`,
+// `search_arcs`, `theory_loops` and `theory_paths`.
 use arc_runs::brief;
 use file_refusals::number::CHECK_BORDER;
 use network::header::Layout;
@@ -21,9 +25,9 @@ ghost use Rattle.plan.specs.Border.{borderCount, Listed};
 ghost use Rattle.plan.specs.PlanDecode.{decodePlan};
 ghost use Rattle.arc_runs.specs.Brief.{Briefs};
 ghost use Rattle.plan_tests.specs.Giving.{Aimed};
-ghost use Rattle.plan_check.specs.Finding.{Equipped, Lent};
-ghost use Rattle.plan_check.specs.Standing.{Stands};
-ghost use Rattle.plan_check.specs.Tally.{Tally};
+ghost use Rattle.plan_judge.specs.Finding.{Equipped, Lent};
+ghost use Rattle.plan_judge.specs.Standing.{Stands};
+ghost use Rattle.plan_judge.specs.Tally.{Tally};
 
 // The runs of a day, and the tick after the last of them.
 const RUN_ENDS: usize = MOST_PERIOD + 1;

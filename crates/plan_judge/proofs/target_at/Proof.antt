@@ -1,8 +1,8 @@
--- `plan_check::judge::target_at` meets its contract: the list has the border's node, and the file its cell.
-use Rattle.plan_check.specs.Finding.{listed-node, listed-aimed}
+-- `plan_judge::target_at` meets its contract: the list has the border's node, and the file its cell.
+use Rattle.plan_judge.specs.Finding.{listed-node, listed-aimed}
 use borrow.Author.Needs.{needs}
-use Rattle.plan_check.proofs.judge.target_at.Statement.{statement}
-use Rattle.plan_check.proofs.judge.target_at.Tie as tie
+use Rattle.plan_judge.proofs.target_at.Statement.{statement}
+use Rattle.plan_judge.proofs.target_at.Tie as tie
 
 mul-wide : tie.Need-mul-wide
 mul-wide c = search needs

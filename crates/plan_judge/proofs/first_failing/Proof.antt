@@ -1,4 +1,4 @@
--- `plan_check::judge::first_failing` meets its contract.
+-- `plan_judge::first_failing` meets its contract.
 use mathlib.Core.Path.{_≡_, refl, sym, _∙_}
 use Prim.Native.Nat.{_-_, _*_, _≤_}
 use native.Mathlib.Omega.{arith}
@@ -12,8 +12,8 @@ use Rattle.plan.specs.PlanDecode.{decodePlan}
 use Rattle.plan_values.specs.Starts.{started-of}
 use Rattle.plan_tests.specs.Finds.{allowed-most}
 use Rattle.node_verdict.specs.Lowest.{tells}
-use Rattle.plan_check.specs.Finding.{Lent, lent-same, lent-rooms, border-number, at-border, from-start}
-use Rattle.plan_check.specs.Standing.{
+use Rattle.plan_judge.specs.Finding.{Lent, lent-same, lent-rooms, border-number, at-border, from-start}
+use Rattle.plan_judge.specs.Standing.{
   Stands,
   stands-first,
   stands-kept,
@@ -22,7 +22,7 @@ use Rattle.plan_check.specs.Standing.{
   stands-least,
   stands-row,
 }
-use Rattle.plan_check.specs.Tally.{
+use Rattle.plan_judge.specs.Tally.{
   Row,
   Tally,
   row-none,
@@ -34,8 +34,8 @@ use Rattle.plan_check.specs.Tally.{
   tally-least,
 }
 use borrow.Author.Needs.{needs}
-use Rattle.plan_check.proofs.judge.first_failing.Statement.{statement}
-use Rattle.plan_check.proofs.judge.first_failing.Tie as tie
+use Rattle.plan_judge.proofs.first_failing.Statement.{statement}
+use Rattle.plan_judge.proofs.first_failing.Tie as tie
 
 abbrev Inv-ticks : tie.InvT-ticks
 Inv-ticks network plan l points briefs first next borders firsts lows so vo sa va sh vh marks finds count
