@@ -2,9 +2,11 @@
 -- step keeps the upper part or the lower one, and as many points of either. The invariant is `Between` of
 -- `theory_travel`, whose second end follows from the two.
 use mathlib.Core.Path.{_≡_, refl}
-use Prim.Native.Nat.{ℕ, suc, _+_, _-_, _*_, _/_, _≤_, _<_}
+use Prim.Native.Nat.{ℕ, suc, _+_, _-_, _/_, _≤_, _<_}
 use native.Mathlib.Decide.{decLt}
+use native.Mathlib.Nat.{mod-eq-of-lt}
 use native.Mathlib.Omega.{arith}
+use lib.Bits.{bitAnd, and-comm, and-shifted, and-mask}
 use Rattle.theory_travel.specs.Search.{Sorted, Last, Between, between-start, between-end}
 
 -- what a step adds to the first point: h where tick u is at or before x, else nothing
@@ -13,19 +15,21 @@ pub record Step (h u x g : ℕ) : Type 0 where
   pub low : x < u → g ≡ 0
   pub most : g ≤ h
 
--- by a quotient that is 1 or 0
-module _ (h u x : ℕ) (k : u < 65536) (m : x < 65536) where
-  step-by : (y : ℕ) → y ≡ (65536 + x - u) / 65536 → Step h u x (h * y)
+-- by a mask of 16 bits
+module _ (h u x : ℕ) (j : h < 65536) (k : u < 65536) (m : x < 65536) where
+  step-by : (y : ℕ) → y ≡ (4294967295 - x + u) / 65536 → Step h u x (bitAnd h y)
   step-by y e = elim (decLt x u) [
     | yes o ↦
-        let z : y ≡ 0 = omega arith in
-        rw z (record { high = λ q. absurd (omega arith); low = λ q. omega arith; most = omega arith })
+        let z : y ≡ 65536 = omega arith in
+        rw (z, and-comm h 65536, and-shifted 1 16 h j)
+        (record { high = λ q. absurd (omega arith); low = λ q. omega arith; most = omega arith })
     | no o ↦
-        let z : y ≡ 1 = omega arith in
-        rw z (record { high = λ q. omega arith; low = λ q. absurd (omega arith); most = omega arith })
+        let z : y ≡ 65535 = omega arith in
+        rw (z, and-mask h 16, mod-eq-of-lt j)
+        (record { high = λ q. omega arith; low = λ q. absurd (omega arith); most = omega arith })
   ]
 
-  pub step-is : Step h u x (h * ((65536 + x - u) / 65536))
+  pub step-is : Step h u x (bitAnd h ((4294967295 - x + u) / 65536))
   step-is = step-by _ refl
 
 module _ (t : ℕ → ℕ) (n x : ℕ) where

@@ -60,12 +60,12 @@ fn stretch_of(file: &[u8], l: Layout, from: usize, count: usize, x: usize) -> St
 }
 
 // A step of a search: `half` where tick t is at or before x, else 0. It is reckoned, not branched for, since
-// neither is the likelier.
+// neither is the likelier: bits 0 to 15 of the number that is held against `half` are all 1, or all 0.
 fn step(half: usize, t: usize, x: usize) -> usize
     requires { ⌜ (half < 65536) × (t < 65536) × (x < 65536) ⌝ }
     ensures { λ r. ⌜ Step half t x r ⌝ }
 {
-    half * ((65536 + x - t) >> 16)
+    half & ((4294967295 - x + t) >> 16)
 }
 
 // The last of the first n points of a stretch that is at or before x, counted from its first.
