@@ -2,7 +2,8 @@
 // travel. Each point is read once, so its runs take as many finds as it has points.
 //   brief  a byte for each arc that spares reading its points, where that is enough
 // It may call `network` for the entries of the file, `file_blocks` for the walk over points, `day_runs` for
-// runs and `search_arcs` for widths; it cites `theory_travel` for the line and `theory_loops` for filled parts.
+// runs and `search_arcs` for widths; it cites `theory_travel` for the line and `theory_loops` for filled
+// parts.
 pub mod brief;
 
 use file_blocks::kind;
@@ -34,21 +35,12 @@ const TICK_AT: usize = 0;
 
 const TRAVEL_AT: usize = 2;
 
-// The walk before point q.
-fn point_at(l: Layout, q: usize) -> Walk
-    requires { ⌜ l .pointblock + q / pointPer < 2 ^ 54 ⌝ }
-    ensures { λ r. ⌜ r ≡ pointAt l q ⌝ }
+// The walk before point q, where the points start in block `block`.
+fn point_at(block: usize, q: usize) -> Walk
+    requires { ⌜ block + q / pointPer < 2 ^ 54 ⌝ }
+    ensures { λ r. ⌜ r ≡ pointAt block q ⌝ }
 {
-    Walk::new(l.pointblock, kind::POINT_PER, kind::POINT_SIZE, q)
-}
-
-// The walk before point q + 1, from before point q.
-fn next_point(l: Layout, at: Walk, q: usize) -> Walk
-    requires { ⌜ at ≡ pointAt l q ⌝ }
-    requires { ⌜ (l .pointblock + (q + 1) / pointPer < 2 ^ 54) × (q + 1 < 2 ^ 64) ⌝ }
-    ensures { λ r. ⌜ r ≡ pointAt l (q + 1) ⌝ }
-{
-    at.next(l.pointblock, kind::POINT_PER, kind::POINT_SIZE, q)
+    Walk::new(block, kind::POINT_PER, kind::POINT_SIZE, q)
 }
 
 // The travel of the point before which the walk stands.
@@ -78,14 +70,14 @@ fn fill_points(
         (l .period)) × (now (finds .exit) ≡ now (finds .entry) + count) ⌝ }
 {
     let last = count - 1;
-    let mut at = point_at(l, from);
+    let mut at = point_at(l.pointblock, from);
     let begin = travel(file, at);
     starts[0] = 0;
     let mut n = 0;
     let mut a = 0;
     let mut v = begin;
     for k in 0..last {
-        at = next_point(l, at, from + k);
+        at = at.next(kind::POINT_PER, kind::POINT_SIZE);
         let b = at.field16(file, TICK_AT);
         let w = travel(file, at);
         n = day_runs::extend(starts, values, n, a, v, b, w, finds);
@@ -140,10 +132,11 @@ fn least_point(file: &[u8], l: Layout, from: usize, count: usize) -> u32
     ensures { λ r. ⌜ Least (entryAt (decode (now (file .entry)) .travels) from) count r ⌝ }
 {
     let last = count - 1;
-    let mut at = point_at(l, from);
+    let block = l.pointblock;
+    let mut at = point_at(block, from);
     let mut least = travel(file, at);
     for k in 0..last {
-        at = next_point(l, at, from + k);
+        at = at.next(kind::POINT_PER, kind::POINT_SIZE);
         least = day_runs::lesser(least, travel(file, at));
     }
     least
@@ -156,10 +149,11 @@ fn greatest_point(file: &[u8], l: Layout, from: usize, count: usize) -> u32
     ensures { λ r. ⌜ Most (entryAt (decode (now (file .entry)) .travels) from) count r ⌝ }
 {
     let last = count - 1;
-    let mut at = point_at(l, from);
+    let block = l.pointblock;
+    let mut at = point_at(block, from);
     let mut greatest = travel(file, at);
     for k in 0..last {
-        at = next_point(l, at, from + k);
+        at = at.next(kind::POINT_PER, kind::POINT_SIZE);
         greatest = day_runs::greater(greatest, travel(file, at));
     }
     greatest

@@ -1,15 +1,15 @@
-// A walk over the entries of a run in their order, by the byte at which the next one starts: an entry costs a
-// step of its size, and only a new block a division, which a compiler leaves behind a branch.
-// specs/Walk.antt says where it stands before entry i.
+// A walk over the entries of a run in their order, without a division, by the byte at which the next one
+// starts: each field of it is then one addition away. specs/Walk.antt says where it stands before entry i.
 use crate::place::offset;
+use file_fields::BLOCK;
 use file_fields::fields::le16;
 use file_fields::fields::le32;
 ghost use mathlib.Core.Path.{_≡_};
 ghost use Prim.Native.Nat.{_+_, _*_, _/_, _^_, _≤_, _<_};
 ghost use lib.ListN.{length};
-ghost use Rattle.file_fields.specs.Block.{entriesSize};
+ghost use Rattle.file_fields.specs.Block.{blockSize, entriesSize};
 ghost use Rattle.file_fields.specs.Fields;
-ghost use Rattle.file_blocks.specs.Walk.{walkAt};
+ghost use Rattle.file_blocks.specs.Walk.{walkAt, stepped};
 
 // The byte at which the entry starts, and how many entries its block has from it on.
 pub struct Walk {
@@ -29,12 +29,10 @@ impl Walk {
         }
     }
 
-    // Before entry i + 1, from before entry i.
-    pub fn next(self, from: usize, per: usize, size: usize, i: usize) -> Walk
-        requires { ⌜ self ≡ walkAt from per size i ⌝ }
-        requires { ⌜ (0 < per) × (size * per ≤ entriesSize) × (from + (i + 1) / per < 2 ^ 54) ⌝ }
-        requires { ⌜ i + 1 < 2 ^ 64 ⌝ }
-        ensures { λ r. ⌜ r ≡ walkAt from per size (i + 1) ⌝ }
+    // Before the next entry, in a run of `per` entries a block, of `size` bytes each.
+    pub fn next(self, per: usize, size: usize) -> Walk
+        requires { ⌜ (0 < per) × (size * per ≤ entriesSize) × (self .at + blockSize < 2 ^ 64) ⌝ }
+        ensures { λ r. ⌜ r ≡ stepped per size self ⌝ }
     {
         if 1 < self.left {
             return Walk {
@@ -42,7 +40,10 @@ impl Walk {
                 left: self.left - 1,
             };
         }
-        Walk::new(from, per, size, i + 1)
+        Walk {
+            at: self.at + size + (BLOCK - size * per),
+            left: per,
+        }
     }
 
     // The 16 bits at byte `at` of the entry.

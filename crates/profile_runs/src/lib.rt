@@ -35,31 +35,12 @@ fn wide(x: u32) -> usize
     x as usize
 }
 
-// The walk before point q.
-fn point_at(l: PlanLayout, q: usize) -> Walk
-    requires { ⌜ l .pointblock + q / profilePointPer < 2 ^ 54 ⌝ }
-    ensures { λ r. ⌜ r ≡ pointAt l q ⌝ }
+// The walk before point q, where the points start in block `block`.
+fn point_at(block: usize, q: usize) -> Walk
+    requires { ⌜ block + q / profilePointPer < 2 ^ 54 ⌝ }
+    ensures { λ r. ⌜ r ≡ pointAt block q ⌝ }
 {
-    Walk::new(
-        l.pointblock,
-        kind::PROFILE_POINT_PER,
-        kind::PROFILE_POINT_SIZE,
-        q,
-    )
-}
-
-// The walk before point q + 1, from before point q.
-fn next_point(l: PlanLayout, at: Walk, q: usize) -> Walk
-    requires { ⌜ at ≡ pointAt l q ⌝ }
-    requires { ⌜ (l .pointblock + (q + 1) / profilePointPer < 2 ^ 54) × (q + 1 < 2 ^ 64) ⌝ }
-    ensures { λ r. ⌜ r ≡ pointAt l (q + 1) ⌝ }
-{
-    at.next(
-        l.pointblock,
-        kind::PROFILE_POINT_PER,
-        kind::PROFILE_POINT_SIZE,
-        q,
-    )
+    Walk::new(block, kind::PROFILE_POINT_PER, kind::PROFILE_POINT_SIZE, q)
 }
 
 // The runs of the day by `count` points from `from` on. Answers their number.
@@ -81,14 +62,14 @@ fn fill_points(
         (l .period)) × (now (finds .exit) ≡ now (finds .entry) + count) ⌝ }
 {
     let last = count - 1;
-    let mut at = point_at(l, from);
+    let mut at = point_at(l.pointblock, from);
     let begin = at.field32(plan, TRAVEL_AT);
     starts[0] = 0;
     let mut n = 0;
     let mut a = 0;
     let mut v = begin;
     for k in 0..last {
-        at = next_point(l, at, from + k);
+        at = at.next(kind::PROFILE_POINT_PER, kind::PROFILE_POINT_SIZE);
         let b = at.field16(plan, TICK_AT);
         let w = at.field32(plan, TRAVEL_AT);
         n = day_runs::extend(starts, values, n, a, v, b, w, finds);
@@ -133,10 +114,11 @@ fn least_point(plan: &[u8], l: PlanLayout, from: usize, count: usize) -> u32
     ensures { λ r. ⌜ Least (entryAt (decodePlan (now (plan .entry)) .travels) from) count r ⌝ }
 {
     let last = count - 1;
-    let mut at = point_at(l, from);
+    let block = l.pointblock;
+    let mut at = point_at(block, from);
     let mut least = at.field32(plan, TRAVEL_AT);
     for k in 0..last {
-        at = next_point(l, at, from + k);
+        at = at.next(kind::PROFILE_POINT_PER, kind::PROFILE_POINT_SIZE);
         least = day_runs::lesser(least, at.field32(plan, TRAVEL_AT));
     }
     least
@@ -149,10 +131,11 @@ fn greatest_point(plan: &[u8], l: PlanLayout, from: usize, count: usize) -> u32
     ensures { λ r. ⌜ Most (entryAt (decodePlan (now (plan .entry)) .travels) from) count r ⌝ }
 {
     let last = count - 1;
-    let mut at = point_at(l, from);
+    let block = l.pointblock;
+    let mut at = point_at(block, from);
     let mut greatest = at.field32(plan, TRAVEL_AT);
     for k in 0..last {
-        at = next_point(l, at, from + k);
+        at = at.next(kind::PROFILE_POINT_PER, kind::PROFILE_POINT_SIZE);
         greatest = day_runs::greater(greatest, at.field32(plan, TRAVEL_AT));
     }
     greatest

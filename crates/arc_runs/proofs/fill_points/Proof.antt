@@ -11,8 +11,8 @@ use Rattle.network.specs.Network.{tick, travel}
 use Rattle.network.specs.Decode.{decode}
 use Rattle.day_runs.specs.Filling.{Space, Filling, space-on, filling-start, room-next, room-last}
 use Rattle.day_runs.specs.Filling.{filling-next, filling-leads, filling-last}
-use Rattle.file_blocks.specs.Walk.{walk-first, walk-on}
-use Rattle.arc_runs.specs.Points.{pointAt, point-near, tick-there}
+use Rattle.file_blocks.specs.Walk.{walk-first}
+use Rattle.arc_runs.specs.Points.{pointAt, step-may, step-on, point-near, tick-there}
 use Rattle.arc_runs.specs.Points.{travel-there, tick-read, travel-read}
 use borrow.Author.Needs.{needs}
 use Rattle.arc_runs.proofs.fill_points.Statement.{statement}
@@ -24,7 +24,7 @@ Inv-loop file l from count starts₀ values₀ finds₀ last at₀ begin n₀ a�
     × Space starts values (l .period)
     × Filling (entryAt (decode file .ticks) from) (entryAt (decode file .travels) from) count
     (l .period) starts values n k a v
-    × (finds ≡ finds₀ + k) × (at ≡ pointAt l (from + k))
+    × (finds ≡ finds₀ + k) × (at ≡ pointAt (l .pointblock) (from + k))
 
 abbrev μ-loop : tie.MeasureT-loop
 μ-loop file l from count starts₀ values₀ finds₀ last at₀ begin n₀ a₀ v₀ k₀ starts values finds at n a v k =
@@ -46,15 +46,22 @@ begun c = let s = c .before .before .before .before .before in
 abbrev start : tie.In-loop Inv-loop μ-loop → tie.Start Inv-loop μ-loop
 start c = c .before .before .before .before .before .before .before
 
--- the next point stands in the file, and the walk before it
+-- this point stands in the file
+here : (c : tie.In-loop Inv-loop μ-loop)
+    → start c .args .from + c .before .loop .k < start c .args .l .points
+here c = omega arith
+
+-- and the next, with the walk before it
 inside : (c : tie.In-loop Inv-loop μ-loop)
     → start c .args .from + (c .before .loop .k + 1) < start c .args .l .points
 inside c = omega arith
 
-stands : (c : tie.After-next-point Inv-loop μ-loop)
-    → c .next-point .result
-    ≡ pointAt (start (c .before) .args .l) (start (c .before) .args .from + (c .before .before .loop .k + 1))
-stands c = walk-on _ _ _ _ (c .before .before .loop .k) (c .next-point .ensures)
+stands : (c : tie.After-next Inv-loop μ-loop)
+    → c .next .result
+    ≡ pointAt (start (c .before) .args .l .pointblock)
+    (start (c .before) .args .from + (c .before .before .loop .k + 1))
+stands c = let d = c .before in
+    step-on (start d .pre .0) _ (d .before .loop .k) (here d) (d .before .loop .inv .6) (c .next .ensures)
 
 tick-told : (c : tie.After-field16 Inv-loop μ-loop)
     → c .field16 .result
@@ -76,7 +83,7 @@ sub-last : tie.Need-sub-last Inv-loop μ-loop
 sub-last c = search needs
 
 point-at-requires : tie.Need-point-at-requires Inv-loop μ-loop
-point-at-requires c κs = let s = c .before .before .before in point-near (s .pre .0) (first s) .0
+point-at-requires c κs = let s = c .before .before .before in point-near (s .pre .0) (first s)
 
 travel-requires : tie.Need-travel-requires Inv-loop μ-loop
 travel-requires c κs = let s = c .before .before .before .before in
@@ -99,15 +106,8 @@ loop-holds c = let s = c .before .before .before .before .before in
       walk-first _ _ _ _ (c .before .point-at .ensures),
     )
 
-add-next-point : tie.Need-add-next-point Inv-loop μ-loop
-add-next-point c = search needs
-
-next-point-requires : tie.Need-next-point-requires Inv-loop μ-loop
-next-point-requires c κs = let s = start c in
-    let h : s .args .from + c .before .loop .k + 1 < s .args .l .points = omega arith in (
-      c .before .loop .inv .6,
-      point-near (s .pre .0) h,
-    )
+next-requires : tie.Need-next-requires Inv-loop μ-loop
+next-requires c κs = step-may (start c .pre .0) _ (c .before .loop .k) (here c) (c .before .loop .inv .6)
 
 field16-requires : tie.Need-field16-requires Inv-loop μ-loop
 field16-requires c κs = tick-there (start (c .before) .pre .0) (inside (c .before)) (stands c)
@@ -121,8 +121,9 @@ unfolding entryAt
 extend-requires c κs = let d = c .before .before .before .before .before .before in
     let s = start d in
     let l = d .before .loop in
+    let t = tick-told (c .before .before .before .before) in
     let h : l .k + 1 < s .args .count = omega arith in (
-      room-next (s .pre .1 .0 .0) _ (l .inv .4) _ (l .inv .3) (tick-told (c .before .before .before .before)) h,
+      room-next (s .pre .1 .0 .0) _ (l .inv .4) _ (l .inv .3) t h,
       omega (arith, l .inv .5, s .pre .1 .1 .1),
     )
 
@@ -196,8 +197,7 @@ fill-points-spec =
     travel-requires
     slice-write-starts
     loop-holds
-    add-next-point
-    next-point-requires
+    next-requires
     field16-requires
     travel-requires-2
     extend-requires

@@ -6,20 +6,20 @@ use native.Mathlib.Omega.{arith}
 use Rattle.theory_travel.specs.Table.{entryAt, entry-start}
 use Rattle.network.specs.Decode.{decode}
 use Rattle.day_runs.specs.Bounds.{Most, most-one, most-more}
-use Rattle.file_blocks.specs.Walk.{walk-first, walk-on}
-use Rattle.arc_runs.specs.Points.{pointAt, point-near}
+use Rattle.file_blocks.specs.Walk.{walk-first}
+use Rattle.arc_runs.specs.Points.{pointAt, step-may, step-on, point-near}
 use Rattle.arc_runs.specs.Points.{travel-there, travel-read}
 use borrow.Author.Needs.{needs}
 use Rattle.arc_runs.proofs.greatest_point.Statement.{statement}
 use Rattle.arc_runs.proofs.greatest_point.Tie as tie
 
 abbrev Inv-loop : tie.InvT-loop
-Inv-loop file l from count last at₀ greatest₀ k₀ at greatest k =
+Inv-loop file from count last block at₀ greatest₀ k₀ at greatest k =
     (k ≤ last) × Most (entryAt (decode file .travels) from) (k + 1) greatest
-    × (at ≡ pointAt l (from + k))
+    × (at ≡ pointAt block (from + k))
 
 abbrev μ-loop : tie.MeasureT-loop
-μ-loop file l from count last at₀ greatest₀ k₀ at greatest k = last - k
+μ-loop file from count last block at₀ greatest₀ k₀ at greatest k = last - k
 
 -- the first point stands in the file
 first : (s : tie.Start Inv-loop μ-loop) → s .args .from < s .args .l .points
@@ -28,21 +28,28 @@ first s = omega arith
 abbrev start : tie.In-loop Inv-loop μ-loop → tie.Start Inv-loop μ-loop
 start c = c .before .before .before .before .before
 
--- the next stands there too, and the walk before it
+-- this point stands in the file
+here : (c : tie.In-loop Inv-loop μ-loop)
+    → start c .args .from + c .before .loop .k < start c .args .l .points
+here c = omega arith
+
+-- and the next, with the walk before it
 inside : (c : tie.In-loop Inv-loop μ-loop)
     → start c .args .from + (c .before .loop .k + 1) < start c .args .l .points
 inside c = omega arith
 
-stands : (c : tie.After-next-point Inv-loop μ-loop)
-    → c .next-point .result
-    ≡ pointAt (start (c .before) .args .l) (start (c .before) .args .from + (c .before .before .loop .k + 1))
-stands c = walk-on _ _ _ _ (c .before .before .loop .k) (c .next-point .ensures)
+stands : (c : tie.After-next Inv-loop μ-loop)
+    → c .next .result
+    ≡ pointAt (start (c .before) .args .l .pointblock)
+    (start (c .before) .args .from + (c .before .before .loop .k + 1))
+stands c = let d = c .before in
+    step-on (start d .pre .0) _ (d .before .loop .k) (here d) (d .before .loop .inv .2) (c .next .ensures)
 
 sub-last : tie.Need-sub-last Inv-loop μ-loop
 sub-last c = search needs
 
 point-at-requires : tie.Need-point-at-requires Inv-loop μ-loop
-point-at-requires c κs = point-near (c .before .pre .0) (first (c .before)) .0
+point-at-requires c κs = point-near (c .before .pre .0) (first (c .before))
 
 travel-requires : tie.Need-travel-requires Inv-loop μ-loop
 travel-requires c κs = let s = c .before .before in
@@ -56,15 +63,8 @@ loop-holds c = let s = c .before .before .before in
       walk-first _ _ _ _ (c .before .point-at .ensures),
     )
 
-add-next-point : tie.Need-add-next-point Inv-loop μ-loop
-add-next-point c = search needs
-
-next-point-requires : tie.Need-next-point-requires Inv-loop μ-loop
-next-point-requires c κs = let s = start c in
-    let h : s .args .from + c .before .loop .k + 1 < s .args .l .points = omega arith in (
-      c .before .loop .inv .2,
-      point-near (s .pre .0) h,
-    )
+next-requires : tie.Need-next-requires Inv-loop μ-loop
+next-requires c κs = step-may (start c .pre .0) _ (c .before .loop .k) (here c) (c .before .loop .inv .2)
 
 travel-requires-2 : tie.Need-travel-requires-2 Inv-loop μ-loop
 travel-requires-2 c κs = travel-there (start (c .before) .pre .0) (inside (c .before)) (stands c)
@@ -103,8 +103,7 @@ greatest-point-spec =
     point-at-requires
     travel-requires
     loop-holds
-    add-next-point
-    next-point-requires
+    next-requires
     travel-requires-2
     greater-requires
     add-k

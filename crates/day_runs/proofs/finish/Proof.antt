@@ -11,9 +11,9 @@ piece-requires : tie.Need-piece-requires
 piece-requires c κs = search needs
 
 close-requires : tie.Need-close-requires
-close-requires c κs =
-    let s = c .before .before .before .before .before .before .before .before .before .before .before .before .before in
-    finish-ending (s .pre .0) (s .pre .1 .0) (c .before .before .before .before .before .before .piece .ensures)
+close-requires c κs = let p = c .before .before .before .before .before .before in
+    let s = p .before .before .before .before .before .before .before in
+    finish-ending (s .pre .0) (s .pre .1 .0) (p .piece .ensures)
 
 same-length : tie.Need-same-length
 same-length c = search needs
@@ -22,10 +22,10 @@ same-length-2 : tie.Need-same-length-2
 same-length-2 c = search needs
 
 returns : tie.Need-returns
-returns c =
-    let s = c .before .before .before .before .before .before .before .before .before .before .before .before .before .before .before .before .before .before
-    in (
-      finish-added (s .pre .0) (s .pre .1 .0) (c .before .before .before .before .before .before .before .before .before .before .before .piece .ensures) (c .before .before .before .before .close .ensures),
+returns c = let d = c .before .before .before .before in
+    let p = d .before .before .before .before .before .before .before in
+    let s = p .before .before .before .before .before .before .before in (
+      finish-added (s .pre .0) (s .pre .1 .0) (p .piece .ensures) (d .close .ensures),
       search needs,
     )
 
