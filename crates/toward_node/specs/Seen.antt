@@ -138,12 +138,13 @@ module _ {r : ℕ} {first : Bool} {W M : List ℕ} (wide u : ℕ) (w h : ℕ →
   unfolding rowLowered
   row-given k lo hi = c .filled .written k lo hi
 
-  pub row-most : (x : ℕ) → x < wide → gridAt wide M u x ≤ offer w h wide x
-  unfolding gridAt
-  row-most x i =
-      let e : u * wide + x - u * wide ≡ x = omega arith in
-      let z = rw e at (row-given (u * wide + x) (omega arith) (omega arith)) in
-      omega (arith, lowest-most first (getD W (u * wide + x) 0) (offer w h wide x))
+  pub row-most : (k : ℕ) → u * wide ≤ k → k < u * wide + wide → getD M k 0 ≤ offer w h wide (k - u * wide)
+  row-most k lo hi =
+      omega (
+        arith,
+        row-given k lo hi,
+        lowest-most first (getD W k 0) (offer w h wide (k - u * wide)),
+      )
 
   pub row-first : first ≡ true → (x : ℕ) → x < wide → gridAt wide M u x ≡ offer w h wide x
   unfolding gridAt lowest

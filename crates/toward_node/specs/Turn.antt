@@ -4,7 +4,7 @@ use mathlib.Core.Path.{_≡_, refl, sym, _∙_, ap}
 use mathlib.Core.Bool.{Bool, true, false}
 use mathlib.Core.Logic.{_≢_}
 use mathlib.Core.List.{List}
-use Prim.Native.Nat.{ℕ, _+_, _-_, _*_, _%_, _≤_, _<_, max, zero-le}
+use Prim.Native.Nat.{ℕ, _+_, _-_, _*_, _%_, _^_, _≤_, _<_, max, zero-le}
 use native.Mathlib.Nat.{mul-le-mul, mul-le-mul-right, mod-lt}
 use native.Mathlib.Omega.{arith}
 use native.Mathlib.Decide.{ℕ-discrete, decLt}
@@ -24,7 +24,7 @@ use Rattle.search_arcs.specs.Town.{Town, lawful, tail-node, head-node}
 use Rattle.search_arcs.specs.Chain.{Chained, NextArc}
 use Rattle.toward_row.specs.Arcs.{Primed}
 use Rattle.toward_row.specs.Cut.{Cut}
-use Rattle.toward_row.specs.Lower.{entries, offer}
+use Rattle.toward_row.specs.Lower.{entries, offer, Numbers}
 use Rattle.theory_paths.specs.Queue.{Queue, queue-begin, queue-skip, queue-quiet, queue-lower, queue-least}
 use Rattle.theory_paths.specs.Queue.{queue-first, queue-bar, Lowering}
 use Rattle.toward_node.specs.Burden.{burden, burden-clear, burden-lower}
@@ -305,14 +305,13 @@ module _ {file : List ℕ} {l : Layout} {starts hs W M D H : List ℕ} {a u near
     (k : Held (l .period) near hs (seen (l .period) H W) H (head (decode file) a))
     (e : u ≡ tail (decode file) a)
     (c : Cut first (u * l .period) (u * l .period + l .period)
-    (rowLowered first (travelAt (decode file) a) (entries hs) (l .period) (u * l .period) W) W M r)
-    (bare : first ≡ true → getD H u 0 ≡ 0) (known : first ≡ false → getD H u 0 ≢ 0) where
+    (rowLowered first (travelAt (decode file) a) (entries hs) (l .period) (u * l .period) W) W M r) where
   fits : u * l .period + l .period ≤ length W
   fits =
       let n : u + 1 ≤ l .nodes = omega (arith, tail-node (t .town) a u h e) in
       omega (arith, mul-le-mul-right (l .period) n, seen-size W o)
 
-  offer-early : (x : ℕ) → x < l .period → offer (travelAt (decode file) a) (entries hs) (l .period) x < never
+  offer-early : (x : ℕ) → x < l .period → offer (travelAt (decode file) a) (entries hs) (l .period) x < 2 ^ 31
   unfolding offer entries
   offer-early x i =
       let z = held-capped (t .town .small) o k (head-node (t .town) a (head (decode file) a) h refl) in
@@ -324,6 +323,12 @@ module _ {file : List ℕ} {l : Layout} {starts hs W M D H : List ℕ} {a u near
         t .town .sizes .period,
         t .town .small .period-most,
       )
+
+  pub tail-numbers : Numbers M (u * l .period) (u * l .period + l .period)
+  tail-numbers = record {
+    entry = λ k lo hi.
+        omega (arith, row-most (l .period) u _ _ c k lo hi, offer-early (k - u * l .period) (omega arith));
+  }
 
   -- a row that got its first numbers: none is below the least of its head's row and its least travel
   pub near-first : {m : ℕ} → LeastTravel file l a m → NearFirst first (l .period) M u (near - m)
@@ -341,39 +346,41 @@ module _ {file : List ℕ} {l : Layout} {starts hs W M D H : List ℕ} {a u near
     };
   }
 
-  cut-seen : (I : List ℕ) → getD I u 0 ≢ 0 → ((v : ℕ) → v ≢ u → getD I v 0 ≡ getD H v 0)
-      → Cut false (u * l .period) (u * l .period + l .period)
-      (rowLowered false (travelAt (decode file) a) (entries hs) (l .period) (u * l .period)
-      (seen (l .period) H W)) (seen (l .period) H W) (seen (l .period) I M) r
-  cut-seen I got others =
-      seen-cut (l .period) u _ _ c H I (t .town .small .period-some) fits bare known got others offer-early
+  module _ (bare : first ≡ true → getD H u 0 ≡ 0) (known : first ≡ false → getD H u 0 ≢ 0) where
+    cut-seen : (I : List ℕ) → getD I u 0 ≢ 0 → ((v : ℕ) → v ≢ u → getD I v 0 ≡ getD H v 0)
+        → Cut false (u * l .period) (u * l .period + l .period)
+        (rowLowered false (travelAt (decode file) a) (entries hs) (l .period) (u * l .period)
+        (seen (l .period) H W)) (seen (l .period) H W) (seen (l .period) I M) r
+    cut-seen I got others =
+        seen-cut (l .period) u _ _ c H I (t .town .small .period-some) fits bare known got others
+        (λ x i. omega (arith, offer-early x i))
 
-  pub tail-quiet : {bar : ℕ} → r ≡ 0
-      → Stepped file l a near bar hs (seen (l .period) H W) D H (seen (l .period) H M) D H
-  tail-quiet z =
-      let f : first ≡ false = told first
-      (λ q. absurd (omega (arith, c .all q, t .town .small .period-some))) (λ q. q) in
-      stepped-quiet t h o k e (cut-seen H (known f) (λ _ _. refl)) z
+    pub tail-quiet : {bar : ℕ} → r ≡ 0
+        → Stepped file l a near bar hs (seen (l .period) H W) D H (seen (l .period) H M) D H
+    tail-quiet z =
+        let f : first ≡ false = told first
+        (λ q. absurd (omega (arith, c .all q, t .town .small .period-some))) (λ q. q) in
+        stepped-quiet t h o k e (cut-seen H (known f) (λ _ _. refl)) z
 
-  pub tail-lower : {bar : ℕ} → 0 < r → {d high : ℕ} → Near (l .period) M u d → Highest (l .period) M u high
-      → Stepped file l a near bar hs (seen (l .period) H W) D H
-      (seen (l .period) (set H u (never - high)) M) (set D u d) (set H u (never - high))
-  tail-lower z {d} {high} n top =
-      stepped-lower t h o k e
-      (cut-seen (set H u (never - high)) got (λ v ne. getD-set-other H u v (never - high) 0 ne)) z
-      (seen-near _ _ _ got n) (seen-highest _ _ _ got top)
-    where
-      got : getD (set H u (never - high)) u 0 ≢ 0
-      got q =
-          let x = top .within in
-          omega (
-            arith,
-            q,
-            getD-set-same H u (never - high) 0 (omega (arith, tail-node (t .town) a u h e, o .tall)),
-            top .met,
-            row-most (l .period) u _ _ c (top .at) x,
-            offer-early (top .at) x,
-          )
+    pub tail-lower : {bar : ℕ} → 0 < r → {d high : ℕ} → Near (l .period) M u d → Highest (l .period) M u high
+        → Stepped file l a near bar hs (seen (l .period) H W) D H
+        (seen (l .period) (set H u (never - high)) M) (set D u d) (set H u (never - high))
+    unfolding gridAt
+    tail-lower z {d} {high} n top =
+        stepped-lower t h o k e
+        (cut-seen (set H u (never - high)) got (λ v ne. getD-set-other H u v (never - high) 0 ne)) z
+        (seen-near _ _ _ got n) (seen-highest _ _ _ got top)
+      where
+        got : getD (set H u (never - high)) u 0 ≢ 0
+        got q =
+            let x = top .within in
+            omega (
+              arith,
+              q,
+              getD-set-same H u (never - high) 0 (omega (arith, tail-node (t .town) a u h e, o .tall)),
+              top .met,
+              tail-numbers .entry (u * l .period + top .at) (omega arith) (omega arith),
+            )
 
 -- A NODE'S TURN
 module _ {file : List ℕ} {l : Layout} {starts into next : List ℕ} (t : Ready file l starts into next) where

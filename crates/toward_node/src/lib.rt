@@ -11,8 +11,8 @@
 // entry of its row is below; `room`, 0 where it has no number yet and else never less its greatest; and
 // `low`, what `near` last had of a clean node (specs/Heights.antt). By the first two an arc that cannot lower
 // its tail's row is passed over.
-// It may call `toward_row` for an arc lowered into a row and `network` for the entries of the file; it cites
-// `search_arcs`, `theory_loops`, `theory_paths` and `theory_travel`.
+// It may call `toward_row` for an arc lowered into a row, `network` for the entries of the file and
+// `search_arcs` for widths and comparisons; it cites `theory_loops`, `theory_paths` and `theory_travel`.
 pub mod leasts;
 pub mod work;
 
@@ -22,21 +22,21 @@ use network::limits::MOST_NODES;
 use network::limits::MOST_PERIOD;
 use network::limits::NEVER;
 use network::read;
+use search_arcs::is_before;
 use search_arcs::wide;
 ghost use mathlib.Core.Path.{_≡_};
 ghost use mathlib.Core.Logic.{_≢_};
-ghost use Prim.Native.Nat.{_+_, _-_, _*_, _≤_, _<_, min, max};
+ghost use Prim.Native.Nat.{_+_, _-_, _*_, _^_, _≤_, _<_, min, max};
 ghost use lib.ListN.{length, getD, replicate};
 ghost use lib.Dec.{leb};
 ghost use Rattle.theory_loops.specs.Fill.{Filled};
-ghost use Rattle.theory_paths.specs.Earliest.{never};
 ghost use Rattle.network.specs.Network.{head};
 ghost use Rattle.network.specs.Limits.{mostNodes};
 ghost use Rattle.network.specs.Decode.{decode, Small};
 ghost use Rattle.network.specs.Town.{graphOf, travelAt};
 ghost use Rattle.toward_row.specs.Arcs.{Primed};
 ghost use Rattle.toward_row.specs.Cut.{Cut};
-ghost use Rattle.toward_row.specs.Lower.{entries, Capped, Known};
+ghost use Rattle.toward_row.specs.Lower.{entries, Capped, Known, Numbers};
 ghost use Rattle.toward_node.specs.Heights.{Heights, Held, Near, NearFirst, Highest, Lows, Bounds};
 ghost use Rattle.toward_node.specs.Leasts.{Leasts};
 ghost use Rattle.toward_node.specs.Rows.{rowsOf, rowLowered, Worked, WorkedFor, WorkedRow};
@@ -93,14 +93,24 @@ fn lower_row(
     toward_row::lower_arc(first, file, l, starts, arc, hs, &mut work[p..e])
 }
 
-// The lesser of two numbers.
-fn lesser(a: u32, b: u32) -> u32
+// The lesser of two numbers of a row. The row's loops compare as signed numbers, which the vector code of any
+// x86-64 can do.
+fn lower(a: u32, b: u32) -> u32
+    requires { ⌜ (a < 2 ^ 31) × (b < 2 ^ 31) ⌝ }
     ensures { λ r. ⌜ r ≡ min a b ⌝ }
 {
-    if b < a { b } else { a }
+    if is_before(b, a) { b } else { a }
 }
 
-// The greater of two numbers.
+// The greater of two numbers of a row.
+fn higher(a: u32, b: u32) -> u32
+    requires { ⌜ (a < 2 ^ 31) × (b < 2 ^ 31) ⌝ }
+    ensures { λ r. ⌜ r ≡ max a b ⌝ }
+{
+    if is_before(a, b) { b } else { a }
+}
+
+// The greater of two entries of a table.
 fn greater(a: u32, b: u32) -> u32
     ensures { λ r. ⌜ r ≡ max a b ⌝ }
 {
@@ -110,14 +120,15 @@ fn greater(a: u32, b: u32) -> u32
 // How near a node is: never less the least number of its row.
 fn nearness(l: Layout, u: usize, work: &[u32]) -> u32
     requires { ⌜ Small l ⌝ }
-    requires { ⌜ (u < l .nodes) × (length (now work) ≡ l .nodes * l .period) ⌝ }
+    requires { ⌜ (u < l .nodes) × (length (now work) ≡ l .nodes * l .period)
+        × Numbers (now work) (u * l .period) (u * l .period + l .period) ⌝ }
     ensures { λ r. ⌜ Near (l .period) (now (work .entry)) u r ⌝ }
 {
     let p = row_place(l, u);
     let e = p + l.period;
-    let mut low = NEVER;
+    let mut low = work[p];
     for i in p..e {
-        low = lesser(low, work[i]);
+        low = lower(low, work[i]);
     }
     NEVER - low
 }
@@ -127,7 +138,8 @@ fn nearness(l: Layout, u: usize, work: &[u32]) -> u32
 fn nearness_after(first: bool, reach: u32, least: u16, l: Layout, u: usize, work: &[u32]) -> u32
     requires { ⌜ Small l ⌝ }
     requires { ⌜ (u < l .nodes) × (length (now work) ≡ l .nodes * l .period) × (least ≤ reach)
-        × NearFirst first (l .period) (now work) u (reach - least) ⌝ }
+        × NearFirst first (l .period) (now work) u (reach - least)
+        × Numbers (now work) (u * l .period) (u * l .period + l .period) ⌝ }
     ensures { λ r. ⌜ Near (l .period) (now (work .entry)) u r ⌝ }
 {
     if first {
@@ -139,14 +151,15 @@ fn nearness_after(first: bool, reach: u32, least: u16, l: Layout, u: usize, work
 // The greatest number of a node's row.
 fn highest(l: Layout, u: usize, work: &[u32]) -> u32
     requires { ⌜ Small l ⌝ }
-    requires { ⌜ (u < l .nodes) × (length (now work) ≡ l .nodes * l .period) ⌝ }
+    requires { ⌜ (u < l .nodes) × (length (now work) ≡ l .nodes * l .period)
+        × Numbers (now work) (u * l .period) (u * l .period + l .period) ⌝ }
     ensures { λ r. ⌜ Highest (l .period) (now (work .entry)) u r ⌝ }
 {
     let p = row_place(l, u);
     let e = p + l.period;
     let mut high = work[p];
     for i in p..e {
-        high = greater(high, work[i]);
+        high = higher(high, work[i]);
     }
     high
 }

@@ -12,7 +12,7 @@ use search_arcs::wide;
 ghost use mathlib.Core.Path.{_≡_};
 ghost use mathlib.Core.Bool.{true, false};
 ghost use Prim.Native.Nat.{_+_, _-_, _/_, _^_, _≤_, _<_, min};
-ghost use lib.ListN.{length, getD};
+ghost use lib.ListN.{length};
 ghost use Rattle.theory_travel.specs.Pieces.{lineAt};
 ghost use Rattle.theory_travel.specs.Table.{valueAt};
 ghost use Rattle.network.specs.Limits.{mostPeriod};

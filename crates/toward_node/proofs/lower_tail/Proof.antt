@@ -6,7 +6,8 @@ use borrow.Author.Tests.{leb-true, eqb-true, eqb-false}
 use Rattle.search_arcs.specs.Town.{tail-node, head-node}
 use Rattle.toward_node.specs.Heights.{held-capped, heights-known}
 use Rattle.toward_node.specs.Seen.{seen-size, seen-known}
-use Rattle.toward_node.specs.Turn.{stepped-skip, tail-quiet, tail-lower, least-near, near-first}
+use Rattle.toward_node.specs.Turn.{stepped-skip, tail-quiet, tail-lower, tail-numbers}
+use Rattle.toward_node.specs.Turn.{least-near, near-first}
 use borrow.Author.Needs.{needs}
 use Rattle.toward_node.proofs.lower_tail.Statement.{statement}
 use Rattle.toward_node.proofs.lower_tail.Tie as tie
@@ -96,7 +97,8 @@ nearness-after-requires c κs =
         tail-node (p .town) _ _ h e,
         r .filled .long ∙ seen-size _ o,
         least-near p h o k e w,
-        near-first p h o k e r (λ t. eqb-true _ _ t) (λ t. eqb-false _ _ t) w,
+        near-first p h o k e r w,
+        tail-numbers p h o k e r,
       ),
     )
 
@@ -117,13 +119,15 @@ element-write-near c =
 highest-requires : tie.Need-highest-requires
 highest-requires c κs =
     let s = c .before .before .before .before .before .before .before .before .before .before .before
-    .before .before .before .before .before in (
+    .before .before .before .before .before in
+    let e = c .before .before .before .before .before .before .before .before .before .before .before .before
+    .before .tail .ensures .0 in
+    let r = c .before .before .before .before .before .before .before .lower-row .ensures in (
       s .pre .0 .0 .town .small,
       (
-        tail-node (s .pre .0 .0 .town) _ _ (s .pre .1 .0) (c .before .before .before .before .before
-            .before .before .before .before .before .before .before .before .tail .ensures .0),
-        c .before .before .before .before .before .before .before .lower-row .ensures .filled .long
-            ∙ seen-size _ (s .pre .1 .1),
+        tail-node (s .pre .0 .0 .town) _ _ (s .pre .1 .0) e,
+        r .filled .long ∙ seen-size _ (s .pre .1 .1),
+        tail-numbers (s .pre .0 .0) (s .pre .1 .0) (s .pre .1 .1) (s .pre .1 .2) e r,
       ),
     )
 
