@@ -2,7 +2,6 @@
 pub mod Kind
 pub mod Place
 pub mod Laid
-pub mod Cursor
 pub mod Table
 pub mod Walk
 pub mod Form

@@ -1,5 +1,5 @@
 -- Plan files: what a plan is (Border, Plan), where it stands in a file (PlanHeader, PlanLayout, PlanDecode,
--- PlanCursor), its rules and validation (PlanRules, PlanValidate, PlanValid), their numbers (Numbers), and
+-- PlanWalk), its rules and validation (PlanRules, PlanValidate, PlanValid), their numbers (Numbers), and
 -- the laws for the code.
 pub mod Border
 pub mod Borders
@@ -10,7 +10,7 @@ pub mod PlanHeader
 pub mod PlanLayout
 pub mod Marks
 pub mod PlanDecode
-pub mod PlanCursor
+pub mod PlanWalk
 pub mod PlanRules
 pub mod PlanValidate
 pub mod PlanMatch

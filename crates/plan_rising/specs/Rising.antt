@@ -1,14 +1,14 @@
 -- Whether a plan keeps the rules 18 and 19, yes or no: where each profile's count is no more than the ticks,
 -- its points begin at tick 0 and end below the period, the counts add up, and the ticks fail to rise at no
 -- more points than there are profiles with points, no rule is broken.
-use mathlib.Core.Path.{_≡_, refl, sym, _∙_, ap}
+use mathlib.Core.Path.{_≡_, refl, sym, _∙_}
 use mathlib.Core.Bool.{Bool, true, false, not}
 use mathlib.Core.List.{List}
 use Prim.Native.Nat.{ℕ, suc, _+_, _-_, _*_, _≤_, _<_, min}
 use native.Mathlib.Nat.{le-of-lt, add-zero}
 use native.Mathlib.Numerals.{add-one}
 use native.Mathlib.Omega.{arith}
-use lib.Dec.{ltb, eqb, lit<}
+use lib.Dec.{ltb, eqb}
 use borrow.Author.Count.{below-more}
 use borrow.Author.Tests.{ltb-true, leb-false, le-leb, le-ltb, eq-eqb, eqb-true}
 use borrow.Author.Tests.{not-false}
@@ -22,20 +22,20 @@ use Rattle.theory_travel.specs.Day.{Day}
 use Rattle.theory_travel.specs.Points.{climbs}
 use Rattle.theory_travel.specs.Table.{entryAt, entry-first}
 use Rattle.theory_travel.specs.Ticks.{badTick, ticks-day}
-use Rattle.file_blocks.specs.Cursor.{cursorFirst, cursorAt, moved, cursor-first, cursor-next}
-use Rattle.file_blocks.specs.Kind.{countPer, profilePointKind, profilePointPer, profilePointSize}
+use Rattle.file_blocks.specs.Kind.{profilePointKind, profilePointPer, profilePointSize}
 use Rattle.file_blocks.specs.Place.{blocks}
 use Rattle.file_blocks.specs.SoundBlock.{RunSound}
-use Rattle.file_blocks.specs.declared.cursor.Cursor.{Cursor}
+use Rattle.file_blocks.specs.declared.walk.Walk.{Walk}
 use Rattle.file_refusals.specs.declared.Judged.the-variants.{Sound}
 use Rattle.file_refusals.specs.Refusal.{faulty}
 use Rattle.plan.specs.declared.header.PlanLayout.{PlanLayout}
 use Rattle.plan.specs.Plan.{Plan, pointCount, pointStart, pointTicks}
 use Rattle.plan.specs.PlanDecode.{decodePlan, PlanLaid, pointTick, pointTotal, plan-sizes}
+use Rattle.plan.specs.PlanWalk.{countAt}
 use Rattle.plan.specs.PlanRules.{badCount, badProfile, firstBadPoint, judgedTicks, judgedSum, judgedCounts}
-use Rattle.plan_rising.specs.declared.walk.Walk.{Walk}
+use Rattle.plan_rising.specs.declared.progress.Progress.{Progress}
 use Rattle.plan_rising.specs.Breaks.{broken}
-use Rattle.plan_rising.specs.Walk.{WalkedTo}
+use Rattle.plan_rising.specs.Progress.{WalkedTo}
 
 -- m points from number `from` on, with these ticks: no more than the period has ticks, in the file, the first
 -- at tick 0 and the last below the period
@@ -149,16 +149,16 @@ module _ (p : Plan) (l : PlanLayout) (from m : ℕ) where
 pub ruleset keeps = (kept-no, kept-some)
 
 -- THE LOOP over the profiles, before profile k, whose points start at `from`; `some` before it have points
-pub record Holding (file : List ℕ) (l : PlanLayout) (k from some : ℕ) (counts : Cursor) (walk : Walk) : Type 0
-  where
-    pub within : k ≤ l .profiles
-    pub from-is : from ≡ pointStart (decodePlan file) k
-    pub counts-at : counts ≡ cursorAt (l .countblock) countPer k
-    pub some-is : some ≡ Count.count k (held (decodePlan file))
-    pub kept : (i : ℕ) → i < k
-        → Kept l (pointTicks (decodePlan file) i) (pointStart (decodePlan file) i)
-        (pointCount (decodePlan file) i)
-    pub walked : WalkedTo file l from walk
+pub record Holding (file : List ℕ) (l : PlanLayout) (k from some : ℕ) (counts : Walk) (progress : Progress)
+    : Type 0 where
+  pub within : k ≤ l .profiles
+  pub from-is : from ≡ pointStart (decodePlan file) k
+  pub counts-at : counts ≡ countAt (l .countblock) k
+  pub some-is : some ≡ Count.count k (held (decodePlan file))
+  pub kept : (i : ℕ) → i < k
+      → Kept l (pointTicks (decodePlan file) i) (pointStart (decodePlan file) i)
+      (pointCount (decodePlan file) i)
+  pub walked : WalkedTo file l from progress
 
 -- what it finds: every block of points has a right check and its form, and the rules 18 and 19 are kept
 pub record Risen (file : List ℕ) (l : PlanLayout) : Type 0 where
@@ -173,60 +173,59 @@ module _ {file : List ℕ} {l : PlanLayout} (s : PlanLaid file l) where
   pub risen-no : false ≡ true → Risen file l
   risen-no e = let z : _≡_ {A = ℕ} 0 1 = cc in absurd (omega arith)
 
-  pub holding-none : (counts : Cursor) (walk : Walk) → counts ≡ cursorFirst (l .countblock)
-      → WalkedTo file l 0 walk → Holding file l 0 0 0 counts walk
+  pub holding-none : (counts : Walk) (progress : Progress) → counts ≡ countAt (l .countblock) 0
+      → WalkedTo file l 0 progress → Holding file l 0 0 0 counts progress
   unfolding pointStart
-  holding-none counts walk e w = record {
+  holding-none counts progress e w = record {
     within = omega arith;
     from-is = total-none (pointCount plan);
-    counts-at = e ∙ cursor-first (l .countblock) countPer (lit< tt);
+    counts-at = e;
     some-is = Count.count-none (held plan);
     kept = λ i o. absurd (omega arith);
     walked = w;
   }
 
-  module _ (k from some : ℕ) (counts : Cursor) (walk : Walk) (i : Holding file l k from some counts walk)
-    where
-      pub holding-more : (m r : ℕ) (new : Cursor) (next : Walk) → k < l .profiles → m ≡ pointCount plan k
-          → (next .good ≡ true
-          → WalkedTo file l (from + m) next × Kept l (entryAt (plan .ticks) from) from m)
-          → not (next .good) ≡ false → r ≡ flag (ltb 0 m) → new ≡ moved countPer counts
-          → Holding file l (k + 1) (from + m) (some + r) new next
-      unfolding pointStart
-      holding-more m r new next h e f g q c =
-          let (w, d) = f (not-false (next .good) g) in
-          let here : Kept l (pointTicks plan k) (pointStart plan k) (pointCount plan k) =
-          rw (i .from-is, e) at d in
-          record {
-            within = omega arith;
-            from-is = total-more (pointCount plan) from m k (i .from-is) e;
-            counts-at = c ∙ ap (moved countPer) (i .counts-at)
-                ∙ cursor-next (l .countblock) countPer (lit< tt) k;
-            some-is = tally-more (held plan) some k r (i .some-is) (rw e at q);
-            kept = λ j o. below-more
-                (λ i. Kept l (pointTicks plan i) (pointStart plan i) (pointCount plan i)) k (i .kept) here j
-                (omega arith);
-            walked = w;
-          }
+  module _ (k from some : ℕ) (counts : Walk) (progress : Progress)
+      (i : Holding file l k from some counts progress) where
+    pub holding-more : (m r : ℕ) (new : Walk) (next : Progress) → k < l .profiles → m ≡ pointCount plan k
+        → (next .good ≡ true
+        → WalkedTo file l (from + m) next × Kept l (entryAt (plan .ticks) from) from m)
+        → not (next .good) ≡ false → r ≡ flag (ltb 0 m) → new ≡ countAt (l .countblock) (k + 1)
+        → Holding file l (k + 1) (from + m) (some + r) new next
+    unfolding pointStart
+    holding-more m r new next h e f g q c =
+        let (w, d) = f (not-false (next .good) g) in
+        let here : Kept l (pointTicks plan k) (pointStart plan k) (pointCount plan k) =
+        rw (i .from-is, e) at d in
+        record {
+          within = omega arith;
+          from-is = total-more (pointCount plan) from m k (i .from-is) e;
+          counts-at = c;
+          some-is = tally-more (held plan) some k r (i .some-is) (rw e at q);
+          kept = λ j o. below-more
+              (λ i. Kept l (pointTicks plan i) (pointStart plan i) (pointCount plan i)) k (i .kept) here j
+              (omega arith);
+          walked = w;
+        }
 
-      -- no more have points than there are
-      pub holding-few : (r : ℕ) → r < 2 → some + r ≤ k + 1
-      holding-few r e = omega (arith, i .some-is, Count.count-few (held plan) k)
+    -- no more have points than there are
+    pub holding-few : (r : ℕ) → r < 2 → some + r ≤ k + 1
+    holding-few r e = omega (arith, i .some-is, Count.count-few (held plan) k)
 
-      pub holding-end : l .profiles ≤ k → from ≡ l .points → eqb (walk .breaks) some ≡ true → Risen file l
-      holding-end h e f =
-          let z : k ≡ l .profiles = omega (arith, i .within) in
-          let n = plan-sizes s .points in
-          let d : walk .done ≡ blocks profilePointPer (l .points) = rw e at (i .walked .done-is) in
-          let a : AllKept plan l some = record {
-            profile = λ j o. i .kept j (omega arith);
-            sum = sym (rw z at (i .from-is)) ∙ e;
-            some = rw z at (i .some-is);
-          } in
-          let m : min (l .points) (profilePointPer * walk .done) ≡ pointTotal plan = omega arith in
-          let c : walk .breaks ≡ Count.count (pointTotal plan) (broken (pointTick plan)) =
-          rw m at (i .walked .walked .counted) in
-          record {
-            blocks-sound = λ j o. i .walked .walked .sound j (omega arith);
-            rules-kept = rising-sound plan l some n a (sym c ∙ eqb-true (walk .breaks) some f);
-          }
+    pub holding-end : l .profiles ≤ k → from ≡ l .points → eqb (progress .breaks) some ≡ true → Risen file l
+    holding-end h e f =
+        let z : k ≡ l .profiles = omega (arith, i .within) in
+        let n = plan-sizes s .points in
+        let d : progress .done ≡ blocks profilePointPer (l .points) = rw e at (i .walked .done-is) in
+        let a : AllKept plan l some = record {
+          profile = λ j o. i .kept j (omega arith);
+          sum = sym (rw z at (i .from-is)) ∙ e;
+          some = rw z at (i .some-is);
+        } in
+        let m : min (l .points) (profilePointPer * progress .done) ≡ pointTotal plan = omega arith in
+        let c : progress .breaks ≡ Count.count (pointTotal plan) (broken (pointTick plan)) =
+        rw m at (i .walked .walked .counted) in
+        record {
+          blocks-sound = λ j o. i .walked .walked .sound j (omega arith);
+          rules-kept = rising-sound plan l some n a (sym c ∙ eqb-true (progress .breaks) some f);
+        }

@@ -4,12 +4,12 @@
 // else the rules ask is asked profile by profile, once the blocks up to its last point have been looked at.
 use crate::breaks::WORDS;
 use crate::breaks::mark_ticks;
-use crate::walk::Walk;
-use crate::walk::advance;
-use crate::walk::first_of;
-use file_blocks::cursor::Cursor;
+use crate::progress::Progress;
+use crate::progress::advance;
+use crate::progress::first_of;
 use file_blocks::kind;
 use file_blocks::place::blocks;
+use file_blocks::walk::Walk;
 use plan::header::PlanLayout;
 use plan::read::tick;
 ghost use mathlib.Core.Path.{_≡_};
@@ -20,7 +20,7 @@ ghost use Rattle.theory_breaks.specs.Tally.{flag};
 ghost use Rattle.theory_travel.specs.Table.{entryAt};
 ghost use Rattle.plan.specs.PlanDecode.{decodePlan, PlanLaid};
 ghost use Rattle.plan_rising.specs.Breaks.{TickMarks};
-ghost use Rattle.plan_rising.specs.Walk.{WalkedTo};
+ghost use Rattle.plan_rising.specs.Progress.{WalkedTo};
 ghost use Rattle.plan_rising.specs.Rising.{Kept, Risen};
 
 // Are the points of one profile, `count` of them from number `from` on, no more than the ticks, and do they
@@ -51,18 +51,18 @@ fn is_kept(plan: &[u8], l: PlanLayout, from: usize, count: usize) -> bool
     tick(plan, l, from + (count - 1)) < l.period
 }
 
-// The walk up to the block of a profile's last point, where the profile is so.
+// The progress up to the block of a profile's last point, where the profile is so.
 fn pass(
     plan: &[u8],
     l: PlanLayout,
     marks: &[u16; WORDS],
-    walk: Walk,
+    progress: Progress,
     from: usize,
     count: usize,
-) -> Walk
+) -> Progress
     requires { ⌜ PlanLaid (now plan) l ⌝ }
     requires { ⌜ TickMarks (now marks) ⌝ }
-    requires { ⌜ WalkedTo (now plan) l from walk ⌝ }
+    requires { ⌜ WalkedTo (now plan) l from progress ⌝ }
     requires { ⌜ count < 65536 ⌝ }
     ensures { λ r. ⌜ (r .good ≡ true → WalkedTo (now (plan .entry)) l (from + count) r
         × Kept l (entryAt (decodePlan (now (plan .entry)) .ticks) from) from count) ⌝ }
@@ -72,7 +72,7 @@ fn pass(
         return first_of(false);
     }
     let until = blocks(kind::PROFILE_POINT_PER, from + count);
-    let next = advance(plan, l, marks, walk, until);
+    let next = advance(plan, l, marks, progress, until);
     if is_kept(plan, l, from, count) {
         return next;
     }
@@ -93,25 +93,25 @@ fn are_kept(plan: &[u8], l: PlanLayout, marks: &[u16; WORDS]) -> bool
     ensures { λ r. ⌜ (r ≡ true → Risen (now (plan .entry)) l) ⌝ }
 {
     let profiles = l.profiles;
-    let mut counts = Cursor::new(l.countblock);
-    let mut walk = first_of(true);
+    let mut counts = Walk::new(l.countblock, kind::COUNT_PER, kind::COUNT_SIZE, 0);
+    let mut progress = first_of(true);
     let mut from = 0;
     let mut some = 0;
     for k in 0..profiles {
-        let count = counts.field(plan, kind::COUNT_SIZE);
-        walk = pass(plan, l, marks, walk, from, count);
-        let good = walk.good;
+        let count = counts.field16(plan, 0);
+        progress = pass(plan, l, marks, progress, from, count);
+        let good = progress.good;
         if !good {
             return false;
         }
         some += has_points(count);
         from += count;
-        counts = counts.next(kind::COUNT_PER);
+        counts = counts.next(kind::COUNT_PER, kind::COUNT_SIZE);
     }
     if from != l.points {
         return false;
     }
-    walk.breaks as usize == some
+    progress.breaks as usize == some
 }
 
 // Does the plan keep the rules, in sound blocks?

@@ -1,4 +1,2 @@
--- The numbers of a profile by its points: the walk over points (Points), what its readers answer, and their
--- laws (Numbers).
-pub mod Points
+-- The numbers of a profile by its points: what its readers answer, and their laws.
 pub mod Numbers

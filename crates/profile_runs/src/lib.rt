@@ -15,13 +15,13 @@ ghost use Rattle.theory_travel.specs.Table.{entryAt, valueAt};
 ghost use Rattle.file_blocks.specs.Kind.{profilePointPer};
 ghost use Rattle.plan.specs.Plan.{pointCount};
 ghost use Rattle.plan.specs.PlanDecode.{PlanLaid, decodePlan};
+ghost use Rattle.plan.specs.PlanWalk.{pointAt};
 ghost use Rattle.plan_values.specs.Formed.{Formed};
 ghost use Rattle.plan_values.specs.Starts.{Started};
 ghost use Rattle.day_runs.specs.Runs.{Runs};
 ghost use Rattle.day_runs.specs.Filling.{Space};
 ghost use Rattle.day_runs.specs.Bounds.{Least, Most, Floor, Ceiling};
 ghost use Rattle.profile_runs.specs.Numbers.{numberAt};
-ghost use Rattle.profile_runs.specs.Points.{pointAt};
 
 // The bytes of a point at which its tick and its travel stand.
 const TICK_AT: usize = 0;

@@ -11,8 +11,8 @@ use Rattle.plan.specs.PlanDecode.{decodePlan, pointTick, pointTravel}
 use Rattle.day_runs.specs.Filling.{Space, Filling, space-on, filling-start, room-next, room-last}
 use Rattle.day_runs.specs.Filling.{filling-next, filling-leads, filling-last}
 use Rattle.file_blocks.specs.Walk.{walk-first}
-use Rattle.profile_runs.specs.Points.{pointAt, step-may, step-on, point-near, tick-there}
-use Rattle.profile_runs.specs.Points.{travel-there, tick-read, travel-read}
+use Rattle.plan.specs.PlanWalk.{pointAt, point-may, point-on, point-near, tick-there}
+use Rattle.plan.specs.PlanWalk.{travel-there, tick-read, travel-read}
 use borrow.Author.Needs.{needs}
 use Rattle.profile_runs.proofs.fill_points.Statement.{statement}
 use Rattle.profile_runs.proofs.fill_points.Tie as tie
@@ -60,7 +60,7 @@ stands : (c : tie.After-next Inv-loop μ-loop)
     ≡ pointAt (start (c .before) .args .l .pointblock)
     (start (c .before) .args .from + (c .before .before .loop .k + 1))
 stands c = let d = c .before in
-    step-on (start d .pre .0) _ (d .before .loop .k) (here d) (d .before .loop .inv .6) (c .next .ensures)
+    point-on (start d .pre .0) _ (d .before .loop .k) (here d) (d .before .loop .inv .6) (c .next .ensures)
 
 tick-told : (c : tie.After-field16 Inv-loop μ-loop)
     → c .field16 .result
@@ -106,7 +106,7 @@ loop-holds c = let s = c .before .before .before .before .before in
     )
 
 next-requires : tie.Need-next-requires Inv-loop μ-loop
-next-requires c κs = step-may (start c .pre .0) _ (c .before .loop .k) (here c) (c .before .loop .inv .6)
+next-requires c κs = point-may (start c .pre .0) _ (c .before .loop .k) (here c) (c .before .loop .inv .6)
 
 field16-requires : tie.Need-field16-requires Inv-loop μ-loop
 field16-requires c κs = tick-there (start (c .before) .pre .0) (inside (c .before)) (stands c)

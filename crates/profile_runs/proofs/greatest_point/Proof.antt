@@ -7,8 +7,8 @@ use Rattle.theory_travel.specs.Table.{entryAt, entry-start}
 use Rattle.plan.specs.PlanDecode.{decodePlan}
 use Rattle.day_runs.specs.Bounds.{Most, most-one, most-more}
 use Rattle.file_blocks.specs.Walk.{walk-first}
-use Rattle.profile_runs.specs.Points.{pointAt, step-may, step-on, point-near}
-use Rattle.profile_runs.specs.Points.{travel-there, travel-read}
+use Rattle.plan.specs.PlanWalk.{pointAt, point-may, point-on, point-near}
+use Rattle.plan.specs.PlanWalk.{travel-there, travel-read}
 use borrow.Author.Needs.{needs}
 use Rattle.profile_runs.proofs.greatest_point.Statement.{statement}
 use Rattle.profile_runs.proofs.greatest_point.Tie as tie
@@ -43,7 +43,7 @@ stands : (c : tie.After-next Inv-loop μ-loop)
     ≡ pointAt (start (c .before) .args .l .pointblock)
     (start (c .before) .args .from + (c .before .before .loop .k + 1))
 stands c = let d = c .before in
-    step-on (start d .pre .0) _ (d .before .loop .k) (here d) (d .before .loop .inv .2) (c .next .ensures)
+    point-on (start d .pre .0) _ (d .before .loop .k) (here d) (d .before .loop .inv .2) (c .next .ensures)
 
 sub-last : tie.Need-sub-last Inv-loop μ-loop
 sub-last c = search needs
@@ -64,7 +64,7 @@ loop-holds c = let s = c .before .before .before in
     )
 
 next-requires : tie.Need-next-requires Inv-loop μ-loop
-next-requires c κs = step-may (start c .pre .0) _ (c .before .loop .k) (here c) (c .before .loop .inv .2)
+next-requires c κs = point-may (start c .pre .0) _ (c .before .loop .k) (here c) (c .before .loop .inv .2)
 
 field32-requires-2 : tie.Need-field32-requires-2 Inv-loop μ-loop
 field32-requires-2 c κs = travel-there (start (c .before) .pre .0) (inside (c .before)) (stands c)

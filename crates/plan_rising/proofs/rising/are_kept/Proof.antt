@@ -2,11 +2,12 @@
 use mathlib.Core.Path.{_≡_}
 use Prim.Native.Nat.{_-_}
 use native.Mathlib.Omega.{arith}
+use lib.Dec.{lit<, lit≤}
 use denote.Ref.{now}
 use Rattle.plan.specs.Plan.{pointCount}
-use Rattle.plan.specs.PlanCursor.{count-there, count-read, count-step}
 use Rattle.plan.specs.PlanDecode.{decodePlan, laid-plan, plan-small}
-use Rattle.plan_rising.specs.Walk.{walked-none}
+use Rattle.plan.specs.PlanWalk.{count-there, count-read, count-may, count-on}
+use Rattle.plan_rising.specs.Progress.{walked-none}
 use Rattle.plan_rising.specs.Rising.{Holding, risen-no, holding-none, holding-few, holding-more}
 use Rattle.plan_rising.specs.Rising.{holding-end}
 use borrow.Author.Needs.{needs}
@@ -14,24 +15,25 @@ use Rattle.plan_rising.proofs.rising.are_kept.Statement.{statement}
 use Rattle.plan_rising.proofs.rising.are_kept.Tie as tie
 
 abbrev Inv-loop : tie.InvT-loop
-Inv-loop plan l marks profiles counts₀ walk₀ from₀ some₀ k₀ counts walk from some k =
-    Holding plan l k from some counts walk
+Inv-loop plan l marks profiles counts₀ progress₀ from₀ some₀ k₀ counts progress from some k =
+    Holding plan l k from some counts progress
 
 abbrev μ-loop : tie.MeasureT-loop
-μ-loop plan l marks profiles counts₀ walk₀ from₀ some₀ k₀ counts walk from some k = profiles - k
+μ-loop plan l marks profiles counts₀ progress₀ from₀ some₀ k₀ counts progress from some k = profiles - k
 
 abbrev start : tie.In-loop Inv-loop μ-loop → tie.Start Inv-loop μ-loop
 start c = c .before .before .before .before .before
 
 -- what the field that is read says
-read : (c : tie.After-field Inv-loop μ-loop)
-    → c .field .result
+read : (c : tie.After-field16 Inv-loop μ-loop)
+    → c .field16 .result
     ≡ pointCount (decodePlan (now (start (c .before) .args .plan))) (c .before .before .loop .k)
 read c = count-read (start (c .before) .pre .0) (c .before .loop-test .taken)
-    (c .before .before .loop .inv .counts-at) (c .field .ensures .0)
+    (c .before .before .loop .inv .counts-at) (c .field16 .ensures .0)
 
 new-requires : tie.Need-new-requires Inv-loop μ-loop
-new-requires c κs = omega (arith, laid-plan (c .before .pre .0), plan-small (c .before .pre .0))
+new-requires c κs =
+    (lit< tt, lit≤ tt, omega (arith, laid-plan (c .before .pre .0), plan-small (c .before .pre .0)))
 
 first-of-requires : tie.Need-first-of-requires Inv-loop μ-loop
 first-of-requires c κs = search needs
@@ -40,13 +42,13 @@ loop-holds : tie.Need-loop-holds Inv-loop μ-loop
 loop-holds c = let s = c .before .before .before .pre .0 in
     holding-none s _ _ (c .before .new .ensures) (walked-none s _ _ (c .first-of .ensures))
 
-field-requires : tie.Need-field-requires Inv-loop μ-loop
-field-requires c κs = count-there (start c .pre .0) (c .loop-test .taken) (c .before .loop .inv .counts-at)
+field16-requires : tie.Need-field16-requires Inv-loop μ-loop
+field16-requires c κs = count-there (start c .pre .0) (c .loop-test .taken) (c .before .loop .inv .counts-at)
 
 pass-requires : tie.Need-pass-requires Inv-loop μ-loop
 pass-requires c κs =
     let p = start (c .before) .pre in
-    (p .0, (p .1, (c .before .before .loop .inv .walked, c .field .ensures .1)))
+    (p .0, (p .1, (c .before .before .loop .inv .walked, c .field16 .ensures .1)))
 
 returns : tie.Need-returns Inv-loop μ-loop
 returns c = risen-no (start (c .before .before .before) .pre .0)
@@ -67,7 +69,7 @@ add-from c = let d = c .before .before .before .before in
 
 next-requires : tie.Need-next-requires Inv-loop μ-loop
 next-requires c κs = let d = c .before .before .before .before in
-    count-step (start d .pre .0) (d .loop-test .taken) (d .before .loop .inv .counts-at)
+    count-may (start d .pre .0) (d .loop-test .taken) (d .before .loop .inv .counts-at)
 
 add-k : tie.Need-add-k Inv-loop μ-loop
 add-k c = let d = c .before .before .before .before .before in
@@ -80,7 +82,8 @@ loop-again : tie.Need-loop-again Inv-loop μ-loop
 loop-again c = let d = c .before .before .before .before .before in
     holding-more (start d .pre .0) _ _ _ _ _ (d .before .loop .inv) _ _ _ _ (d .loop-test .taken)
     (read (c .before .before .before .before)) (c .before .before .before .pass .ensures)
-    (c .before .before .if1 .left) (c .before .has-points .ensures .0) (c .next .ensures)
+    (c .before .before .if1 .left) (c .before .has-points .ensures .0)
+    (count-on (start d .pre .0) (d .loop-test .taken) (d .before .loop .inv .counts-at) (c .next .ensures))
 
 returns-2 : tie.Need-returns-2 Inv-loop μ-loop
 returns-2 c = risen-no (c .before .before .before .before .before .before .before .pre .0)
@@ -102,7 +105,7 @@ are-kept-spec =
     new-requires
     first-of-requires
     loop-holds
-    field-requires
+    field16-requires
     pass-requires
     returns
     has-points-requires

@@ -3,12 +3,13 @@
 use mathlib.Core.Path.{_≡_, refl}
 use Prim.Native.Nat.{_-_, _≤_}
 use native.Mathlib.Omega.{arith}
+use lib.Dec.{lit<, lit≤}
 use denote.Ref.{now}
 use borrow.Author.Needs.{needs}
 use Rattle.plan.specs.PlanLimits.{mostProfiles}
 use Rattle.plan.specs.Plan.{pointCount}
 use Rattle.plan.specs.PlanDecode.{decodePlan, laid-plan, plan-small, plan-sizes}
-use Rattle.plan.specs.PlanCursor.{count-there, count-read, count-step}
+use Rattle.plan.specs.PlanWalk.{count-there, count-read, count-may, count-on}
 use Rattle.plan_validate.specs.PlanScanAll.{Passing, pass-start, count-taken, pass-more, sum-taken}
 use Rattle.plan_validate.specs.PlanScanAll.{tick-taken, ticks-passed}
 use Rattle.plan_validate.proofs.rules.judge_profiles.Statement.{statement}
@@ -29,25 +30,27 @@ few : (c : tie.In-loop Inv-loop μ-loop) → start c .args .l .profiles ≤ most
 few c = plan-small (start c .pre) .profiles-most
 
 -- what the field that is read says
-read : (c : tie.After-field Inv-loop μ-loop)
-    → c .field .result
+read : (c : tie.After-field16 Inv-loop μ-loop)
+    → c .field16 .result
     ≡ pointCount (decodePlan (now (start (c .before) .args .plan))) (c .before .before .loop .k)
 read c = count-read (start (c .before) .pre) (c .before .loop-test .taken)
-    (c .before .before .loop .inv .counts-at) (c .field .ensures .0)
+    (c .before .before .loop .inv .counts-at) (c .field16 .ensures .0)
 
 new-requires : tie.Need-new-requires Inv-loop μ-loop
-new-requires c κs = omega (arith, laid-plan (c .before .pre), plan-small (c .before .pre))
+new-requires c κs =
+    (lit< tt, lit≤ tt, omega (arith, laid-plan (c .before .pre), plan-small (c .before .pre)))
 
 new-requires-2 : tie.Need-new-requires-2 Inv-loop μ-loop
-new-requires-2 c κs = omega (arith, laid-plan (c .before .before .pre), plan-small (c .before .before .pre))
+new-requires-2 c κs =
+    (lit< tt, lit≤ tt, omega (arith, laid-plan (c .before .before .pre), plan-small (c .before .before .pre)))
 
 loop-holds : tie.Need-loop-holds Inv-loop μ-loop
 loop-holds c =
     pass-start _ _ _ _ (plan-sizes (c .before .before .before .pre) .points) (c .before .new .ensures)
     (c .new2 .ensures)
 
-field-requires : tie.Need-field-requires Inv-loop μ-loop
-field-requires c κs = count-there (start c .pre) (c .loop-test .taken) (c .before .loop .inv .counts-at)
+field16-requires : tie.Need-field16-requires Inv-loop μ-loop
+field16-requires c κs = count-there (start c .pre) (c .loop-test .taken) (c .before .loop .inv .counts-at)
 
 cast-faulty : tie.Need-cast-faulty Inv-loop μ-loop
 cast-faulty c = let d = c .before .before .before in omega (arith, few d)
@@ -71,7 +74,7 @@ add-from c = let d = c .before .before .before .before in omega (arith, few d, d
 
 next-requires : tie.Need-next-requires Inv-loop μ-loop
 next-requires c κs = let d = c .before .before .before .before in
-    count-step (start d .pre) (d .loop-test .taken) (d .before .loop .inv .counts-at)
+    count-may (start d .pre) (d .loop-test .taken) (d .before .loop .inv .counts-at)
 
 add-k : tie.Need-add-k Inv-loop μ-loop
 add-k c = search needs
@@ -83,7 +86,8 @@ loop-again : tie.Need-loop-again Inv-loop μ-loop
 loop-again c = let d = c .before .before .before .before .before in
     pass-more _ _ _ _ _ _ _ (d .before .loop .inv) (d .loop-test .taken)
     (read (c .before .before .before .before)) _ _ (c .before .before .if1 .left)
-    (c .before .before .before .before .field .ensures .1) (c .before .scan-on .ensures) (c .next .ensures)
+    (c .before .before .before .before .field16 .ensures .1) (c .before .scan-on .ensures)
+    (count-on (start d .pre) (d .loop-test .taken) (d .before .loop .inv .counts-at) (c .next .ensures))
 
 cast-faulty-2 : tie.Need-cast-faulty-2 Inv-loop μ-loop
 cast-faulty-2 c = omega (arith, plan-small (c .before .before .before .before .before .before .before .pre))
@@ -123,7 +127,7 @@ judge-profiles-spec =
     new-requires
     new-requires-2
     loop-holds
-    field-requires
+    field16-requires
     cast-faulty
     faulty-requires
     returns

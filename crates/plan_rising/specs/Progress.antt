@@ -1,6 +1,6 @@
--- The walk over the blocks of a plan's points, before block `done`: the blocks behind it have right checks
--- and their form, and the breaks of their points are counted. A profile's points are reached by walking up
--- to the block of its last.
+-- How far the blocks of a plan's points have been looked at, before block `done`: the blocks behind it have
+-- right checks and their form, and the breaks of their points are counted. A profile's points are reached by
+-- walking up to the block of its last.
 use mathlib.Core.Path.{_≡_, sym, _∙_}
 use mathlib.Core.Bool.{Bool, true, false, not}
 use mathlib.Core.List.{List}
@@ -24,7 +24,7 @@ use Rattle.plan.specs.Plan.{Plan}
 use Rattle.plan.specs.PlanLimits.{mostProfilePoints, mostPlanBytes}
 use Rattle.plan.specs.PlanDecode.{decodePlan, PlanLaid, pointTick, plan-small}
 use Rattle.plan.specs.PlanDecode.{points-stored, laid-plan, tick-is}
-use Rattle.plan_rising.specs.declared.walk.Walk.{Walk}
+use Rattle.plan_rising.specs.declared.progress.Progress.{Progress}
 use Rattle.plan_rising.specs.Breaks.{broken, breakAt}
 
 -- block j of the points has a right check and its form
@@ -32,7 +32,7 @@ abbrev pub pointsSound : List ℕ → PlanLayout → ℕ → Bool
 pointsSound file l j =
     soundBlock file (l .pointblock) profilePointKind profilePointPer profilePointSize (l .points) j
 
-pub record Walked (file : List ℕ) (l : PlanLayout) (w : Walk) : Type 0 where
+pub record Walked (file : List ℕ) (l : PlanLayout) (w : Progress) : Type 0 where
   pub within : w .done ≤ blocks profilePointPer (l .points)
   pub sound : (j : ℕ) → j < w .done → pointsSound file l j ≡ true
   pub last-is : w .last
@@ -41,13 +41,13 @@ pub record Walked (file : List ℕ) (l : PlanLayout) (w : Walk) : Type 0 where
       ≡ count (min (l .points) (profilePointPer * w .done)) (broken (pointTick (decodePlan file)))
 
 -- so far that the points before number `from` are behind it
-pub record WalkedTo (file : List ℕ) (l : PlanLayout) (from : ℕ) (w : Walk) : Type 0 where
+pub record WalkedTo (file : List ℕ) (l : PlanLayout) (from : ℕ) (w : Progress) : Type 0 where
   pub room : from ≤ l .points
   pub done-is : w .done ≡ blocks profilePointPer from
   pub walked : Walked file l w
 
--- FOR CODE that has asked whether the walk's next block is sound
-pub next-sound : {file : List ℕ} {l : PlanLayout} {w : Walk} → Walked file l w → (j : ℕ) (t : Bool)
+-- FOR CODE that has asked whether the next block is sound
+pub next-sound : {file : List ℕ} {l : PlanLayout} {w : Progress} → Walked file l w → (j : ℕ) (t : Bool)
     → w .done ≡ j → t ≡ pointsSound file l j → not t ≡ false → pointsSound file l (w .done) ≡ true
 next-sound i j t d e f = rw d (sym e ∙ not-false t f)
 
@@ -62,8 +62,8 @@ module _ {file : List ℕ} {l : PlanLayout} (s : PlanLaid file l) where
   abbrev p : Plan
   p = decodePlan file
 
-  pub walked-none : (w : Walk) (t : Bool) → (w .done ≡ 0) × (w .last ≡ 0) × (w .breaks ≡ 0) × (w .good ≡ t)
-      → WalkedTo file l 0 w
+  pub walked-none : (w : Progress) (t : Bool)
+      → (w .done ≡ 0) × (w .last ≡ 0) × (w .breaks ≡ 0) × (w .good ≡ t) → WalkedTo file l 0 w
   unfolding before
   walked-none w t (d, e, f, _) =
       let z : min (l .points) (profilePointPer * 0) ≡ 0 = omega arith in
@@ -79,7 +79,7 @@ module _ {file : List ℕ} {l : PlanLayout} (s : PlanLaid file l) where
       }
 
   -- ONE BLOCK MORE, with k points
-  module _ (w : Walk) (i : Walked file l w) (h : w .done < blocks profilePointPer (l .points)) where
+  module _ (w : Progress) (i : Walked file l w) (h : w .done < blocks profilePointPer (l .points)) where
     -- it starts behind the points counted
     pub block-begins : profilePointPer * w .done ≤ l .points
     block-begins = block-starts _ _ _ _ _ (points-stored s) (w .done) h

@@ -1,17 +1,17 @@
--- `plan_rising::walk::step` meets its contract: the block stands in the file, and its breaks come to those
--- counted.
+-- `plan_rising::progress::step` meets its contract: the block stands in the file, and its breaks come to
+-- those counted.
 use mathlib.Core.Path.{refl}
 use native.Mathlib.Omega.{arith}
 use denote.Ref.{now}
-use Rattle.plan_rising.specs.Walk.{BlockAt, block-begins, block-at, walked-few, walked-more}
+use Rattle.plan_rising.specs.Progress.{BlockAt, block-begins, block-at, walked-few, walked-more}
 use borrow.Author.Needs.{needs}
-use Rattle.plan_rising.proofs.walk.step.Statement.{statement}
-use Rattle.plan_rising.proofs.walk.step.Tie as tie
+use Rattle.plan_rising.proofs.progress.step.Statement.{statement}
+use Rattle.plan_rising.proofs.progress.step.Tie as tie
 
 -- where the block stands
 here : (c : tie.After-entries-in)
     → BlockAt (now (c .before .before .args .plan)) (c .before .before .args .l)
-    (c .before .before .args .walk .done) (c .entries-in .result)
+    (c .before .before .args .progress .done) (c .entries-in .result)
 here c =
     let p = c .before .before .pre in
     block-at (p .0) _ (p .1 .1 .0) (p .1 .1 .1 .0) _ (c .entries-in .ensures)

@@ -1,13 +1,13 @@
--- `plan_rising::walk::advance` meets its contract: the walk is `Walked` before each block.
+-- `plan_rising::progress::advance` meets its contract: `Walked` holds before each block.
 use mathlib.Core.Path.{_≡_, refl, sym, _∙_}
 use mathlib.Core.Bool.{true≢false}
 use Prim.Native.Nat.{_-_, _≤_}
 use native.Mathlib.Omega.{arith}
 use Rattle.plan.specs.PlanDecode.{points-stored}
-use Rattle.plan_rising.specs.Walk.{Walked, next-sound}
+use Rattle.plan_rising.specs.Progress.{Walked, next-sound}
 use borrow.Author.Needs.{needs}
-use Rattle.plan_rising.proofs.walk.advance.Statement.{statement}
-use Rattle.plan_rising.proofs.walk.advance.Tie as tie
+use Rattle.plan_rising.proofs.progress.advance.Statement.{statement}
+use Rattle.plan_rising.proofs.progress.advance.Tie as tie
 
 abbrev Inv-loop : tie.InvT-loop
 Inv-loop plan l marks until done next₀ j₀ next j = Walked plan l next × (next .done ≡ j) × (j ≤ until)
