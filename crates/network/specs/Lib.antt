@@ -7,6 +7,7 @@ pub mod Network
 pub mod Tables
 pub mod Decode
 pub mod Points
+pub mod Arcs
 pub mod Rules
 pub mod FirstPoint
 pub mod Sound
