@@ -184,9 +184,8 @@ fn count_find(finds: &mut u64)
 
 // The runs of a day up to tick `a`, n of them and an open one of value v, and those of the line from (a, v)
 // to (b, w) after them: one find, which counts itself. Answers the number of runs before the open one, which
-// then has the value w. Nearly all lines are flat or of one tick, and these are put here. `piece` is called
-// from `finish` too, so that a compiler keeps it apart and puts what is left of `extend` into its callers'
-// loops.
+// then has the value w. Nearly all lines are flat or of one tick: these are put here, by two tests that stand
+// in the callers' loops, and `piece` has the others.
 pub fn extend(
     starts: &mut [u16],
     values: &mut [u32],
