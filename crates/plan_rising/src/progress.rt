@@ -28,7 +28,7 @@ pub struct Progress {
     pub good: bool,
 }
 
-// The progress before the first block, and that which is left early.
+// The progress before the first block, and that of a walk which ends early.
 pub fn first_of(good: bool) -> Progress
     ensures { λ r. ⌜ (r .done ≡ 0) × (r .last ≡ 0) × (r .breaks ≡ 0) × (r .good ≡ good) ⌝ }
 {
