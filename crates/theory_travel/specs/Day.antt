@@ -11,17 +11,7 @@ use lib.Dec.{ltb}
 use borrow.Author.Tests.{lt-ltb, le-ltb}
 use Rattle.theory_loops.specs.First.{first-same}
 use Rattle.theory_travel.specs.Line.{line}
-use Rattle.theory_travel.specs.Points.{
-  Points,
-  Fifo,
-  segment,
-  value,
-  valueOver,
-  value-point,
-  value-least,
-  value-most,
-  fifo-over,
-}
+use Rattle.theory_travel.specs.Points.{Points, Fifo, segment, value, valueOver, value-point, value-least, value-most, fifo-over}
 use Rattle.theory_travel.specs.Search.{Sorted, Last}
 
 -- f at the day's n points, and from there on e, the next day's first
@@ -49,11 +39,6 @@ module _ (n : ℕ) (f : ℕ → ℕ) (e : ℕ) where
   closed-end i l = rw (le-ltb i n l)
 
 module _ {t : ℕ → ℕ} {n period : ℕ} (d : Day t n period) where
-  pub day-positive : 0 < period
-  day-positive = omega (arith, d .below 0 (d .some))
-
-  -- any tick, reduced, is one of the day
-
   -- its ticks can be searched for any tick
   pub day-sorted : (x : ℕ) → Sorted t n x
   day-sorted x = record { some = d .some; begun = omega (arith, d .start); rise = d .rise }
