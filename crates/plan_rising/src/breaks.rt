@@ -31,21 +31,21 @@ pub fn is_break(t: u16, before: u16) -> u16
 }
 
 // The mark where a tick does not rise above the one before it, 0 where it does.
-fn marked_break(t: u16, before: u16, mark: u16) -> u16
+fn marked_break(t: u16, before: u16, mark: u8) -> u16
     ensures { λ r. ⌜ (r ≡ cond (leb t before) mark 0) × (r ≤ mark) ⌝ }
 {
-    if t <= before { mark } else { 0 }
+    if t <= before { mark as u16 } else { 0 }
 }
 
 // 1 where word i of the points is a tick, 0 where it is a part of a travel.
-fn is_tick(i: usize) -> u16
+fn is_tick(i: usize) -> u8
     ensures { λ r. ⌜ r ≡ tickMark i ⌝ }
 {
     if i % 3 == 0 { 1 } else { 0 }
 }
 
 // Fills the table of `is_tick`.
-pub fn mark_ticks(marks: &mut [u16; WORDS])
+pub fn mark_ticks(marks: &mut [u8; WORDS])
     requires { ⌜ markWords ≤ length (now marks) ⌝ }
     ensures { λ _. ⌜ Filled 0 markWords tickMark (now (marks .entry)) (now (marks .exit)) ⌝ }
 {
@@ -56,7 +56,7 @@ pub fn mark_ticks(marks: &mut [u16; WORDS])
 
 // The breaks of so many points behind a point at byte `base`, side by side with it. Every word is compared
 // with the third after it, and those that are no ticks have the mark 0: so a processor judges some at once.
-fn breaks_by_words(plan: &[u8], base: usize, marks: &[u16; WORDS]) -> u16
+fn breaks_by_words(plan: &[u8], base: usize, marks: &[u8; WORDS]) -> u16
     requires { ⌜ (base + profilePointSize * (wordPoints + 1) ≤ length (now plan)) × TickMarks (now marks) ⌝ }
     ensures { λ r. ⌜ r ≡ count wordPoints (breakAt (now (plan .entry)) base) ⌝ }
 {
@@ -87,7 +87,7 @@ fn breaks_some(plan: &[u8], base: usize, m: usize) -> u16
 }
 
 // The same, where the block is full by words as far as they go.
-pub fn breaks_beside(plan: &[u8], base: usize, m: usize, marks: &[u16; WORDS]) -> u16
+pub fn breaks_beside(plan: &[u8], base: usize, m: usize, marks: &[u8; WORDS]) -> u16
     requires { ⌜ (base + profilePointSize * (m + 1) ≤ length (now plan)) × (m < profilePointPer) ⌝ }
     requires { ⌜ TickMarks (now marks) ⌝ }
     ensures { λ r. ⌜ r ≡ count m (breakAt (now (plan .entry)) base) ⌝ }

@@ -41,7 +41,7 @@ pub fn first_of(good: bool) -> Progress
 }
 
 // One block more, whose check and form are right.
-fn step(plan: &[u8], l: PlanLayout, marks: &[u16; WORDS], progress: Progress) -> Progress
+fn step(plan: &[u8], l: PlanLayout, marks: &[u8; WORDS], progress: Progress) -> Progress
     requires { ⌜ PlanLaid (now plan) l ⌝ }
     requires { ⌜ TickMarks (now marks) ⌝ }
     requires { ⌜ Walked (now plan) l progress ⌝ }
@@ -66,7 +66,7 @@ fn step(plan: &[u8], l: PlanLayout, marks: &[u16; WORDS], progress: Progress) ->
 pub fn advance(
     plan: &[u8],
     l: PlanLayout,
-    marks: &[u16; WORDS],
+    marks: &[u8; WORDS],
     progress: Progress,
     until: usize,
 ) -> Progress

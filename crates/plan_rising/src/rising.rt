@@ -55,7 +55,7 @@ fn is_kept(plan: &[u8], l: PlanLayout, from: usize, count: usize) -> bool
 fn pass(
     plan: &[u8],
     l: PlanLayout,
-    marks: &[u16; WORDS],
+    marks: &[u8; WORDS],
     progress: Progress,
     from: usize,
     count: usize,
@@ -87,7 +87,7 @@ fn has_points(count: usize) -> usize
 }
 
 // Are all profiles so, do the counts add up to the points, and are there no breaks but where profiles begin?
-fn are_kept(plan: &[u8], l: PlanLayout, marks: &[u16; WORDS]) -> bool
+fn are_kept(plan: &[u8], l: PlanLayout, marks: &[u8; WORDS]) -> bool
     requires { ⌜ PlanLaid (now plan) l ⌝ }
     requires { ⌜ TickMarks (now marks) ⌝ }
     ensures { λ r. ⌜ (r ≡ true → Risen (now (plan .entry)) l) ⌝ }
@@ -119,7 +119,7 @@ pub fn is_rising(plan: &[u8], l: PlanLayout) -> bool
     requires { ⌜ PlanLaid (now plan) l ⌝ }
     ensures { λ r. ⌜ (r ≡ true → Risen (now (plan .entry)) l) ⌝ }
 {
-    let mut marks = [0u16; WORDS];
+    let mut marks = [0u8; WORDS];
     mark_ticks(&mut marks);
     are_kept(plan, l, &marks)
 }

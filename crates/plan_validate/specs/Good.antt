@@ -22,6 +22,7 @@ use Rattle.network.specs.declared.header.Header.{Header}
 use Rattle.network.specs.Decode.{decode}
 use Rattle.network.specs.Town.{partitionOf}
 use Rattle.network.specs.Valid.{ValidFile}
+use Rattle.plan.specs.declared.header.PlanHeader.{PlanHeader}
 use Rattle.plan.specs.declared.header.PlanLayout.{PlanLayout}
 use Rattle.plan.specs.Border.{borderCount}
 use Rattle.plan.specs.PlanHeader.{planHeaderAt}
@@ -105,3 +106,8 @@ module _ {file : List ℕ} {l : PlanLayout} (s : PlanLaid file l) where
         well-formed = well-formed-exactly (decode network) (decodePlan file) .0
             (sym (judged-same (valid-headed v) m (decodePlan file)) ∙ judged g);
       }
+
+-- of the numbers as code has them
+pub matching-at : (h : Header) {b c : ℕ} {k j : PlanHeader} → b ≡ c → k ≡ j → matching h b k ≡ true
+    → matching h c j ≡ true
+matching-at h e f o = rw (e, f) at o

@@ -27,7 +27,9 @@ ghost use lib.ListN.{length};
 ghost use Rattle.file_fields.specs.Block.{blockSize};
 ghost use Rattle.network.specs.Layout.{layoutOf};
 ghost use Rattle.network.specs.Decode.{decode};
+ghost use Rattle.network.specs.Town.{partitionOf};
 ghost use Rattle.network.specs.Valid.{ValidFile};
+ghost use Rattle.plan.specs.Border.{borderCount};
 ghost use Rattle.plan.specs.PlanHeader.{planHeaderAt, PlanWithin};
 ghost use Rattle.plan.specs.PlanDecode.{decodePlan, PlanLaid};
 ghost use Rattle.plan.specs.PlanRules.{judgedFlags, judgedBy};
@@ -103,28 +105,28 @@ fn validate_length(plan: &[u8], k: PlanHeader) -> Planning
 }
 
 // Refusals 14 to 19.
-fn validate_header(network: &[u8], h: Header, l: Layout, plan: &[u8]) -> Planning
+fn validate_header(network: &[u8], h: Header, borders: usize, plan: &[u8]) -> Planning
     requires { ⌜ ValidFile (now network) h ⌝ }
-    requires { ⌜ l ≡ layoutOf h ⌝ }
+    requires { ⌜ borders ≡ borderCount (partitionOf (decode (now network))) ⌝ }
     requires { ⌜ blockSize ≤ length (now plan) ⌝ }
     ensures { λ r. ⌜ r ≡ plannedHeader h (decode (now (network .entry))) (now (plan .entry)) ⌝ }
 {
     let k = header_at(plan);
-    if is_matching(h, count_borders(network, h, l), k) {
+    if is_matching(h, borders, k) {
         return validate_length(plan, k);
     }
     refused(number::PLAN_OTHER, 0)
 }
 
 // Refusals 13 to 19.
-fn validate_first(network: &[u8], h: Header, l: Layout, plan: &[u8]) -> Planning
+fn validate_first(network: &[u8], h: Header, borders: usize, plan: &[u8]) -> Planning
     requires { ⌜ ValidFile (now network) h ⌝ }
-    requires { ⌜ l ≡ layoutOf h ⌝ }
+    requires { ⌜ borders ≡ borderCount (partitionOf (decode (now network))) ⌝ }
     requires { ⌜ blockSize ≤ length (now plan) ⌝ }
     ensures { λ r. ⌜ r ≡ plannedFirst h (decode (now (network .entry))) (now (plan .entry)) ⌝ }
 {
     if is_first_formed(plan) {
-        return validate_header(network, h, l, plan);
+        return validate_header(network, h, borders, plan);
     }
     refused(number::PLAN_FIRST, 0)
 }
@@ -139,12 +141,13 @@ pub fn validate_plan(network: &[u8], h: Header, l: Layout, plan: &[u8]) -> Plann
     if is_bad_length(plan.len(), limits::MOST_BYTES) {
         return refused(number::PLAN_LENGTH, 0);
     }
-    if is_well_formed(network, h, l, plan) {
+    let borders = count_borders(network, h, l);
+    if is_well_formed(network, h, borders, plan) {
         return Planning::WellFormed(header_at(plan));
     }
     let b = first_bad_sum(plan);
     if b < plan.len() / BLOCK {
         return refused(number::PLAN_SUM, b as u32);
     }
-    validate_first(network, h, l, plan)
+    validate_first(network, h, borders, plan)
 }

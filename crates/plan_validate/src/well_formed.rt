@@ -1,7 +1,6 @@
 // Whether a file is a well-formed plan for a network that opens, yes or no: what a good file is asked. The
 // blocks of points, which are nearly all of it, are gone over once. Where the answer is no, validate.rt finds
 // the refusal and its place.
-use crate::header::count_borders;
 use crate::header::header_at;
 use crate::header::is_first_formed;
 use crate::header::is_matching;
@@ -11,7 +10,6 @@ use file_blocks::kind;
 use file_blocks::sound::first_bad_before;
 use file_fields::BLOCK;
 use network::header::Header;
-use network::header::Layout;
 use plan::header::PlanLayout;
 use plan_rising::rising::is_rising;
 ghost use mathlib.Core.Path.{_≡_};
@@ -19,9 +17,10 @@ ghost use mathlib.Core.Bool.{true};
 ghost use Prim.Native.Nat.{_≤_};
 ghost use lib.ListN.{length};
 ghost use Rattle.file_fields.specs.Block.{blockSize};
-ghost use Rattle.network.specs.Layout.{layoutOf};
 ghost use Rattle.network.specs.Decode.{decode};
+ghost use Rattle.network.specs.Town.{partitionOf};
 ghost use Rattle.network.specs.Valid.{ValidFile};
+ghost use Rattle.plan.specs.Border.{borderCount};
 ghost use Rattle.plan.specs.PlanHeader.{planHeaderAt};
 ghost use Rattle.plan.specs.PlanDecode.{PlanLaid};
 ghost use Rattle.plan.specs.PlanValid.{ValidPlan};
@@ -65,10 +64,10 @@ fn is_sound(plan: &[u8], l: PlanLayout) -> bool
     is_rising(plan, l)
 }
 
-// Is the file a well-formed plan for the network?
-pub fn is_well_formed(network: &[u8], h: Header, l: Layout, plan: &[u8]) -> bool
+// Is the file a well-formed plan for the network, which has so many borders?
+pub fn is_well_formed(network: &[u8], h: Header, borders: usize, plan: &[u8]) -> bool
     requires { ⌜ ValidFile (now network) h ⌝ }
-    requires { ⌜ l ≡ layoutOf h ⌝ }
+    requires { ⌜ borders ≡ borderCount (partitionOf (decode (now network))) ⌝ }
     requires { ⌜ blockSize ≤ length (now plan) ⌝ }
     ensures { λ r. ⌜ (r ≡ true
         → ValidPlan h (decode (now (network .entry))) (now (plan .entry)) (planHeaderAt (now (plan .entry))))
@@ -79,7 +78,7 @@ pub fn is_well_formed(network: &[u8], h: Header, l: Layout, plan: &[u8]) -> bool
         return false;
     }
     let k = header_at(plan);
-    let matches = is_matching(h, count_borders(network, h, l), k);
+    let matches = is_matching(h, borders, k);
     if !matches {
         return false;
     }

@@ -39,9 +39,6 @@ add-le16-3 c = search needs
 le16-requires-2 : tie.Need-le16-requires-2 Inv-loop μ-loop
 le16-requires-2 c κs = search needs
 
-mul-marked-break : tie.Need-mul-marked-break Inv-loop μ-loop
-mul-marked-break c = search needs
-
 element-copy-out-marked-break : tie.Need-element-copy-out-marked-break Inv-loop μ-loop
 element-copy-out-marked-break c = search needs
 
@@ -82,7 +79,6 @@ breaks-by-words-spec =
     add-le16-2
     add-le16-3
     le16-requires-2
-    mul-marked-break
     element-copy-out-marked-break
     marked-break-requires
     add-breaks

@@ -18,9 +18,6 @@ loop-holds c = (search needs, search fills)
 is-tick-requires : tie.Need-is-tick-requires Inv-loop μ-loop
 is-tick-requires c κs = search needs
 
-mul-marks : tie.Need-mul-marks Inv-loop μ-loop
-mul-marks c = search needs
-
 element-write-marks : tie.Need-element-write-marks Inv-loop μ-loop
 element-write-marks c = search needs
 
@@ -44,7 +41,6 @@ mark-ticks-spec =
     μ-loop
     loop-holds
     is-tick-requires
-    mul-marks
     element-write-marks
     add-i
     loop-less

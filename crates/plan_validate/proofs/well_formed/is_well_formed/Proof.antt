@@ -12,21 +12,20 @@ use Rattle.plan.specs.PlanHeader.{PlanWithin}
 use Rattle.plan.specs.PlanDecode.{PlanLaid}
 use Rattle.plan.specs.PlanMatch.{header-within}
 use Rattle.plan.specs.PlanValidate.{blocks-few, now-laid}
-use Rattle.plan_validate.specs.Good.{sound-valid}
+use Rattle.plan_validate.specs.Good.{sound-valid, matching-at}
 use borrow.Author.Needs.{needs}
 use Rattle.plan_validate.proofs.well_formed.is_well_formed.Statement.{statement}
 use Rattle.plan_validate.proofs.well_formed.is_well_formed.Tie as tie
 
 abbrev start : tie.Else2 → tie.Start
-start c = c .before .before .before .before .before .before .before .before
+start c = c .before .before .before .before .before .before .before
 
 abbrev file : tie.Else2 → List ℕ
 file c = now (start c .args .plan)
 
-within : (c : tie.Else2) → PlanWithin (c .before .before .before .header-at .result)
+within : (c : tie.Else2) → PlanWithin (c .before .before .header-at .result)
 within c =
-    let b = c .before .before in
-    header-within (start c .pre .0) (file c) _ (b .before .header-at .ensures) _ (b .count-borders .ensures) _
+    header-within (start c .pre .0) (file c) _ (c .before .before .header-at .ensures) _ (start c .pre .1 .0) _
     (c .before .is-matching .ensures) (not-false _ (c .if2 .left))
 
 laid : (c : tie.Else3)
@@ -34,7 +33,7 @@ laid : (c : tie.Else3)
 laid c =
     let m = c .before .before .before in
     now-laid (file m) _ _ (c .before .before .layout .ensures) (within m)
-    (m .before .before .before .header-at .ensures) (c .if3 .left)
+    (m .before .before .header-at .ensures) (c .if3 .left)
 
 is-first-formed-requires : tie.Need-is-first-formed-requires
 is-first-formed-requires c κs = search needs
@@ -44,9 +43,6 @@ returns c e = absurd (true≢false (sym e))
 
 header-at-requires : tie.Need-header-at-requires
 header-at-requires c κs = search needs
-
-count-borders-requires : tie.Need-count-borders-requires
-count-borders-requires c κs = search needs
 
 is-matching-requires : tie.Need-is-matching-requires
 is-matching-requires c κs = search needs
@@ -73,11 +69,11 @@ is-sound-requires c κs = laid c
 returns-4 : tie.Need-returns-4
 returns-4 c e =
     let m = c .before .before .before .before in
-    let k = m .before .before .before in
+    let k = m .before .before in
     let f = k .before .before in
     sound-valid (laid (c .before)) (start m .pre .0)
     (told _ _ _ (f .is-first-formed .ensures) (not-false _ (k .before .if1 .left)))
-    (rw (m .before .before .count-borders .ensures, k .header-at .ensures) at
+    (matching-at _ (start m .pre .1 .0) (k .header-at .ensures)
     (told _ _ _ (m .before .is-matching .ensures) (not-false _ (m .if2 .left))))
     (c .is-sound .ensures e)
 
@@ -88,7 +84,6 @@ is-well-formed-spec =
     is-first-formed-requires
     returns
     header-at-requires
-    count-borders-requires
     is-matching-requires
     returns-2
     layout-requires
