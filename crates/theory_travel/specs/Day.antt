@@ -11,7 +11,17 @@ use lib.Dec.{ltb}
 use borrow.Author.Tests.{lt-ltb, le-ltb}
 use Rattle.theory_loops.specs.First.{first-same}
 use Rattle.theory_travel.specs.Line.{line}
-use Rattle.theory_travel.specs.Points.{Points, Fifo, segment, value, valueOver, value-point, value-least, value-most, fifo-over}
+use Rattle.theory_travel.specs.Points.{
+  Points,
+  Fifo,
+  segment,
+  value,
+  valueOver,
+  value-point,
+  value-least,
+  value-most,
+  fifo-over,
+}
 use Rattle.theory_travel.specs.Search.{Sorted, Last}
 
 -- f at the day's n points, and from there on e, the next day's first

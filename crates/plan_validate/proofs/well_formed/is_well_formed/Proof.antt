@@ -25,8 +25,8 @@ file c = now (start c .args .plan)
 
 within : (c : tie.Else2) → PlanWithin (c .before .before .header-at .result)
 within c =
-    header-within (start c .pre .0) (file c) _ (c .before .before .header-at .ensures) _ (start c .pre .1 .0) _
-    (c .before .is-matching .ensures) (not-false _ (c .if2 .left))
+    header-within (start c .pre .0) (file c) _ (c .before .before .header-at .ensures) _
+    (start c .pre .1 .0) _ (c .before .is-matching .ensures) (not-false _ (c .if2 .left))
 
 laid : (c : tie.Else3)
     → PlanLaid (file (c .before .before .before)) (c .before .before .layout .result)
