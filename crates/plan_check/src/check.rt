@@ -18,6 +18,7 @@ use plan_judge::Found;
 use plan_judge::judge_borders;
 use plan_tests::tests;
 use plan_tests::tests::Layouts;
+use plan_validate::header::count_borders;
 use plan_validate::validate::validate_plan;
 use search_arcs::chain;
 use search_arcs::chain::End;
@@ -148,7 +149,8 @@ fn check_opened(network: &[u8], h: Header, plan: &[u8]) -> Report
         (decodePlan (now (plan .entry))) (planned h (decode (now (network .entry))) (now (plan .entry))))
         × Finds (now (network .entry)) (now (plan .entry)) (r .verdict) (r .finds) ⌝ }
 {
-    match validate_plan(network, h, h.layout(), plan) {
+    let borders = count_borders(network, h, h.layout());
+    match validate_plan(network, h, borders, plan) {
         Planning::Refused(r) => refused(r),
         Planning::WellFormed(k) => check_formed(network, h, plan, k),
     }

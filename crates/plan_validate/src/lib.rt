@@ -5,7 +5,7 @@
 //   validate     refusals 11 to 19
 // It may call `file_fields`, `file_blocks`, `network`, `plan` and `plan_rising`, and cites `theory_loops`
 // and `theory_travel`. Both files are read in place.
-mod header;
+pub mod header;
 pub mod rules;
 pub mod validate;
 mod well_formed;

@@ -1,7 +1,6 @@
 // Validation of a plan file against a network file that has been validated: refusals 11 to 19, in place. A
 // file that is well-formed is told by one pass over it (well_formed.rt); in any other each fault is looked
 // for as the first in its order. Nothing is copied, and every call ends at the first refusal.
-use crate::header::count_borders;
 use crate::header::header_at;
 use crate::header::is_first_formed;
 use crate::header::is_matching;
@@ -15,7 +14,6 @@ use file_fields::BLOCK;
 use file_refusals::Judged;
 use file_refusals::number;
 use network::header::Header;
-use network::header::Layout;
 use plan::answer::Planning;
 use plan::answer::refused;
 use plan::header::PlanHeader;
@@ -25,7 +23,6 @@ ghost use mathlib.Core.Path.{_≡_};
 ghost use Prim.Native.Nat.{_+_, _*_, _≤_};
 ghost use lib.ListN.{length};
 ghost use Rattle.file_fields.specs.Block.{blockSize};
-ghost use Rattle.network.specs.Layout.{layoutOf};
 ghost use Rattle.network.specs.Decode.{decode};
 ghost use Rattle.network.specs.Town.{partitionOf};
 ghost use Rattle.network.specs.Valid.{ValidFile};
@@ -132,16 +129,15 @@ fn validate_first(network: &[u8], h: Header, borders: usize, plan: &[u8]) -> Pla
 }
 
 // The header of a well-formed plan for the network, or the lowest of the refusals 11 to 19 and its lowest
-// place.
-pub fn validate_plan(network: &[u8], h: Header, l: Layout, plan: &[u8]) -> Planning
+// place. The network has so many borders: they are counted by the caller, whose stack is then free again.
+pub fn validate_plan(network: &[u8], h: Header, borders: usize, plan: &[u8]) -> Planning
     requires { ⌜ ValidFile (now network) h ⌝ }
-    requires { ⌜ l ≡ layoutOf h ⌝ }
+    requires { ⌜ borders ≡ borderCount (partitionOf (decode (now network))) ⌝ }
     ensures { λ r. ⌜ r ≡ planned h (decode (now (network .entry))) (now (plan .entry)) ⌝ }
 {
     if is_bad_length(plan.len(), limits::MOST_BYTES) {
         return refused(number::PLAN_LENGTH, 0);
     }
-    let borders = count_borders(network, h, l);
     if is_well_formed(network, h, borders, plan) {
         return Planning::WellFormed(header_at(plan));
     }

@@ -36,27 +36,24 @@ returns : tie.Need-returns
 unfolding planned
 returns c = search picks
 
-count-borders-requires : tie.Need-count-borders-requires
-count-borders-requires c κs = search needs
-
 is-well-formed-requires : tie.Need-is-well-formed-requires
-is-well-formed-requires c κs = (search needs, (search needs, fine (c .before) .0))
+is-well-formed-requires c κs = (search needs, (search needs, fine c .0))
 
 header-at-requires : tie.Need-header-at-requires
-header-at-requires c κs = fine (c .before .before .before) .0
+header-at-requires c κs = fine (c .before .before) .0
 
 returns-2 : tie.Need-returns-2
 returns-2 c =
     let w = c .before .before in
     rw (c .header-at .ensures)
-    (sym (plan-exactly (w .before .before .before .before .before .before .pre .0) _ _ .1
+    (sym (plan-exactly (w .before .before .before .before .before .pre .0) _ _ .1
     (w .is-well-formed .ensures (c .before .if2 .taken))))
 
 first-bad-sum-requires : tie.Need-first-bad-sum-requires
 first-bad-sum-requires c κs = search needs
 
 cast-refused : tie.Need-cast-refused
-cast-refused c = omega (arith, fine (c .before .before .before .before .before))
+cast-refused c = omega (arith, fine (c .before .before .before .before))
 
 refused-requires-2 : tie.Need-refused-requires-2
 refused-requires-2 c κs = search needs
@@ -64,18 +61,17 @@ refused-requires-2 c κs = search needs
 returns-3 : tie.Need-returns-3
 unfolding planned
 returns-3 c =
-    passed _ _ _ _ (length-passed (c .before .before .before .before .before .before))
+    passed _ _ _ _ (length-passed (c .before .before .before .before .before))
     (at-first _ _ _ _ _ _ (c .before .before .first-bad-sum .ensures) (c .before .if3 .taken)
     (c .refused2 .ensures))
 
 validate-first-requires : tie.Need-validate-first-requires
-validate-first-requires c κs =
-    (search needs, (search needs, fine (c .before .before .before .before .before) .0))
+validate-first-requires c κs = (search needs, (search needs, fine (c .before .before .before .before) .0))
 
 returns-4 : tie.Need-returns-4
 unfolding planned
 returns-4 c =
-    passed _ _ _ _ (length-passed (c .before .before .before .before .before .before))
+    passed _ _ _ _ (length-passed (c .before .before .before .before .before))
     (past-first _ _ _ _ _ _ (c .before .before .first-bad-sum .ensures) (c .before .if3 .left)
     (c .validate-first .ensures))
 
@@ -86,7 +82,6 @@ validate-plan-spec =
     is-bad-length-requires
     refused-requires
     returns
-    count-borders-requires
     is-well-formed-requires
     header-at-requires
     returns-2
