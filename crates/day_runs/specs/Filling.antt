@@ -8,8 +8,8 @@ use native.Mathlib.Omega.{arith}
 use lib.ListN.{length, getD}
 use Rattle.theory_travel.specs.Day.{Day, dayValue}
 use Rattle.theory_travel.specs.Pieces.{lineAt, tick-first, tick-below, tick-rises, piece-next, piece-last}
-use Rattle.day_runs.specs.Runs.{Pending, runs-none, runs-open, runs-few, starts-few}
-use Rattle.day_runs.specs.Held.{Held, Room, Ending}
+use Rattle.day_runs.specs.Runs.{Runs, Pending, runs-none, runs-open, runs-few}
+use Rattle.day_runs.specs.Held.{Added, Held, Room, Leading}
 
 -- lists with room for the runs of any day of this period
 pub record Space (starts values : List ℕ) (period : ℕ) : Type 0 where
@@ -60,32 +60,24 @@ module _ {t : ℕ → ℕ} {n period : ℕ} (d : Day t n period) (v : ℕ → �
       in-v = h .in-v;
     }
 
-    module _ {s' vs' : List ℕ} {m b q : ℕ} (more : Held s vs s' vs' c m a p b q (lineAt a p b q)) where
-      pub filling-next : b ≡ t (k + 1) → q ≡ v (k + 1) → k + 1 < n → Filling t v n period s' vs' m (k + 1) b q
-      filling-next h i l = record {
-        tick = h;
-        value = i;
-        runs =
-            more .runs _ (f .runs)
-            (λ y lo hi. sym (piece-next d v k a p b q (f .tick) (f .value) h i l y lo hi));
-      }
-
-      -- the last piece, after which the day ends
-      pub filling-last : b ≡ period → q ≡ v 0 → k < n → n ≤ k + 1
-          → Pending s' vs' m b q (dayValue t v n period)
-      filling-last h i l o =
+    pub filling-next : {s' vs' : List ℕ} {m b q : ℕ} → Held s vs s' vs' c m a p b q (lineAt a p b q)
+        → b ≡ t (k + 1) → q ≡ v (k + 1) → k + 1 < n → Filling t v n period s' vs' m (k + 1) b q
+    filling-next {b = b} {q = q} more h i l = record {
+      tick = h;
+      value = i;
+      runs =
           more .runs _ (f .runs)
-          (λ y lo hi. sym (piece-last d v k a p b q (f .tick) (f .value) h i l o y lo hi))
-
--- the open run of a day can be ended
-pub pending-ends : {f : ℕ → ℕ} {s vs : List ℕ} {c period q : ℕ} → Space s vs period
-    → Pending s vs c period q f → Ending s vs c period
-pending-ends {s = s} {c = c} h p =
-    let e = p .runs .grid .ended in
-    record {
-      few = starts-few s c (p .at) (p .runs .grid) c (omega arith);
-      begun = omega (arith, e, p .upto);
-      last = h .short;
-      in-s = h .in-s;
-      in-v = h .in-v;
+          (λ y lo hi. sym (piece-next d v k a p b q (f .tick) (f .value) h i l y lo hi));
     }
+
+    -- the last piece, after which the day ends
+    module _ {b q : ℕ} (h : b ≡ period) (i : q ≡ v 0) (l : k < n) (o : n ≤ k + 1) where
+      line-last : (y : ℕ) → a ≤ y → y < b → dayValue t v n period y ≡ lineAt a p b q y
+      line-last y lo hi = sym (piece-last d v k a p b q (f .tick) (f .value) h i l o y lo hi)
+
+      pub filling-leads : Leading s vs c a p b (lineAt a p b q)
+      filling-leads = record { day = dayValue t v n period; runs = f .runs; on = line-last }
+
+      pub filling-last : {s' vs' : List ℕ} {m : ℕ} → Added s vs s' vs' c m a p b (lineAt a p b q)
+          → Runs s' vs' m b (dayValue t v n period)
+      filling-last more = more .runs _ (f .runs) line-last

@@ -8,7 +8,7 @@ use native.Mathlib.Omega.{arith}
 use lib.ListN.{length, getD, set, length-set}
 use Rattle.theory_travel.specs.Pieces.{lineAt}
 use Rattle.travel_runs.specs.Runs.{value-first, value-flat}
-use Rattle.day_runs.specs.Runs.{Runs, Pending, runs-open, runs-on, runs-close}
+use Rattle.day_runs.specs.Runs.{Runs, Pending, runs-open, runs-on, runs-close, runs-few, starts-few}
 
 -- After n runs, which may leave one of value q open at tick a, m are there up to tick b: those of g from a
 -- on. Whatever f the n runs were of, the m are of it.
@@ -132,4 +132,33 @@ module _ (s v : List ℕ) (n b q : ℕ) (h : Ending s v n b) where
     runs = λ f p. let e : p .at ≡ b = omega (arith, p .runs .grid .ended, p .upto) in rw (← e) (p .runs);
     long-s = refl;
     long-v = refl;
+  }
+
+-- n runs and an open one of value q up to tick a, of some day that goes on by g up to tick b
+pub record Leading (s v : List ℕ) (n a q b : ℕ) (g : ℕ → ℕ) : Type 0 where
+  pub day : ℕ → ℕ
+  pub runs : Pending s v n a q day
+  pub on : (y : ℕ) → a ≤ y → y < b → day y ≡ g y
+
+-- FOR CODE that puts the day's last piece and ends the day
+module _ {s₀ v₀ s v : List ℕ} {n m a q b r : ℕ} {g : ℕ → ℕ} (room : Room s₀ v₀ n a b)
+    (lead : Leading s₀ v₀ n a q b g) (h : Held s₀ v₀ s v n m a q b r g) where
+  pub finish-ending : Ending s v m b
+  finish-ending =
+      let p = h .runs (lead .day) (lead .runs) (lead .on) in
+      let e = p .runs .grid .ended in
+      record {
+        few = starts-few s m (p .at) (p .runs .grid) m (omega arith);
+        begun = omega (arith, e, p .upto);
+        last = room .last;
+        in-s = omega (arith, room .in-s, h .long-s);
+        in-v = omega (arith, room .in-v, h .long-v);
+      }
+
+  pub finish-added : {s' v' : List ℕ} {k : ℕ} → Closed s v s' v' m k b r → Added s₀ v₀ s' v' n k a q b g
+  finish-added c = record {
+    runs = λ f p o. c .runs f (h .runs f p o);
+    long-s = c .long-s ∙ h .long-s;
+    long-v = c .long-v ∙ h .long-v;
+    few = runs-few (c .runs (lead .day) (h .runs (lead .day) (lead .runs) (lead .on)) .grid);
   }

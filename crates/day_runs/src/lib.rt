@@ -1,14 +1,14 @@
 // day_runs: a day's values as runs of equal value, put after one another: at most one division for each piece
 // of the line, none for a tick or a run. Run i holds the ticks from starts[i] up to starts[i + 1]. The last
-// run stays open, so that a piece which begins with its value goes on with it, until `close` ends the day.
+// run stays open, so that a piece which begins with its value goes on with it, until `finish` ends the day.
 // Rounding stands in `rising` and `falling` alone, and in `climb` and `sink` for lines with a new value at
-// each tick. `extend` counts itself, and nothing else that is public here divides.
+// each tick. `extend` and `finish` count themselves, and nothing else that is public here divides.
 // It may call `travel_runs` for steps, and cites `theory_travel` for the line.
 ghost use mathlib.Core.Path.{_≡_};
 ghost use Prim.Native.Nat.{_+_, _-_, _*_, _/_, _^_, _≤_, _<_, min, max};
 ghost use lib.ListN.{length, set};
 ghost use Rattle.theory_travel.specs.Pieces.{lineAt};
-ghost use Rattle.day_runs.specs.Held.{Added, Held, Room, Ending, Closed};
+ghost use Rattle.day_runs.specs.Held.{Added, Held, Room, Ending, Closed, Leading};
 
 // Puts run n: from where run n - 1 ends up to tick e.
 fn put(starts: &mut [u16], values: &mut [u32], n: usize, e: usize, v: u32)
@@ -161,10 +161,6 @@ fn piece(
     if v == w {
         return n;
     }
-    if b == a + 1 {
-        put(starts, values, n, b, v);
-        return n + 1;
-    }
     let ticks = (b - a) as u32;
     if v < w {
         if w - v < ticks {
@@ -178,9 +174,18 @@ fn piece(
     sink(starts, values, n, a, v, b, w)
 }
 
+// One find more.
+fn count_find(finds: &mut u64)
+    requires { ⌜ now finds + 1 < 2 ^ 64 ⌝ }
+    ensures { λ _. ⌜ now (finds .exit) ≡ now (finds .entry) + 1 ⌝ }
+{
+    *finds = *finds + 1;
+}
+
 // The runs of a day up to tick `a`, n of them and an open one of value v, and those of the line from (a, v)
 // to (b, w) after them: one find, which counts itself. Answers the number of runs before the open one, which
-// then has the value w.
+// then has the value w. Nearly all lines are flat or of one tick: these are put here, by two tests that stand
+// in the callers' loops, and `piece` has the others.
 pub fn extend(
     starts: &mut [u16],
     values: &mut [u32],
@@ -196,7 +201,14 @@ pub fn extend(
     ensures { λ r. ⌜ Held (now (starts .entry)) (now (values .entry)) (now (starts .exit))
         (now (values .exit)) n r a v b w (lineAt a v b w) × (now (finds .exit) ≡ now (finds .entry) + 1) ⌝ }
 {
-    *finds = *finds + 1;
+    count_find(finds);
+    if v == w {
+        return n;
+    }
+    if b == a + 1 {
+        put(starts, values, n, b, v);
+        return n + 1;
+    }
     piece(starts, values, n, a, v, b, w)
 }
 
@@ -207,7 +219,7 @@ fn wide(x: u16) -> usize
 }
 
 // Ends the day at tick b with the run that is open, of value v, if it has a tick. Answers the number of runs.
-pub fn close(starts: &mut [u16], values: &mut [u32], n: usize, b: usize, v: u32) -> usize
+fn close(starts: &mut [u16], values: &mut [u32], n: usize, b: usize, v: u32) -> usize
     requires { ⌜ Ending (now starts) (now values) n b ⌝ }
     ensures { λ r. ⌜ Closed (now (starts .entry)) (now (values .entry)) (now (starts .exit))
         (now (values .exit)) n r b v ⌝ }
@@ -217,6 +229,28 @@ pub fn close(starts: &mut [u16], values: &mut [u32], n: usize, b: usize, v: u32)
         return n + 1;
     }
     n
+}
+
+// The same as `extend` for the day's last line, with which the day ends. Answers the number of runs.
+pub fn finish(
+    starts: &mut [u16],
+    values: &mut [u32],
+    n: usize,
+    a: usize,
+    v: u32,
+    b: usize,
+    w: u32,
+    finds: &mut u64,
+) -> usize
+    requires { ⌜ Room (now starts) (now values) n a b ⌝ }
+    requires { ⌜ Leading (now starts) (now values) n a v b (lineAt a v b w) ⌝ }
+    requires { ⌜ now finds + 1 < 2 ^ 64 ⌝ }
+    ensures { λ r. ⌜ Added (now (starts .entry)) (now (values .entry)) (now (starts .exit))
+        (now (values .exit)) n r a v b (lineAt a v b w) × (now (finds .exit) ≡ now (finds .entry) + 1) ⌝ }
+{
+    count_find(finds);
+    let m = piece(starts, values, n, a, v, b, w);
+    close(starts, values, m, b, w)
 }
 
 // For a reader that looks for the least or the greatest value: the lesser of two.

@@ -154,6 +154,12 @@ module _ (file : List ℕ) (from kind per size n : ℕ) where
           (omega (arith, first-le (unformed file from kind per size n) (blocks per n)))
     ]
 
+    -- a run that is passed is in its form
+    pub run-formed : end ≤ i → RunFormed file from kind per size n
+    run-formed l j m =
+        let p = unformed file from kind per size n in
+        not-false _ (clear p (blocks per n) (omega (arith, first-le p (blocks per n))) j m)
+
   -- FOR A READER of the tests: a run is passed exactly when it is in its form
   pub formed-past : (b x : ℕ) → from + blocks per n ≤ x → unformedOr file from kind per size n b ≡ x
       → RunFormed file from kind per size n × (b ≡ x)

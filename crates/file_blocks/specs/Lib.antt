@@ -2,10 +2,11 @@
 pub mod Kind
 pub mod Place
 pub mod Laid
-pub mod Cursor
 pub mod Table
+pub mod Walk
 pub mod Form
 pub mod Read
+pub mod SoundBlock
 pub mod Bytes
 pub mod Run
 pub mod RunLaws

@@ -54,7 +54,7 @@ pub fn is_formed(file: &[u8], b: usize, kind: u8, entries: usize, used: usize) -
 }
 
 // Is block j of a run of n entries out of its form?
-fn is_unformed(
+pub fn is_unformed(
     file: &[u8],
     from: usize,
     kind: u8,

@@ -6,6 +6,8 @@ pub mod Layout
 pub mod Network
 pub mod Tables
 pub mod Decode
+pub mod Points
+pub mod Arcs
 pub mod Rules
 pub mod FirstPoint
 pub mod Sound

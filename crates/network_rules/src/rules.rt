@@ -2,21 +2,27 @@
 // they keep rules 9 and 10 (steady.rt). Where they do not, one scan finds the places: rule 10 is judged at
 // each point while rule 9 is, and told where 9 holds everywhere.
 use crate::steady::is_steady;
+use file_blocks::kind::ARC_PER;
+use file_blocks::place::blocks;
+use file_blocks::place::entries_in;
 use file_refusals::Judged;
 use file_refusals::faulty;
 use file_refusals::number;
+use network::arcs::entry_in;
 use network::header::Layout;
 use network::read;
 ghost use mathlib.Core.Path.{_≡_};
-ghost use Prim.Native.Nat.{_+_, _≤_, _<_};
+ghost use Prim.Native.Nat.{_+_, _*_, _≤_, _<_};
 ghost use Rattle.theory_loops.specs.First.{first};
 ghost use Rattle.theory_travel.specs.Table.{entryAt};
+ghost use Rattle.file_blocks.specs.Kind.{arcPer};
 ghost use Rattle.network.specs.Network;
 ghost use Rattle.network.specs.Decode.{decode, Laid};
 ghost use Rattle.network.specs.Rules.{badCell, partOfDay, badHours, badHoursOf, badEnds, badArc};
 ghost use Rattle.network.specs.Rules.{judgedPoints, judgedArcs, judged};
 ghost use Rattle.network_rules.specs.Scan.{misplaced, badPointBy, lateAt, Scanned};
 ghost use Rattle.network.specs.FirstPoint.{Counted};
+ghost use Rattle.network_rules.specs.ScanArcs.{ArcsPassed, ArcsScanned};
 ghost use Rattle.network_rules.specs.ScanAll.{ScannedAll, lateIn};
 
 // What a scan of points finds: the first that breaks rule 9, and the first that breaks rule 10, each by its
@@ -129,16 +135,30 @@ pub fn bad_ends(nodes: usize, period: usize, tail: usize, head: usize, count: us
     period < count
 }
 
-// Rule 8 at arc a.
-fn is_bad_arc(file: &[u8], l: Layout, a: usize) -> bool
+// What a pass over the arcs up to the end of block j finds, after arcs that keep rule 8 and have `before`
+// points: the block has m arcs.
+fn scan_block(file: &[u8], l: Layout, j: usize, m: usize, before: usize) -> Arcs
     requires { ⌜ Laid (now file) l ⌝ }
-    requires { ⌜ a < l .arcs ⌝ }
-    ensures { λ r. ⌜ r ≡ badArc (decode (now (file .entry))) a ⌝ }
+    requires { ⌜ (m ≤ arcPer) × (arcPer * j + m ≤ l .arcs) ⌝ }
+    requires { ⌜ ArcsPassed (decode (now file)) (arcPer * j) before ⌝ }
+    ensures { λ r. ⌜ ArcsScanned (decode (now (file .entry))) (arcPer * j + m) (r .bad) (r .sum) ⌝ }
 {
-    let tail = read::tail(file, l, a);
-    let head = read::head(file, l, a);
-    let count = read::count(file, l, a);
-    bad_ends(l.nodes, l.period, tail, head, count)
+    let first = ARC_PER * j;
+    let mut sum = before;
+    for e in 0..m {
+        let arc = entry_in(file, l, j, e);
+        if bad_ends(l.nodes, l.period, arc.tail, arc.head, arc.count) {
+            return Arcs {
+                bad: first + e,
+                sum,
+            };
+        }
+        sum += arc.count;
+    }
+    Arcs {
+        bad: first + m,
+        sum,
+    }
 }
 
 // The first arc that breaks rule 8, or the count of arcs; and where there is none, the points of all arcs,
@@ -150,11 +170,13 @@ fn scan_arcs(file: &[u8], l: Layout) -> Arcs
 {
     let arcs = l.arcs;
     let mut sum = 0;
-    for a in 0..arcs {
-        if is_bad_arc(file, l, a) {
-            return Arcs { bad: a, sum };
+    for j in 0..blocks(ARC_PER, arcs) {
+        let m = entries_in(ARC_PER, arcs, j);
+        let found = scan_block(file, l, j, m, sum);
+        if found.bad < ARC_PER * j + m {
+            return found;
         }
-        sum += read::count(file, l, a);
+        sum = found.sum;
     }
     Arcs { bad: arcs, sum }
 }

@@ -1,6 +1,6 @@
--- Plan files: what a plan is (Border, Plan), where it stands in a file (PlanHeader, PlanLayout, PlanDecode),
--- its rules and validation (PlanRules, PlanValidate, PlanValid), their numbers (Numbers), and the laws for
--- the code.
+-- Plan files: what a plan is (Border, Plan), where it stands in a file (PlanHeader, PlanLayout, PlanDecode,
+-- PlanWalk), its rules and validation (PlanRules, PlanValidate, PlanValid), their numbers (Numbers), and
+-- the laws for the code.
 pub mod Border
 pub mod Borders
 pub mod Plan
@@ -10,6 +10,7 @@ pub mod PlanHeader
 pub mod PlanLayout
 pub mod Marks
 pub mod PlanDecode
+pub mod PlanWalk
 pub mod PlanRules
 pub mod PlanValidate
 pub mod PlanMatch

@@ -3,8 +3,6 @@
 // on the stack.
 use crate::answer::Checking;
 use crate::answer::Report;
-use crate::judge::Found;
-use crate::judge::judge_borders;
 use file_refusals::Refusal;
 use file_refusals::number;
 use network::answer::Opening;
@@ -16,8 +14,11 @@ use node_verdict::NONE;
 use plan::answer::Planning;
 use plan::borders::list_borders;
 use plan::header::PlanHeader;
+use plan_judge::Found;
+use plan_judge::judge_borders;
 use plan_tests::tests;
 use plan_tests::tests::Layouts;
+use plan_validate::header::count_borders;
 use plan_validate::validate::validate_plan;
 use search_arcs::chain;
 use search_arcs::chain::End;
@@ -38,9 +39,9 @@ ghost use Rattle.plan.specs.PlanValid.{ValidPlan};
 ghost use Rattle.plan_tests.specs.Checkable.{Checkable};
 ghost use Rattle.plan.specs.Border.{Listed};
 ghost use Rattle.plan_check.specs.declared.answer.Checking.the-variants.{Accepted, Refused};
-ghost use Rattle.plan_check.specs.Finding.{Equipped};
+ghost use Rattle.plan_judge.specs.Finding.{Equipped};
 ghost use Rattle.plan_check.specs.Finds.{Finds};
-ghost use Rattle.plan_check.specs.Standing.{triplesFrom, verdictOf};
+ghost use Rattle.plan_check.specs.Verdict.{triplesFrom, verdictOf};
 
 // The verdict by what was found.
 fn verdict_of(found: Found) -> Checking
@@ -148,7 +149,8 @@ fn check_opened(network: &[u8], h: Header, plan: &[u8]) -> Report
         (decodePlan (now (plan .entry))) (planned h (decode (now (network .entry))) (now (plan .entry))))
         × Finds (now (network .entry)) (now (plan .entry)) (r .verdict) (r .finds) ⌝ }
 {
-    match validate_plan(network, h, h.layout(), plan) {
+    let borders = count_borders(network, h, h.layout());
+    match validate_plan(network, h, borders, plan) {
         Planning::Refused(r) => refused(r),
         Planning::WellFormed(k) => check_formed(network, h, plan, k),
     }

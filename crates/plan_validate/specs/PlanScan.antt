@@ -1,78 +1,39 @@
--- A scan of the points of one profile that judges rule 19, read in their order by a cursor: what it tells,
+-- A scan of the points of one profile that judges rule 19, read in their order by a walk: what it tells,
 -- the invariant of its loop, and the laws of each step in the shape of the code's needs. A tick is judged by
 -- the range in which it has to lie: 0 alone at the first point, then from the tick before it up to the
 -- period.
 use mathlib.Core.Path.{_≡_, refl, sym, _∙_, ap}
 use mathlib.Core.Bool.{Bool, true, false, cond, not, _||_}
-use mathlib.Core.List.{List}
-use Prim.Native.Nat.{ℕ, zero, suc, _+_, _-_, _*_, _^_, _≤_, _<_, compare·suc-suc}
-use native.Mathlib.Nat.{add-zero, mod-lt}
+use Prim.Native.Nat.{ℕ, zero, suc, _+_, _-_, _≤_, _<_, compare·suc-suc}
 use native.Mathlib.Omega.{arith}
-use lib.ListN.{length}
-use lib.Dec.{leb, ltb, eqb, lit<, lit≤}
+use lib.Dec.{leb, ltb, eqb}
 use borrow.Author.Tests.{le-ltb, le-leb, lt-leb, ne-eqb}
 use Rattle.theory_loops.specs.First.{first, any, none-yet, pass, stop, yes-any, no-any}
 use Rattle.theory_travel.specs.Ticks.{badTick}
 use Rattle.theory_travel.specs.Table.{entryAt}
-use Rattle.file_fields.specs.Block.{blockSize}
-use Rattle.file_fields.specs.Fields.{le16}
-use Rattle.file_blocks.specs.Kind.{countPer, profilePointPer, profilePointSize, countSize}
-use Rattle.file_blocks.specs.Place.{offset, EntryInFile}
-use Rattle.file_blocks.specs.declared.cursor.Cursor.{Cursor}
+use Rattle.file_blocks.specs.Walk.{walk-first}
+use Rattle.file_blocks.specs.declared.walk.Walk.{Walk}
 use Rattle.plan.specs.declared.header.PlanLayout.{PlanLayout}
 use Rattle.plan_validate.specs.declared.rules.Scan.{Scan}
-use Rattle.plan.specs.Plan.{Plan, pointCount}
-use Rattle.plan.specs.PlanDecode.{decodePlan, pointTick, PlanLaid, count-in, point-in, count-is}
-use Rattle.plan.specs.PlanDecode.{tick-is}
-use Rattle.file_blocks.specs.Cursor.{cursorAt, moved, cursor-next}
-
--- READING BY A CURSOR: the count of profile k and the tick of point q stand in the file, and are the plan's
-module _ {file : List ℕ} {l : PlanLayout} (s : PlanLaid file l) where
-  step-small : {from per size i : ℕ} {c : Cursor} → EntryInFile from per size i file → per ≤ blockSize
-      → c ≡ cursorAt from per i → (c .slot < blockSize) × (c .base < 2 ^ 63)
-  step-small {per = per} {i = i} n m e = rw e (omega (arith, mod-lt i (n .pos)), omega (arith, n .near))
-
-  module _ {k : ℕ} (h : k < l .profiles) {c : Cursor} (e : c ≡ cursorAt (l .countblock) countPer k) where
-    pub count-there : c .base + countSize * c .slot + 2 ≤ length file
-    unfolding offset
-    count-there = rw e (count-in s h .room)
-
-    pub count-read : {r : ℕ} → r ≡ le16 file (c .base + countSize * c .slot)
-        → r ≡ pointCount (decodePlan file) k
-    unfolding offset
-    count-read f = count-is s h (rw add-zero (rw e at f))
-
-    pub count-step : (c .slot < blockSize) × (c .base < 2 ^ 63)
-    count-step = step-small (count-in s h) (lit≤ tt) e
-
-  module _ {q : ℕ} (h : q < l .points) {c : Cursor} (e : c ≡ cursorAt (l .pointblock) profilePointPer q) where
-    pub tick-there : c .base + profilePointSize * c .slot + 2 ≤ length file
-    unfolding offset
-    tick-there = rw e (omega (arith, point-in s h .room))
-
-    pub tick-read : {r : ℕ} → r ≡ le16 file (c .base + profilePointSize * c .slot)
-        → r ≡ pointTick (decodePlan file) q
-    unfolding offset
-    tick-read f = tick-is s h (rw add-zero (rw e at f))
-
-    pub tick-step : (c .slot < blockSize) × (c .base < 2 ^ 63)
-    tick-step = step-small (point-in s h) (lit≤ tt) e
+use Rattle.plan.specs.Plan.{Plan}
+use Rattle.plan.specs.PlanDecode.{pointTick}
+use Rattle.plan.specs.PlanWalk.{pointAt}
 
 -- WHAT A SCAN TELLS of m points from number `from` on, the ticks of one profile: the first bad one by its
--- number, or the count of all points; and where there is none, the cursor stands after them
+-- number, or the count of all points; and where there is none, the walk stands after them
 pub record Scanned (p : Plan) (l : PlanLayout) (from m : ℕ) (r : Scan) : Type 0 where
   pub bad : r .bad
       ≡ cond (any m (badTick (l .period) (entryAt (p .ticks) from)))
       (from + first m (badTick (l .period) (entryAt (p .ticks) from))) (l .points)
-  pub at : l .points ≤ r .bad → r .at ≡ cursorAt (l .pointblock) profilePointPer (from + m)
+  pub at : l .points ≤ r .bad → r .at ≡ pointAt (l .pointblock) (from + m)
 
 -- the loop before point i of them: the tick there has to lie from low up to high
-pub record Scanning (p : Plan) (l : PlanLayout) (from m i low high : ℕ) (c : Cursor) : Type 0 where
+pub record Scanning (p : Plan) (l : PlanLayout) (from m i low high : ℕ) (c : Walk) : Type 0 where
   pub within : i ≤ m
   pub fine : first i (badTick (l .period) (entryAt (p .ticks) from)) ≡ i
   pub first-range : i ≡ 0 → (low ≡ 0) × (high ≡ 1)
   pub later-range : 0 < i → (low ≡ entryAt (p .ticks) from (i - 1) + 1) × (high ≡ l .period)
-  pub at : c ≡ cursorAt (l .pointblock) profilePointPer (from + i)
+  pub at : c ≡ pointAt (l .pointblock) (from + i)
 
 -- whether the tick x of point i is bad, by its range
 in-range : (period : ℕ) (t : ℕ → ℕ) (i low high x : ℕ) → 1 ≤ period → (i ≡ 0 → (low ≡ 0) × (high ≡ 1))
@@ -97,17 +58,17 @@ module _ (p : Plan) (l : PlanLayout) (from m : ℕ) where
   abbrev t : ℕ → ℕ
   t = entryAt (p .ticks) from
 
-  pub scan-start : (c : Cursor) → c ≡ cursorAt (l .pointblock) profilePointPer from
+  pub scan-start : (c : Walk) → c ≡ pointAt (l .pointblock) from
       → Scanning p l from m 0 0 1 c
   scan-start c e = record {
     within = omega arith;
     fine = none-yet _;
     first-range = λ _. (refl, refl);
     later-range = λ h. absurd (omega arith);
-    at = let z : from + 0 ≡ from = omega arith in rw z e;
+    at = walk-first _ _ _ from e;
   }
 
-  module _ (i low high x : ℕ) (c : Cursor) (b : Bool) (some : 1 ≤ l .period)
+  module _ (i low high x : ℕ) (c : Walk) (b : Bool) (some : 1 ≤ l .period)
       (s : Scanning p l from m i low high c) (h : i < m)
       (e : x ≡ pointTick p (from + i)) (f : b ≡ ltb x low || leb high x) where
     told-bad : b ≡ badTick (l .period) t i
@@ -122,24 +83,20 @@ module _ (p : Plan) (l : PlanLayout) (from m : ℕ) where
           at = λ z. absurd (omega arith);
         }
 
-    pub scan-more : (d : Cursor) → b ≡ false → d ≡ moved profilePointPer c
+    pub scan-more : (d : Walk) → b ≡ false → d ≡ pointAt (l .pointblock) (from + (i + 1))
         → Scanning p l from m (i + 1) (x + 1) (l .period) d
     unfolding entryAt
     scan-more d k g =
         let q : i + 1 - 1 ≡ i = omega arith in
-        let z : from + (i + 1) ≡ from + i + 1 = omega arith in
         record {
           within = omega arith;
           fine = pass _ i (s .fine) (sym told-bad ∙ k);
           first-range = λ o. absurd (omega arith);
           later-range = λ _. (rw (q, e), refl);
-          at =
-              rw z
-              (g ∙ ap (moved profilePointPer) (s .at)
-              ∙ cursor-next (l .pointblock) profilePointPer (lit< tt) (from + i));
+          at = g;
         }
 
-  pub scan-end : (i low high : ℕ) (c : Cursor) → Scanning p l from m i low high c → m ≤ i
+  pub scan-end : (i low high : ℕ) (c : Walk) → Scanning p l from m i low high c → m ≤ i
       → Scanned p l from m (record { bad = l .points; at = c })
   scan-end i low high c s h =
       let q : i ≡ m = omega (arith, s .within) in

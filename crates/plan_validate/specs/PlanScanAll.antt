@@ -7,30 +7,29 @@ use Prim.Native.Nat.{ℕ, suc, _+_, _*_, _≤_, _<_}
 use native.Mathlib.Numerals.{add-one}
 use native.Mathlib.Omega.{arith}
 use native.Mathlib.Decide.{decLt}
-use lib.Dec.{ltb, lit<}
+use lib.Dec.{ltb}
 use borrow.Author.Tests.{lt-ltb, le-ltb, eq-eqb, ne-eqb, ltb-true}
 use Rattle.theory_loops.specs.First.{first, any, first-le, found, none-yet, pass, stop, done, first-more}
 use Rattle.theory_loops.specs.Pick.{firstRung, at-first, past-first}
 use Rattle.theory_loops.specs.Total.{total-none, total-more, total-part}
-use Rattle.file_blocks.specs.Kind.{countPer, profilePointPer}
 use Rattle.theory_travel.specs.Ticks.{badTick}
 use Rattle.file_refusals.specs.Refusal.{faulty}
 use Rattle.file_refusals.specs.declared.Judged.{Judged}
 use Rattle.file_refusals.specs.declared.Judged.the-variants.{Sound}
-use Rattle.file_blocks.specs.declared.cursor.Cursor.{Cursor}
+use Rattle.file_blocks.specs.declared.walk.Walk.{Walk}
 use Rattle.plan.specs.declared.header.PlanLayout.{PlanLayout}
 use Rattle.plan_validate.specs.declared.rules.Scan.{Scan}
 use Rattle.plan.specs.Plan.{Plan, pointCount, pointStart, pointTicks}
 use Rattle.plan.specs.PlanDecode.{pointTotal}
-use Rattle.file_blocks.specs.Cursor.{cursorFirst, cursorAt, moved, cursor-first, cursor-next}
+use Rattle.plan.specs.PlanWalk.{countAt, pointAt}
 use Rattle.plan.specs.PlanRules.{badCount, badProfile, firstBadPoint, judgedTicks, judgedSum}
 use Rattle.plan.specs.PlanRules.{judgedCounts}
 use Rattle.plan_validate.specs.PlanScan.{Scanned}
 
 -- ONE PROFILE MORE
--- where nothing is found and all points before number `from` stand in the file, the cursor stands there
+-- where nothing is found and all points before number `from` stand in the file, the walk stands there
 pub record Standing (l : PlanLayout) (from : ℕ) (scan : Scan) : Type 0 where
-  pub at : from ≤ l .points → l .points ≤ scan .bad → scan .at ≡ cursorAt (l .pointblock) profilePointPer from
+  pub at : from ≤ l .points → l .points ≤ scan .bad → scan .at ≡ pointAt (l .pointblock) from
 
 -- what is found stays; else m points more are scanned if they stand in the file
 pub record ScannedOn (p : Plan) (l : PlanLayout) (from m : ℕ) (old new : Scan) : Type 0 where
@@ -48,7 +47,7 @@ module _ (p : Plan) (l : PlanLayout) (from m : ℕ) (scan : Scan) where
   on-scanned r h s = record { kept = λ z. absurd (omega arith); told = λ _ _. s }
 
   pub on-stands : Standing l from scan → l .points ≤ scan .bad → from + m ≤ l .points
-      → scan .at ≡ cursorAt (l .pointblock) profilePointPer from
+      → scan .at ≡ pointAt (l .pointblock) from
   on-stands s h k = s .at (omega arith) h
 
 -- for `search goings` at the needs of that step
@@ -104,20 +103,19 @@ module _ (period : ℕ) (p : Plan) where
       go false = rw (le-ltb (suc k) (suc k) (omega arith))
 
 -- THE LOOP before profile k, whose points start at `from`
-pub record Passing (p : Plan) (l : PlanLayout) (k from : ℕ) (counts : Cursor) (scan : Scan) : Type 0 where
+pub record Passing (p : Plan) (l : PlanLayout) (k from : ℕ) (counts : Walk) (scan : Scan) : Type 0 where
   pub points-are : l .points ≡ pointTotal p
   pub within : k ≤ l .profiles
   pub fine : first k (badCount (l .period) p) ≡ k
   pub small : from ≤ 65535 * k
   pub from-is : from ≡ pointStart p k
-  pub counts-at : counts ≡ cursorAt (l .countblock) countPer k
+  pub counts-at : counts ≡ countAt (l .countblock) k
   pub bad-is : from ≤ l .points → scan .bad ≡ firstBad (l .period) p k
   pub stands : Standing l from scan
 
 module _ (p : Plan) (l : PlanLayout) where
-  pub pass-start : (counts at : Cursor) → l .points ≡ pointTotal p → counts ≡ cursorFirst (l .countblock)
-      → at ≡ cursorFirst (l .pointblock)
-      → Passing p l 0 0 counts (record { bad = l .points; at = at })
+  pub pass-start : (counts at : Walk) → l .points ≡ pointTotal p → counts ≡ countAt (l .countblock) 0
+      → at ≡ pointAt (l .pointblock) 0 → Passing p l 0 0 counts (record { bad = l .points; at = at })
   unfolding pointStart
   pass-start counts at e f g = record {
     points-are = e;
@@ -125,12 +123,12 @@ module _ (p : Plan) (l : PlanLayout) where
     fine = none-yet _;
     small = omega arith;
     from-is = total-none (pointCount p);
-    counts-at = f ∙ cursor-first (l .countblock) countPer (lit< tt);
+    counts-at = f;
     bad-is = λ _. e ∙ sym (bad-none (l .period) p 0 (rw (none-yet (badProfile (l .period) p))));
-    stands = record { at = λ _ _. g ∙ cursor-first (l .pointblock) profilePointPer (lit< tt) };
+    stands = record { at = λ _ _. g };
   }
 
-  module _ (k from m : ℕ) (counts : Cursor) (scan : Scan) (s : Passing p l k from counts scan)
+  module _ (k from m : ℕ) (counts : Walk) (scan : Scan) (s : Passing p l k from counts scan)
       (h : k < l .profiles) (e : m ≡ pointCount p k) where
     pub count-taken : (r : Judged) → l .period < m → r ≡ faulty 18 k
         → r ≡ judgedCounts (l .period) (l .profiles) p
@@ -139,8 +137,8 @@ module _ (p : Plan) (l : PlanLayout) where
         at-first r _ (faulty 18) (l .profiles) k (badCount (l .period) p)
         (stop _ (l .profiles) k (s .fine) h (rw (← e) (lt-ltb (l .period) m b))) h f
 
-    module _ (next : Cursor) (new : Scan) (b : m ≤ l .period) (o : m < 65536)
-        (t : ScannedOn p l from m scan new) (f : next ≡ moved countPer counts) where
+    module _ (next : Walk) (new : Scan) (b : m ≤ l .period) (o : m < 65536)
+        (t : ScannedOn p l from m scan new) (f : next ≡ countAt (l .countblock) (k + 1)) where
       scanned : from + m ≤ l .points → l .points ≤ scan .bad
           → new .bad ≡ cond (badProfile (l .period) p k) (firstBadPoint (l .period) p k) (l .points)
       unfolding badProfile firstBadPoint
@@ -171,7 +169,7 @@ module _ (p : Plan) (l : PlanLayout) where
         fine = pass _ k (s .fine) (rw (← e) (le-ltb (l .period) m b));
         small = omega (arith, s .small);
         from-is = total-more (pointCount p) from m k (s .from-is) e;
-        counts-at = f ∙ ap (moved countPer) (s .counts-at) ∙ cursor-next (l .countblock) countPer (lit< tt) k;
+        counts-at = f;
         bad-is = λ room. rw add-one (bad-more room);
         stands = record {
           at = λ room none. elim (decLt (scan .bad) (l .points)) [
@@ -182,7 +180,7 @@ module _ (p : Plan) (l : PlanLayout) where
       }
 
   -- ITS ANSWER, once no profile is left
-  module _ (k from : ℕ) (counts : Cursor) (scan : Scan) (s : Passing p l k from counts scan)
+  module _ (k from : ℕ) (counts : Walk) (scan : Scan) (s : Passing p l k from counts scan)
       (h : l .profiles ≤ k) (r : Judged) where
     last : k ≡ l .profiles
     last = omega (arith, s .within)

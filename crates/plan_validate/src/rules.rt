@@ -1,10 +1,8 @@
-// The rules 17 to 19 of document 01, on a plan file that is laid out as its header says. The profiles are
-// first asked whether they keep rules 18 and 19 (rising.rt). Where they do not, the counts and the points are
-// read in one pass: rule 19 is judged at the points of each profile while rule 18 is judged at its count, and
-// told where 18 holds everywhere.
-use crate::rising::is_rising;
-use file_blocks::cursor::Cursor;
+// The rules 17 to 19 of document 01, on a plan file that is laid out as its header says, each with the place
+// of its first fault. The counts and the points are read in one pass: rule 19 is judged at the points of each
+// profile while rule 18 is judged at its count, and told where 18 holds everywhere.
 use file_blocks::kind;
+use file_blocks::walk::Walk;
 use file_refusals::Judged;
 use file_refusals::faulty;
 use file_refusals::number;
@@ -17,10 +15,9 @@ ghost use Prim.Native.Nat.{_+_, _≤_, _<_, _^_};
 ghost use lib.Dec.{leb, ltb};
 ghost use Rattle.theory_loops.specs.First.{first};
 ghost use Rattle.plan.specs.PlanDecode.{decodePlan, PlanLaid};
-ghost use Rattle.file_blocks.specs.Cursor.{cursorAt};
-ghost use Rattle.file_blocks.specs.Kind.{profilePointPer};
 ghost use Rattle.network.specs.Limits.{mostCells};
 ghost use Rattle.plan.specs.PlanRules.{badFlags, judgedCounts, judgedFlags};
+ghost use Rattle.plan.specs.PlanWalk.{pointAt};
 ghost use Rattle.plan_validate.specs.PlanScan.{Scanned};
 ghost use Rattle.plan_validate.specs.PlanScanAll.{Standing, ScannedOn};
 
@@ -28,7 +25,7 @@ ghost use Rattle.plan_validate.specs.PlanScanAll.{Standing, ScannedOn};
 // where it stands.
 pub struct Scan {
     pub bad: usize,
-    pub at: Cursor,
+    pub at: Walk,
 }
 
 // Has the word a bit at `cells` or above?
@@ -52,7 +49,7 @@ fn is_bad_word(plan: &[u8], l: PlanLayout, a: usize) -> bool
 }
 
 // The first arc that breaks rule 17, or the count of arcs.
-fn first_bad_word(plan: &[u8], l: PlanLayout) -> usize
+pub fn first_bad_word(plan: &[u8], l: PlanLayout) -> usize
     requires { ⌜ PlanLaid (now plan) l ⌝ }
     ensures { λ r. ⌜ r ≡ first (l .arcs) (badFlags (l .cells) (decodePlan (now (plan .entry)))) ⌝ }
 {
@@ -75,18 +72,18 @@ fn is_outside(t: usize, low: usize, high: usize) -> bool
     high <= t
 }
 
-// The first bad point of one profile, `count` of them from number `from` on, where the cursor stands.
-fn find_bad(plan: &[u8], l: PlanLayout, at: Cursor, from: usize, count: usize) -> Scan
+// The first bad point of one profile, `count` of them from number `from` on, where the walk stands.
+fn find_bad(plan: &[u8], l: PlanLayout, at: Walk, from: usize, count: usize) -> Scan
     requires { ⌜ PlanLaid (now plan) l ⌝ }
     requires { ⌜ from + count ≤ l .points ⌝ }
-    requires { ⌜ at ≡ cursorAt (l .pointblock) profilePointPer from ⌝ }
+    requires { ⌜ at ≡ pointAt (l .pointblock) from ⌝ }
     ensures { λ r. ⌜ Scanned (decodePlan (now (plan .entry))) l from count r ⌝ }
 {
     let mut next = at;
     let mut low = 0;
     let mut high = 1;
     for i in 0..count {
-        let t = next.field(plan, kind::PROFILE_POINT_SIZE);
+        let t = next.field16(plan, 0);
         if is_outside(t, low, high) {
             return Scan {
                 bad: from + i,
@@ -95,7 +92,7 @@ fn find_bad(plan: &[u8], l: PlanLayout, at: Cursor, from: usize, count: usize) -
         }
         low = t + 1;
         high = l.period;
-        next = next.next(kind::PROFILE_POINT_PER);
+        next = next.next(kind::PROFILE_POINT_PER, kind::PROFILE_POINT_SIZE);
     }
     Scan {
         bad: l.points,
@@ -121,23 +118,28 @@ fn scan_on(plan: &[u8], l: PlanLayout, scan: Scan, from: usize, count: usize) ->
 }
 
 // Rules 18 and 19, with the place of the fault.
-fn scan_profiles(plan: &[u8], l: PlanLayout) -> Judged
+fn judge_profiles(plan: &[u8], l: PlanLayout) -> Judged
     requires { ⌜ PlanLaid (now plan) l ⌝ }
     ensures { λ r. ⌜ r ≡ judgedCounts (l .period) (l .profiles) (decodePlan (now (plan .entry))) ⌝ }
 {
     let profiles = l.profiles;
-    let mut counts = Cursor::new(l.countblock);
-    let at = Cursor::new(l.pointblock);
+    let mut counts = Walk::new(l.countblock, kind::COUNT_PER, kind::COUNT_SIZE, 0);
+    let at = Walk::new(
+        l.pointblock,
+        kind::PROFILE_POINT_PER,
+        kind::PROFILE_POINT_SIZE,
+        0,
+    );
     let mut scan = Scan { bad: l.points, at };
     let mut from = 0;
     for k in 0..profiles {
-        let count = counts.field(plan, kind::COUNT_SIZE);
+        let count = counts.field16(plan, 0);
         if l.period < count {
             return faulty(number::PLAN_COUNT, k as u32);
         }
         scan = scan_on(plan, l, scan, from, count);
         from += count;
-        counts = counts.next(kind::COUNT_PER);
+        counts = counts.next(kind::COUNT_PER, kind::COUNT_SIZE);
     }
     if from != l.points {
         return faulty(number::PLAN_COUNT, profiles as u32);
@@ -147,17 +149,6 @@ fn scan_profiles(plan: &[u8], l: PlanLayout) -> Judged
         return faulty(number::PLAN_TICK, bad as u32);
     }
     Judged::Sound
-}
-
-// Rules 18 and 19. Where they are kept, a test that finds no place says so sooner.
-fn judge_profiles(plan: &[u8], l: PlanLayout) -> Judged
-    requires { ⌜ PlanLaid (now plan) l ⌝ }
-    ensures { λ r. ⌜ r ≡ judgedCounts (l .period) (l .profiles) (decodePlan (now (plan .entry))) ⌝ }
-{
-    if is_rising(plan, l) {
-        return Judged::Sound;
-    }
-    scan_profiles(plan, l)
 }
 
 // The lowest of the rules 17 to 19 that the plan breaks, and its lowest place.

@@ -1,21 +1,21 @@
-// Validation of a plan file against a network file that has been validated: refusals 11 to 19, in place, each
-// fault found as the first in its order. Nothing is copied, and every call ends at the first refusal.
+// Validation of a plan file against a network file that has been validated: refusals 11 to 19, in place. A
+// file that is well-formed is told by one pass over it (well_formed.rt); in any other each fault is looked
+// for as the first in its order. Nothing is copied, and every call ends at the first refusal.
+use crate::header::header_at;
+use crate::header::is_first_formed;
+use crate::header::is_matching;
 use crate::rules::judge_plan;
+use crate::well_formed::is_well_formed;
 use file_blocks::form::first_unformed;
 use file_blocks::form::is_bad_length;
-use file_blocks::form::is_formed;
 use file_blocks::kind;
 use file_blocks::reader::first_bad_sum;
 use file_fields::BLOCK;
-use file_fields::fields::le16;
-use file_fields::fields::le32;
 use file_refusals::Judged;
 use file_refusals::number;
 use network::header::Header;
-use network::header::Layout;
 use plan::answer::Planning;
 use plan::answer::refused;
-use plan::borders;
 use plan::header::PlanHeader;
 use plan::header::PlanLayout;
 use plan::limits;
@@ -23,7 +23,6 @@ ghost use mathlib.Core.Path.{_≡_};
 ghost use Prim.Native.Nat.{_+_, _*_, _≤_};
 ghost use lib.ListN.{length};
 ghost use Rattle.file_fields.specs.Block.{blockSize};
-ghost use Rattle.network.specs.Layout.{layoutOf};
 ghost use Rattle.network.specs.Decode.{decode};
 ghost use Rattle.network.specs.Town.{partitionOf};
 ghost use Rattle.network.specs.Valid.{ValidFile};
@@ -31,61 +30,8 @@ ghost use Rattle.plan.specs.Border.{borderCount};
 ghost use Rattle.plan.specs.PlanHeader.{planHeaderAt, PlanWithin};
 ghost use Rattle.plan.specs.PlanDecode.{decodePlan, PlanLaid};
 ghost use Rattle.plan.specs.PlanRules.{judgedFlags, judgedBy};
-ghost use Rattle.plan.specs.PlanValidate.{firstFormed, matching, firstUnformed, plannedRules};
+ghost use Rattle.plan.specs.PlanValidate.{firstUnformed, plannedRules};
 ghost use Rattle.plan.specs.PlanValidate.{plannedForm, plannedLength, plannedHeader, plannedFirst, planned};
-
-// The byte after the header's entry, whose block has a head of 8 bytes.
-const HEADER_END: usize = 8 + kind::PLAN_SIZE;
-
-// The numbers of the first block.
-fn header_at(plan: &[u8]) -> PlanHeader
-    requires { ⌜ blockSize ≤ length (now plan) ⌝ }
-    ensures { λ r. ⌜ r ≡ planHeaderAt (now (plan .entry)) ⌝ }
-{
-    PlanHeader {
-        number: le32(plan, 8),
-        period: le16(plan, 12),
-        nodes: le16(plan, 14),
-        arcs: le16(plan, 16),
-        cells: le16(plan, 18),
-        borders: le16(plan, 20),
-        points: le32(plan, 24),
-    }
-}
-
-// Refusal 13 does not apply: the first block's form, the 16 zero bits among its fill.
-fn is_first_formed(plan: &[u8]) -> bool
-    requires { ⌜ blockSize ≤ length (now plan) ⌝ }
-    ensures { λ r. ⌜ r ≡ firstFormed (now (plan .entry)) ⌝ }
-{
-    is_formed(plan, 0, kind::PLAN, 1, HEADER_END) && le16(plan, 22) == 0
-}
-
-// Refusal 14 does not apply: the numbers are the network's.
-fn is_matching(h: Header, borders: usize, k: PlanHeader) -> bool
-    ensures { λ r. ⌜ r ≡ matching h borders k ⌝ }
-{
-    if k.number != h.number {
-        return false;
-    }
-    if k.period != h.period {
-        return false;
-    }
-    if k.nodes != h.nodes {
-        return false;
-    }
-    if k.arcs != h.arcs {
-        return false;
-    }
-    if k.cells != h.cells {
-        return false;
-    }
-    let count = k.borders as usize;
-    if count != borders {
-        return false;
-    }
-    k.points <= limits::MOST_POINTS
-}
 
 // The first block after the header that is out of its form, or the count of blocks.
 fn first_bad_form(plan: &[u8], l: PlanLayout) -> usize
@@ -155,55 +101,49 @@ fn validate_length(plan: &[u8], k: PlanHeader) -> Planning
     validate_form(plan, k, l)
 }
 
-// How many borders the network has.
-fn count_borders(network: &[u8], h: Header, l: Layout) -> usize
-    requires { ⌜ ValidFile (now network) h ⌝ }
-    requires { ⌜ l ≡ layoutOf h ⌝ }
-    ensures { λ r. ⌜ r ≡ borderCount (partitionOf (decode (now (network .entry)))) ⌝ }
-{
-    borders::count_borders(network, l)
-}
-
 // Refusals 14 to 19.
-fn validate_header(network: &[u8], h: Header, l: Layout, plan: &[u8]) -> Planning
+fn validate_header(network: &[u8], h: Header, borders: usize, plan: &[u8]) -> Planning
     requires { ⌜ ValidFile (now network) h ⌝ }
-    requires { ⌜ l ≡ layoutOf h ⌝ }
+    requires { ⌜ borders ≡ borderCount (partitionOf (decode (now network))) ⌝ }
     requires { ⌜ blockSize ≤ length (now plan) ⌝ }
     ensures { λ r. ⌜ r ≡ plannedHeader h (decode (now (network .entry))) (now (plan .entry)) ⌝ }
 {
     let k = header_at(plan);
-    if is_matching(h, count_borders(network, h, l), k) {
+    if is_matching(h, borders, k) {
         return validate_length(plan, k);
     }
     refused(number::PLAN_OTHER, 0)
 }
 
 // Refusals 13 to 19.
-fn validate_first(network: &[u8], h: Header, l: Layout, plan: &[u8]) -> Planning
+fn validate_first(network: &[u8], h: Header, borders: usize, plan: &[u8]) -> Planning
     requires { ⌜ ValidFile (now network) h ⌝ }
-    requires { ⌜ l ≡ layoutOf h ⌝ }
+    requires { ⌜ borders ≡ borderCount (partitionOf (decode (now network))) ⌝ }
     requires { ⌜ blockSize ≤ length (now plan) ⌝ }
     ensures { λ r. ⌜ r ≡ plannedFirst h (decode (now (network .entry))) (now (plan .entry)) ⌝ }
 {
     if is_first_formed(plan) {
-        return validate_header(network, h, l, plan);
+        return validate_header(network, h, borders, plan);
     }
     refused(number::PLAN_FIRST, 0)
 }
 
 // The header of a well-formed plan for the network, or the lowest of the refusals 11 to 19 and its lowest
-// place.
-pub fn validate_plan(network: &[u8], h: Header, l: Layout, plan: &[u8]) -> Planning
+// place. The network has so many borders: they are counted by the caller, whose stack is then free again.
+pub fn validate_plan(network: &[u8], h: Header, borders: usize, plan: &[u8]) -> Planning
     requires { ⌜ ValidFile (now network) h ⌝ }
-    requires { ⌜ l ≡ layoutOf h ⌝ }
+    requires { ⌜ borders ≡ borderCount (partitionOf (decode (now network))) ⌝ }
     ensures { λ r. ⌜ r ≡ planned h (decode (now (network .entry))) (now (plan .entry)) ⌝ }
 {
     if is_bad_length(plan.len(), limits::MOST_BYTES) {
         return refused(number::PLAN_LENGTH, 0);
     }
+    if is_well_formed(network, h, borders, plan) {
+        return Planning::WellFormed(header_at(plan));
+    }
     let b = first_bad_sum(plan);
     if b < plan.len() / BLOCK {
         return refused(number::PLAN_SUM, b as u32);
     }
-    validate_first(network, h, l, plan)
+    validate_first(network, h, borders, plan)
 }

@@ -1,17 +1,21 @@
 // profile_runs: the numbers of a profile over the day, from its points as the plan file has them: as runs of
 // equal value, their least and their greatest. Each point is read once, so its runs take as many finds as
 // it has points. A profile without points has no numbers, and is not asked for.
-// It may call `plan` for the entries of the file and `day_runs` for runs; it cites `plan_values` and
-// `theory_paths` for profiles and `theory_travel` for the line.
+// It may call `plan` for the entries of the file, `file_blocks` for the walk over points and `day_runs` for
+// runs; it cites `plan_values` and `theory_paths` for profiles and `theory_travel` for the line.
+use file_blocks::kind;
+use file_blocks::walk::Walk;
 use network::limits::MOST_NODES;
 use plan::header::PlanLayout;
 use plan::read;
 ghost use mathlib.Core.Path.{_≡_};
-ghost use Prim.Native.Nat.{_+_, _*_, _^_, _≤_, _<_};
+ghost use Prim.Native.Nat.{_+_, _*_, _/_, _^_, _≤_, _<_};
 ghost use Rattle.theory_travel.specs.Day.{Day};
 ghost use Rattle.theory_travel.specs.Table.{entryAt, valueAt};
+ghost use Rattle.file_blocks.specs.Kind.{profilePointPer};
 ghost use Rattle.plan.specs.Plan.{pointCount};
 ghost use Rattle.plan.specs.PlanDecode.{PlanLaid, decodePlan};
+ghost use Rattle.plan.specs.PlanWalk.{pointAt};
 ghost use Rattle.plan_values.specs.Formed.{Formed};
 ghost use Rattle.plan_values.specs.Starts.{Started};
 ghost use Rattle.day_runs.specs.Runs.{Runs};
@@ -19,11 +23,24 @@ ghost use Rattle.day_runs.specs.Filling.{Space};
 ghost use Rattle.day_runs.specs.Bounds.{Least, Most, Floor, Ceiling};
 ghost use Rattle.profile_runs.specs.Numbers.{numberAt};
 
+// The bytes of a point at which its tick and its travel stand.
+const TICK_AT: usize = 0;
+
+const TRAVEL_AT: usize = 2;
+
 // An entry of the table of starts as a size.
 fn wide(x: u32) -> usize
     ensures { λ r. ⌜ r ≡ x ⌝ }
 {
     x as usize
+}
+
+// The walk before point q, where the points start in block `block`.
+fn point_at(block: usize, q: usize) -> Walk
+    requires { ⌜ block + q / profilePointPer < 2 ^ 54 ⌝ }
+    ensures { λ r. ⌜ r ≡ pointAt block q ⌝ }
+{
+    Walk::new(block, kind::PROFILE_POINT_PER, kind::PROFILE_POINT_SIZE, q)
 }
 
 // The runs of the day by `count` points from `from` on. Answers their number.
@@ -45,20 +62,21 @@ fn fill_points(
         (l .period)) × (now (finds .exit) ≡ now (finds .entry) + count) ⌝ }
 {
     let last = count - 1;
-    let begin = read::travel(plan, l, from);
+    let mut at = point_at(l.pointblock, from);
+    let begin = at.field32(plan, TRAVEL_AT);
     starts[0] = 0;
     let mut n = 0;
     let mut a = 0;
     let mut v = begin;
     for k in 0..last {
-        let b = read::tick(plan, l, from + (k + 1));
-        let w = read::travel(plan, l, from + (k + 1));
+        at = at.next(kind::PROFILE_POINT_PER, kind::PROFILE_POINT_SIZE);
+        let b = at.field16(plan, TICK_AT);
+        let w = at.field32(plan, TRAVEL_AT);
         n = day_runs::extend(starts, values, n, a, v, b, w, finds);
         a = b;
         v = w;
     }
-    let closed = day_runs::extend(starts, values, n, a, v, l.period, begin, finds);
-    day_runs::close(starts, values, closed, l.period, begin)
+    day_runs::finish(starts, values, n, a, v, l.period, begin, finds)
 }
 
 // The runs of the profile of border number i and node u, which has points: `firsts` is the table of where
@@ -95,9 +113,13 @@ fn least_point(plan: &[u8], l: PlanLayout, from: usize, count: usize) -> u32
     requires { ⌜ (0 < count) × (from + count ≤ l .points) ⌝ }
     ensures { λ r. ⌜ Least (entryAt (decodePlan (now (plan .entry)) .travels) from) count r ⌝ }
 {
-    let mut least = read::travel(plan, l, from);
-    for k in 1..count {
-        least = day_runs::lesser(least, read::travel(plan, l, from + k));
+    let last = count - 1;
+    let block = l.pointblock;
+    let mut at = point_at(block, from);
+    let mut least = at.field32(plan, TRAVEL_AT);
+    for k in 0..last {
+        at = at.next(kind::PROFILE_POINT_PER, kind::PROFILE_POINT_SIZE);
+        least = day_runs::lesser(least, at.field32(plan, TRAVEL_AT));
     }
     least
 }
@@ -108,9 +130,13 @@ fn greatest_point(plan: &[u8], l: PlanLayout, from: usize, count: usize) -> u32
     requires { ⌜ (0 < count) × (from + count ≤ l .points) ⌝ }
     ensures { λ r. ⌜ Most (entryAt (decodePlan (now (plan .entry)) .travels) from) count r ⌝ }
 {
-    let mut greatest = read::travel(plan, l, from);
-    for k in 1..count {
-        greatest = day_runs::greater(greatest, read::travel(plan, l, from + k));
+    let last = count - 1;
+    let block = l.pointblock;
+    let mut at = point_at(block, from);
+    let mut greatest = at.field32(plan, TRAVEL_AT);
+    for k in 0..last {
+        at = at.next(kind::PROFILE_POINT_PER, kind::PROFILE_POINT_SIZE);
+        greatest = day_runs::greater(greatest, at.field32(plan, TRAVEL_AT));
     }
     greatest
 }

@@ -4,6 +4,7 @@
 use crate::wide;
 use network::header::Layout;
 use network::limits::MOST_ARCS;
+use network::points::Stretch;
 use network::read;
 ghost use mathlib.Core.Path.{_≡_};
 ghost use Prim.Native.Nat.{_+_, _%_, _≤_, _<_};
@@ -17,8 +18,11 @@ ghost use Rattle.theory_travel.specs.Day.{Day};
 ghost use Rattle.theory_travel.specs.Table.{entryAt, valueAt};
 ghost use Rattle.network.specs.Network.{count, start};
 ghost use Rattle.network.specs.Decode.{decode, Laid};
+ghost use Rattle.network.specs.Points.{Stands};
 ghost use Rattle.network.specs.Town.{graphOf};
 ghost use Rattle.search_arcs.specs.Town.{Town, lastTick};
+ghost use Rattle.search_arcs.specs.Stretches.{Reaching};
+ghost use Rattle.search_arcs.specs.Halves.{Step};
 ghost use Rattle.search_arcs.specs.Times.{NextStart};
 
 // The first point of each arc.
@@ -35,30 +39,47 @@ pub fn first_points(file: &[u8], l: Layout, starts: &mut [u16; MOST_ARCS])
     }
 }
 
-// A point's number, as one of 32 bits: it is to be divided by the points of a block, in fewer steps then.
-fn short(q: usize) -> usize
-    requires { ⌜ q < 65536 ⌝ }
-    ensures { λ r. ⌜ r ≡ q ⌝ }
-{
-    (q as u32) as usize
-}
-
-// The last of `count` points from `from` on that is at or before x, counted from `from`. A step changes one
-// number by what it reads.
-fn segment(file: &[u8], l: Layout, from: usize, count: usize, x: usize) -> usize
+// The stretch of the `count` points from `from` on that has the last at or before x: the points of a block
+// are passed where more follow and the next block's first is not after x.
+fn stretch_of(file: &[u8], l: Layout, from: usize, count: usize, x: usize) -> Stretch
     requires { ⌜ Laid (now file) l ⌝ }
     requires { ⌜ from + count ≤ l .points ⌝ }
     requires { ⌜ Sorted (entryAt (decode (now file) .ticks) from) count x ⌝ }
-    ensures { λ r. ⌜ Last (entryAt (decode (now (file .entry)) .ticks) from) count x r ⌝ }
+    ensures { λ r. ⌜ Reaching (decode (now (file .entry)) .ticks) l from count x r ⌝ }
+{
+    let end = from + count;
+    let mut s = Stretch::new(file, l, from);
+    while s.first + s.room < end {
+        let next = s.next(file, l);
+        if x < next.tick(file, l, 0) {
+            return s;
+        }
+        s = next;
+    }
+    s
+}
+
+// A step of a search: `half` where tick t is at or before x, else 0. It is reckoned, not branched for, since
+// neither is the likelier: bits 0 to 15 of the number that is held against `half` are all 1, or all 0.
+fn step(half: usize, t: usize, x: usize) -> usize
+    requires { ⌜ (half < 65536) × (t < 65536) × (x < 65536) ⌝ }
+    ensures { λ r. ⌜ Step half t x r ⌝ }
+{
+    half & ((4294967295 - x + t) >> 16)
+}
+
+// The last of the first n points of a stretch that is at or before x, counted from its first.
+fn segment(file: &[u8], l: Layout, s: Stretch, n: usize, x: usize) -> usize
+    requires { ⌜ Laid (now file) l × (x < 65536) ⌝ }
+    requires { ⌜ Stands l s × (n ≤ s .room) × (s .first + n ≤ l .points) ⌝ }
+    requires { ⌜ Sorted (entryAt (decode (now file) .ticks) (s .first)) n x ⌝ }
+    ensures { λ r. ⌜ Last (entryAt (decode (now (file .entry)) .ticks) (s .first)) n x r ⌝ }
 {
     let mut a = 0;
-    let mut left = count;
+    let mut left = n;
     while 1 < left {
         let half = left / 2;
-        let m = a + half;
-        if read::tick(file, l, short(from + m)) <= x {
-            a = m;
-        }
+        a += step(half, s.tick(file, l, a + half), x);
         left -= half;
     }
     a
@@ -81,13 +102,15 @@ fn travel_at(file: &[u8], l: Layout, from: usize, count: usize, x: usize) -> usi
     ensures { λ r. ⌜ r ≡ valueAt (decode (now (file .entry)) .ticks)
         (decode (now (file .entry)) .travels) from count (l .period) x ⌝ }
 {
-    let k = segment(file, l, from, count, x);
-    let a = read::tick(file, l, from + k);
-    let v = read::travel(file, l, from + k);
-    if k + 1 < count {
-        let b = read::tick(file, l, from + (k + 1));
-        let w = read::travel(file, l, from + (k + 1));
-        line(x, a, v, b, w)
+    let end = from + count;
+    let s = stretch_of(file, l, from, count, x);
+    let n = s.count_before(end);
+    let k = segment(file, l, s, n, x);
+    let a = s.tick(file, l, k);
+    let v = s.travel(file, l, k);
+    if s.first + (k + 1) < end {
+        let next = s.after(file, l, k);
+        line(x, a, v, next.tick(file, l, 0), next.travel(file, l, 0))
     } else {
         line(x, a, v, l.period, read::travel(file, l, from))
     }

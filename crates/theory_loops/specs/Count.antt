@@ -3,7 +3,7 @@
 -- of that list.
 use mathlib.Core.Path.{_≡_, refl, sym, ap}
 use mathlib.Core.Bool.{Bool, true, false, true≢false}
-use mathlib.Core.List.{List, [], _∷_, _++_}
+use mathlib.Core.List.{[], _∷_, _++_}
 use Prim.Native.Nat.{ℕ, zero, suc, _+_, _≤_, _<_}
 use native.Mathlib.Numerals.{add-one}
 use native.Mathlib.Omega.{arith}
@@ -88,19 +88,3 @@ count-same p q (suc n) h = go (p n) (q n) (h n (omega arith)) (count-same p q n 
     go true false e f = absurd (true≢false e)
     go false true e f = absurd (true≢false (sym e))
     go false false e f = f
-
-pub select-same : (p q : ℕ → Bool) (n : ℕ) → ((i : ℕ) → i < n → p i ≡ q i) → select n p ≡ select n q
-unfolding select
-select-same p q zero h = refl
-select-same p q (suc n) h = go (p n) (q n) (h n (omega arith)) (select-same p q n (λ i l. h i (omega arith)))
-  where
-    go : (s t : Bool) → s ≡ t → select n p ≡ select n q
-        → _≡_ {A = List ℕ} (elim s [ true ↦ select n p ++ (n ∷ []) | false ↦ select n p ])
-        (elim t [ true ↦ select n q ++ (n ∷ []) | false ↦ select n q ])
-    go true true e f = ap (λ (w : List ℕ). w ++ (n ∷ [])) f
-    go true false e f = absurd (true≢false e)
-    go false true e f = absurd (true≢false (sym e))
-    go false false e f = f
-
--- for `search counts` at the needs of such a loop
-pub ruleset counts = (count-none, count-yes, count-no, count-end)

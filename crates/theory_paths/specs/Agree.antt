@@ -98,9 +98,6 @@ module _ {g h : Graph} {p q : Permit} (o : 0 < g .period) (r : Agree g h p q) wh
   driven-agree {w = a ∷ w} x (step f i) = ap (driven g w) (ends-agree a x (f .listed, f .permitted))
       ∙ driven-agree (ends h a x) i
 
-  pub reachable-agree : {s t : ℕ} → Reachable g p s t → Reachable h q s t
-  reachable-agree c = record { path = c .path; leads = path-agree (c .leads) }
-
   pub arrival-agree : {s x t b : ℕ} → Arrival g p s x t b → Arrival h q s x t b
   arrival-agree {x = x} c = record {
     path = c .path;

@@ -11,7 +11,7 @@ use native.Mathlib.Nat.{le-refl, le-trans, le-of-lt, le-of-eq, le-step, le-of-su
 use native.Mathlib.Omega.{arith}
 use native.Mathlib.Decide.{ℕ-discrete, decLe, le-ind}
 use lib.ListN.{length, getD, set, replicate, length-set, length-replicate, length-append}
-use lib.Seq.{getD-set-same, getD-set-other, ext-getD}
+use lib.Seq.{getD-set-same, getD-set-other}
 use Rattle.theory_paths.specs.Graph.{
   Graph,
   Lawful,
@@ -27,7 +27,7 @@ use Rattle.theory_paths.specs.Graph.{
   Reachable,
 }
 use Rattle.theory_paths.specs.Drive.{driven-append, path-append, arc-takes, path-takes}
-use Rattle.theory_paths.specs.Earliest.{never, Exact, exact-equal, exact-never}
+use Rattle.theory_paths.specs.Earliest.{never, Exact, exact-never}
 use Rattle.theory_paths.specs.Simple.{shorten}
 
 abbrev pub label : List ℕ → ℕ → ℕ
@@ -180,10 +180,6 @@ module _ {g : Graph} (ok : Lawful g) (p : Permit) (s x : ℕ) where
   unfolding rounds
   rounds-size zero = simp (length-set, length-replicate)
   rounds-size (suc k) = relaxed-size g p (rounds g p s x k) (g .arcs) ∙ rounds-size k
-
-  pub labels-size : length (labels g p s x) ≡ g .nodes
-  unfolding labels
-  labels-size = rounds-size (g .nodes)
 
   -- the label of u after k rounds
   abbrev after : ℕ → ℕ → ℕ

@@ -4,7 +4,6 @@
 use mathlib.Core.Path.{_≡_, sym, _∙_, ap}
 use mathlib.Core.Bool.{cond}
 use Prim.Native.Nat.{ℕ, suc, _+_, _-_, _%_, _≤_, _<_}
-use native.Mathlib.Nat.{mod-lt}
 use native.Mathlib.Decide.{decLt}
 use native.Mathlib.Numerals.{add-one}
 use native.Mathlib.Omega.{arith}
@@ -23,7 +22,7 @@ use Rattle.theory_travel.specs.Points.{
   value-most,
   fifo-over,
 }
-use Rattle.theory_travel.specs.Search.{Sorted, Last, last-at, last-next}
+use Rattle.theory_travel.specs.Search.{Sorted, Last}
 
 -- f at the day's n points, and from there on e, the next day's first
 unfoldable pub closed : ℕ → (ℕ → ℕ) → ℕ → ℕ → ℕ
@@ -50,13 +49,6 @@ module _ (n : ℕ) (f : ℕ → ℕ) (e : ℕ) where
   closed-end i l = rw (le-ltb i n l)
 
 module _ {t : ℕ → ℕ} {n period : ℕ} (d : Day t n period) where
-  pub day-positive : 0 < period
-  day-positive = omega (arith, d .below 0 (d .some))
-
-  -- any tick, reduced, is one of the day
-  pub day-reduced : (tick : ℕ) → tick % period < period
-  day-reduced tick = mod-lt tick day-positive
-
   -- its ticks can be searched for any tick
   pub day-sorted : (x : ℕ) → Sorted t n x
   day-sorted x = record { some = d .some; begun = omega (arith, d .start); rise = d .rise }
@@ -136,6 +128,3 @@ module _ (t v : ℕ → ℕ) (n period x k r a p b q : ℕ) (at : Last t n x k) 
   pub to-first : n ≤ k + 1 → b ≡ period → q ≡ v 0 → r ≡ dayValue t v n period x
   to-first l h i =
       on-line (h ∙ sym (closed-end n t period (k + 1) l)) (i ∙ sym (closed-end n v (v 0) (k + 1) l))
-
--- for `search readings` at the needs of such code
-pub ruleset readings = (to-next, to-first, day-positive, day-reduced, day-sorted, last-at, last-next)

@@ -23,13 +23,6 @@ pub record Last (t : ℕ → ℕ) (n x k : ℕ) : Type 0 where
   pub at : t k ≤ x
   pub next : k + 1 < n → x < t (k + 1)
 
--- of the ticks a and b that the reader has read there
-pub last-at : (t : ℕ → ℕ) (n x k a : ℕ) → Last t n x k → a ≡ t k → a ≤ x
-last-at t n x k a h e = rw e (h .at)
-
-pub last-next : (t : ℕ → ℕ) (n x k b : ℕ) → Last t n x k → k + 1 < n → b ≡ t (k + 1) → x < b
-last-next t n x k b h l e = rw e (h .next l)
-
 -- the invariant: point a is at or before x, and point b, if there is one, after it
 pub record Between (t : ℕ → ℕ) (n x a b : ℕ) : Type 0 where
   pub sorted : Sorted t n x

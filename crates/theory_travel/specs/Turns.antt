@@ -4,17 +4,15 @@
 -- (`turns-value`): between two of them the line meets every tick's value exactly, so rounding plays no part.
 use mathlib.Core.Path.{_≡_, refl, sym, _∙_, ap}
 use mathlib.Core.Bool.{Bool, true, false, not, _||_, true≢false}
-use mathlib.Core.List.{List}
 use Prim.Native.Nat.{ℕ, zero, suc, _+_, _-_, _*_, _≤_, _<_}
 use native.Mathlib.Decide.{decLt}
 use native.Mathlib.Omega.{arith}
 use lib.ListN.{length, getD}
 use lib.Dec.{eqb}
-use borrow.Author.Tests.{eqb-true, eq-eqb, ne-eqb}
+use borrow.Author.Tests.{eqb-true}
 use Rattle.theory_loops.specs.First.{first-same}
 use Rattle.theory_loops.specs.Select.{select, Selected, selected, select-rises, rank-rises}
 use Rattle.theory_loops.specs.Count.{count, count-none, count-select, count-few, counted-at, count-same}
-use Rattle.theory_loops.specs.Count.{select-same}
 use Rattle.theory_travel.specs.Line.{line, line-exact}
 use Rattle.theory_travel.specs.Points.{Segment, segment, value, segment-is}
 use Rattle.theory_travel.specs.Day.{Day, closed, closed-in, closed-end, dayValue}
@@ -243,11 +241,6 @@ module _ (f g : ℕ → ℕ) (period : ℕ) (e : (x : ℕ) → x < period → f 
   unfolding turnCount
   turn-count-same = count-same (turns f period) (turns g period) period turns-same
 
-  pub turn-tick-same : (i : ℕ) → turnTick f period i ≡ turnTick g period i
-  unfolding turnTick
-  turn-tick-same i = ap (λ (w : List ℕ). getD w i 0) (select-same (turns f period) (turns g period) period
-      turns-same)
-
 -- FOR A READER of points that stand anywhere: n points (t i, v i) that are these
 closed-same : (n : ℕ) (f h : ℕ → ℕ) (d e : ℕ) → d ≡ e → ((i : ℕ) → i < n → f i ≡ h i) → (i : ℕ)
     → closed n f d i ≡ closed n h e i
@@ -289,27 +282,3 @@ module _ (f : ℕ → ℕ) (period : ℕ) (some : 0 < period) {t : ℕ → ℕ} 
       (closed-same n t (turnTick f period) period period refl r)
       (closed-same n v (turnValue f period) (v 0) (turnValue f period 0) (q 0 (turned-day .some)) q)
       ∙ (rw (← c) at (turns-value f period some x h))
-
--- FOR A LOOP over the ticks, in which a, b and d are the values before, at and after tick x
-module _ (f : ℕ → ℕ) (period : ℕ) where
-  module _ (x a b d : ℕ) (later : 0 < x) (below : x < period) (e : a ≡ f (x - 1)) (g : b ≡ f x)
-      (h : d ≡ around f period (x + 1)) where
-    turn-is-straight : straight f period x ≡ eqb (a + d) (b + b)
-    turn-is-straight = rw (e, g, h, closed-in period f (f 0) (x - 1) (omega arith))
-
-    pub turn-yes : (a + d ≡ b + b → ⊥) → turns f period x ≡ true
-    unfolding turns
-    turn-yes ne = rw (ne-eqb x 0 (omega arith), turn-is-straight, ne-eqb (a + d) (b + b) ne)
-
-    pub turn-no : a + d ≡ b + b → turns f period x ≡ false
-    unfolding turns
-    turn-no q = rw (ne-eqb x 0 (omega arith), turn-is-straight, eq-eqb (a + d) (b + b) q)
-
-  pub after-tick : (x d : ℕ) → x + 1 < period → d ≡ f (x + 1) → d ≡ around f period (x + 1)
-  after-tick x d l e = e ∙ sym (closed-in period f (f 0) (x + 1) l)
-
-  pub after-last : (x d : ℕ) → period ≤ x + 1 → d ≡ f 0 → d ≡ around f period (x + 1)
-  after-last x d l e = e ∙ sym (closed-end period f (f 0) (x + 1) l)
-
--- for `search turnings` at the needs of such a loop
-pub ruleset turnings = (turn-start, turn-yes, turn-no, after-tick, after-last)

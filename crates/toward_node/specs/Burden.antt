@@ -1,6 +1,7 @@
 -- What is left to do, as a number: it falls with each node that is taken. Twice the sum of all numbers, and
 -- the dirty nodes: an arc that lowers some number makes at most one more node dirty.
-use mathlib.Core.Path.{_≡_, ap}
+use mathlib.Core.Path.{_≡_, refl, ap}
+use mathlib.Core.Bool.{false}
 use mathlib.Core.Logic.{_≢_}
 use mathlib.Core.List.{List}
 use Prim.Native.Nat.{ℕ, zero, suc, _+_, _*_, _≤_, _<_, min}
@@ -63,12 +64,13 @@ module _ (n : ℕ) (D : List ℕ) (v : ℕ) (l : v < mostNodes) (m : v < length 
   burden-clear W ne = omega (arith, total-set D mostNodes v 0 l m, ne)
 
   -- some number fell, and a node is dirty
-  pub burden-lower : {p e r : ℕ} {f : ℕ → ℕ} {W M : List ℕ} → Cut p e f W M r → 0 < r → e ≤ n
+  pub burden-lower : {p e r : ℕ} {f : ℕ → ℕ} {W M : List ℕ} → Cut false p e f W M r → 0 < r
+      → e ≤ n
       → ((k : ℕ) → p ≤ k → k < e → f k ≤ getD W k 0)
       → (d : ℕ) → burden n M (set D v d) ≤ burden n W D
   unfolding burden entries
   burden-lower {p} {e} {W = W} {M = M} c some within low d =
-      let w = c .some some in
+      let w = c .some refl some in
       let at : w .at < n = omega (arith, w .to) in
       omega (
         arith,

@@ -19,7 +19,7 @@ use Rattle.theory_paths.specs.Earliest.{never}
 use Rattle.network.specs.declared.header.Layout.{Layout}
 use Rattle.network.specs.Decode.{Small}
 use Rattle.network.specs.Limits.{mostNodes}
-use Rattle.toward_row.specs.Lower.{Capped, Fresh}
+use Rattle.toward_row.specs.Lower.{Capped, Known}
 use Rattle.toward_node.specs.Burden.{flag, total-set, total-flag}
 
 -- how many nodes have numbers
@@ -31,7 +31,6 @@ pub record Heights (l : Layout) (W D H : List ℕ) : Type 0 where
   pub size : length W ≡ l .nodes * l .period
   pub wide : l .nodes ≤ length D
   pub tall : l .nodes ≤ length H
-  pub bare : (u x : ℕ) → u < l .nodes → x < l .period → getD H u 0 ≡ 0 → gridAt (l .period) W u x ≡ never
   pub high : (u x : ℕ) → u < l .nodes → x < l .period → gridAt (l .period) W u x + getD H u 0 ≤ never
   pub bound : (u : ℕ) → u < l .nodes → getD H u 0 ≢ 0
       → never + l .period ≤ getD H u 0 + numbered H * l .period
@@ -107,7 +106,6 @@ module _ {l : Layout} (s : Small l) {W D H : List ℕ} (o : Heights l W D H) whe
     size = o .size;
     wide = rw (length-set D v 0) (o .wide);
     tall = o .tall;
-    bare = o .bare;
     high = o .high;
     bound = o .bound;
     dirty = λ u m d. o .dirty u m (λ z. d (clean u z));
@@ -124,12 +122,11 @@ module _ {l : Layout} (s : Small l) {W D H : List ℕ} (o : Heights l W D H) whe
       ]
 
   -- FOR CODE that lowers the row of node u
-  pub heights-fresh : {u : ℕ} {first : Bool} → u < l .nodes → (first ≡ true → getD H u 0 ≡ 0)
-      → (first ≡ false → getD H u 0 ≢ 0) → Fresh first W (u * l .period) (u * l .period + l .period)
+  pub heights-known : {u : ℕ} {first : Bool} → u < l .nodes → (first ≡ false → getD H u 0 ≢ 0)
+      → Known first W (u * l .period) (u * l .period + l .period)
   unfolding gridAt
-  heights-fresh {u} n e f = record {
-    none = λ t k lo hi. rw (place k lo) at (o .bare u (k - u * l .period) n (omega arith) (e t));
-    known = λ t. record {
+  heights-known {u} n f = record {
+    numbers = λ t. record {
       entry = λ k lo hi.
           let z = rw (place k lo) at (number-early u (k - u * l .period) n (omega arith) (f t)) in
           omega (arith, numbered-early);
@@ -183,10 +180,6 @@ module _ {l : Layout} (s : Small l) {W D H : List ℕ} (o : Heights l W D H) whe
       size = long ∙ o .size;
       wide = rw (length-set D u near) (o .wide);
       tall = rw (length-set H u (never - high)) (o .tall);
-      bare = λ w x m h z. elim (ℕ-discrete w u) [
-        | yes e ↦ absurd (omega (arith, room-set, rw e at z, early))
-        | no e ↦ other w x m h e ∙ o .bare w x m h (sym (getD-set-other H u w (never - high) 0 e) ∙ z)
-      ];
       high = λ w x m h. elim (ℕ-discrete w u) [
         | yes e ↦ rw e (omega (arith, room-set, top .most x h, early))
         | no e ↦ omega (arith, other w x m h e, getD-set-other H u w (never - high) 0 e, o .high w x m h)
@@ -242,7 +235,7 @@ module _ (b e : ℕ) (n : b < mostNodes) where
   pub only-same : getD (set (replicate mostNodes 0) b e) b 0 ≡ e
   only-same = getD-set-same (replicate mostNodes 0) b e 0 (rw (length-replicate {A = ℕ} mostNodes 0) n)
 
-  only-other : (u : ℕ) → u < mostNodes → u ≢ b → getD (set (replicate mostNodes 0) b e) u 0 ≡ 0
+  pub only-other : (u : ℕ) → u < mostNodes → u ≢ b → getD (set (replicate mostNodes 0) b e) u 0 ≡ 0
   only-other u h ne =
       getD-set-other (replicate mostNodes 0) b u e 0 ne ∙ getD-replicate mostNodes u 0 0 h
 
@@ -276,10 +269,6 @@ heights-first {l} {b} {W} n size few home away = record {
   size = size;
   wide = omega (arith, only-long b never node);
   tall = omega (arith, only-long b never node);
-  bare = λ u x m h z. elim (ℕ-discrete u b) [
-    | yes e ↦ absurd (omega (arith, same, rw e at z))
-    | no e ↦ away u x m h e
-  ];
   high = λ u x m h. elim (ℕ-discrete u b) [
     | yes e ↦ rw e (omega (arith, same, home x h))
     | no e ↦ omega (arith, away u x m h e, other u m e)

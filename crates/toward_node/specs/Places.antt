@@ -1,4 +1,4 @@
--- Where a node's row stands, and the laws of the loops that copy one, clear one, and look for a dirty node.
+-- Where a node's row stands, and the laws of the loops that copy one, fill one, and look for a dirty node.
 use mathlib.Core.Path.{_≡_, refl, sym, _∙_, ap}
 use mathlib.Core.Logic.{_≢_}
 use mathlib.Core.List.{List}
@@ -44,9 +44,9 @@ pub copy-row : (W old new : List ℕ) (p v wide : ℕ) → p ≡ v * wide → Fi
 unfolding copied gridAt
 copy-row W old new p v wide e f = rw e at f
 
-pub row-zero : (old new : List ℕ) (p s n : ℕ) → p ≡ s → Filled p (p + n) (λ _. 0) old new
-    → Filled s (s + n) (λ _. 0) old new
-row-zero old new p s n e f = rw (← e) f
+pub row-filled : (value : ℕ) (old new : List ℕ) (p s n : ℕ) → p ≡ s → Filled p (p + n) (λ _. value) old new
+    → Filled s (s + n) (λ _. value) old new
+row-filled value old new p s n e f = rw (← e) f
 
 -- FOR THE LEAST of a row from place p up to place e: no entry from p up to place i is less
 pub record Lower (p i : ℕ) (W : List ℕ) (low : ℕ) : Type 0 where

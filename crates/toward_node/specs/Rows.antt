@@ -1,7 +1,7 @@
 -- Numbers in one list, row by row: node u's number at tick x stands at place u × period + x. What an arc
 -- lowered into the row of its tail makes of the list.
 use mathlib.Core.Path.{_≡_, refl, sym, _∙_, ap}
-use mathlib.Core.Bool.{Bool}
+use mathlib.Core.Bool.{Bool, false}
 use mathlib.Core.Logic.{_≢_}
 use mathlib.Core.List.{List, _++_}
 use Prim.Native.Nat.{ℕ, _+_, _-_, _*_, _%_, _≤_, _<_, min}
@@ -15,7 +15,7 @@ use Rattle.theory_paths.specs.Graph.{Graph}
 use Rattle.theory_paths.specs.Least.{Travels, leastTicks}
 use Rattle.theory_paths.specs.Settled.{givesTicks}
 use Rattle.toward_row.specs.Cut.{Cut}
-use Rattle.toward_row.specs.Lower.{entries, offer, lowered, Fresh}
+use Rattle.toward_row.specs.Lower.{entries, offer, lowest, lowered, Known}
 use Rattle.theory_paths.specs.Queue.{Lowering}
 
 abbrev pub rowsOf : ℕ → List ℕ → Travels
@@ -42,11 +42,12 @@ pub worked-one : {g : Graph} {b goal : ℕ} {W : List ℕ} → goal < g .nodes �
 worked-one {goal = goal} l w = record { at = λ x h. w .at goal x l (λ _. refl) h }
 
 -- A row that starts at place p, lowered by an arc with travel w, where h has its head's numbers.
-unfoldable pub rowLowered : (ℕ → ℕ) → (ℕ → ℕ) → ℕ → ℕ → List ℕ → ℕ → ℕ
-rowLowered w h wide p W k = min (getD W k 0) (offer w h wide (k - p))
+unfoldable pub rowLowered : Bool → (ℕ → ℕ) → (ℕ → ℕ) → ℕ → ℕ → List ℕ → ℕ → ℕ
+rowLowered first w h wide p W k = lowest first (getD W k 0) (offer w h wide (k - p))
 
-pub row-lower : (w h : ℕ → ℕ) (wide p : ℕ) (W : List ℕ) (k : ℕ) → rowLowered w h wide p W k ≤ getD W k 0
-unfolding rowLowered
+pub row-lower : (w h : ℕ → ℕ) (wide p : ℕ) (W : List ℕ) (k : ℕ)
+    → rowLowered false w h wide p W k ≤ getD W k 0
+unfolding rowLowered lowest
 row-lower w h wide p W k = omega arith
 
 -- THE ROW OF NODE u, lent as a part of the list from place p up to place e
@@ -104,9 +105,9 @@ part-was W p e k h i =
     getD-take (e - p) (drop p W) (k - p) 0 (omega arith) ∙ getD-drop p W (k - p) 0
     ∙ ap (λ (j : ℕ). getD W j 0) q
 
-pub row-back : (w h : ℕ → ℕ) (W ys : List ℕ) (p e n r : ℕ) → p ≤ e → e ≤ length W → n ≡ e - p
-    → Cut 0 n (lowered w h n (take (e - p) (drop p W))) (take (e - p) (drop p W)) ys r
-    → Cut p e (rowLowered w h n p W) W (take p W ++ (ys ++ drop (e - p) (drop p W))) r
+pub row-back : {first : Bool} (w h : ℕ → ℕ) (W ys : List ℕ) (p e n r : ℕ) → p ≤ e → e ≤ length W
+    → n ≡ e - p → Cut first 0 n (lowered first w h n (take (e - p) (drop p W))) (take (e - p) (drop p W)) ys r
+    → Cut first p e (rowLowered first w h n p W) W (take p W ++ (ys ++ drop (e - p) (drop p W))) r
 unfolding rowLowered lowered
 row-back w h W ys p e n r l m z c = record {
   filled = record {
@@ -118,10 +119,11 @@ row-back w h W ys p e n r l m z c = record {
     after = λ k lo. back-after W ys p e l m size k lo;
   };
   few = omega (arith, c .few);
-  none = λ q k lo hi. back-part W ys p e l m size k lo hi ∙ c .none q (k - p) (omega arith) (omega arith)
+  all = λ t. omega (arith, c .all t);
+  none = λ t q k lo hi. back-part W ys p e l m size k lo hi ∙ c .none t q (k - p) (omega arith) (omega arith)
       ∙ part-was W p e k lo hi;
-  some = λ q.
-      let f = c .some q in
+  some = λ t q.
+      let f = c .some t q in
       let to : f .at < n = f .to in
       let b : f .at + p - p ≡ f .at = omega arith in
       let less : getD ys (f .at + p - p) 0 < getD (take (e - p) (drop p W)) (f .at + p - p) 0 =
@@ -145,18 +147,17 @@ row-back w h W ys p e n r l m z c = record {
         c .filled .long ∙ length-take-le (e - p) (drop p W) (omega arith)
 
 -- FOR CODE that has lent the row at place p, which is s
-pub row-lent : (w h : ℕ → ℕ) (W ys : List ℕ) (p s n r : ℕ) → p ≡ s → s + n ≤ length W
-    → Cut 0 n (lowered w h n (take (p + n - p) (drop p W))) (take (p + n - p) (drop p W)) ys r
-    → Cut s (s + n) (rowLowered w h n s W) W (take p W ++ (ys ++ drop (p + n - p) (drop p W))) r
+pub row-lent : {first : Bool} (w h : ℕ → ℕ) (W ys : List ℕ) (p s n r : ℕ) → p ≡ s → s + n ≤ length W
+    → Cut first 0 n (lowered first w h n (take (p + n - p) (drop p W))) (take (p + n - p) (drop p W)) ys r
+    → Cut first s (s + n) (rowLowered first w h n s W) W (take p W ++ (ys ++ drop (p + n - p) (drop p W))) r
 row-lent w h W ys p s n r e l c =
     rw (← e) (row-back w h W ys p (p + n) n r (omega arith) (omega arith) (omega arith) c)
 
-pub fresh-lent : {first : Bool} {W : List ℕ} {p s n : ℕ} → p ≡ s → Fresh first W s (s + n)
-    → Fresh first (take (p + n - p) (drop p W)) 0 n
-fresh-lent {W = W} {p = p} {n = n} e f = record {
-  none = λ t x _ h. was x h ∙ f .none t (p + x) (omega arith) (omega arith);
-  known = λ t. record {
-    entry = λ x _ h. omega (arith, was x h, f .known t .entry (p + x) (omega arith) (omega arith));
+pub known-lent : {first : Bool} {W : List ℕ} {p s n : ℕ} → p ≡ s → Known first W s (s + n)
+    → Known first (take (p + n - p) (drop p W)) 0 n
+known-lent {W = W} {p = p} {n = n} e f = record {
+  numbers = λ t. record {
+    entry = λ x _ h. omega (arith, was x h, f .numbers t .entry (p + x) (omega arith) (omega arith));
   };
 }
   where
@@ -166,24 +167,27 @@ fresh-lent {W = W} {p = p} {n = n} e f = record {
         rw q at (part-was W p (p + n) (p + x) (omega arith) (omega arith))
 
 -- nothing fell: the list is as it was
-pub row-same : {p e r : ℕ} {f : ℕ → ℕ} {W M : List ℕ} → Cut p e f W M r → r ≡ 0 → M ≡ W
+pub row-same : {p e r : ℕ} {f : ℕ → ℕ} {W M : List ℕ} → Cut false p e f W M r → r ≡ 0 → M ≡ W
 row-same {p} {e} {W = W} {M = M} c z = ext-getD 0 M W (c .filled .long) (λ k _. elim (decLt k p) [
   | yes h ↦ c .filled .before k h
-  | no h ↦ elim (decLt k e) [ yes i ↦ c .none z k (omega arith) i | no i ↦ c .filled .after k (omega arith) ]
+  | no h ↦ elim (decLt k e) [
+    | yes i ↦ c .none refl z k (omega arith) i
+    | no i ↦ c .filled .after k (omega arith)
+  ]
 ])
 
 -- THE ROW OF AN ARC'S TAIL, lowered; hs is its head's row
 module _ (g : Graph) (a wide p e r : ℕ) (hs W M : List ℕ) (w : wide ≡ g .period) (some : 0 < wide)
     (q : p ≡ g .tail a * wide) (o : e ≡ p + wide)
     (held : (y : ℕ) → y < wide → getD hs y 0 ≡ gridAt wide W (g .head a) y)
-    (c : Cut p e (rowLowered (g .travel a) (entries hs) wide p W) W M r) where
+    (c : Cut false p e (rowLowered false (g .travel a) (entries hs) wide p W) W M r) where
   offered : (x : ℕ) → x < wide → offer (g .travel a) (entries hs) wide x ≡ givesTicks g (rowsOf wide W) a x
   unfolding offer entries givesTicks
   offered x h = rw (held ((x + g .travel a x) % wide) (mod-lt (x + g .travel a x) some), w) (omega arith)
 
   row-at : (x : ℕ) → x < wide
       → gridAt wide M (g .tail a) x ≡ min (gridAt wide W (g .tail a) x) (givesTicks g (rowsOf wide W) a x)
-  unfolding gridAt rowLowered
+  unfolding gridAt rowLowered lowest
   row-at x h =
       let z : g .tail a * wide + x - p ≡ x = omega arith in
       c .filled .written (g .tail a * wide + x) (omega arith) (omega arith) ∙ rw (z, offered x h)

@@ -1,10 +1,10 @@
 -- The laws of the code: an arc's turn, a node's turn, and turn after turn until no dirty node is near enough.
 -- `bar` is on the scale of the tables: what is not below never less `bar` is not wanted.
 use mathlib.Core.Path.{_≡_, refl, sym, _∙_, ap}
-use mathlib.Core.Bool.{Bool, true}
+use mathlib.Core.Bool.{Bool, true, false}
 use mathlib.Core.Logic.{_≢_}
 use mathlib.Core.List.{List}
-use Prim.Native.Nat.{ℕ, _+_, _-_, _*_, _%_, _≤_, _<_, max, zero-le}
+use Prim.Native.Nat.{ℕ, _+_, _-_, _*_, _%_, _^_, _≤_, _<_, max, zero-le}
 use native.Mathlib.Nat.{mul-le-mul, mul-le-mul-right, mod-lt}
 use native.Mathlib.Omega.{arith}
 use native.Mathlib.Decide.{ℕ-discrete, decLt}
@@ -24,17 +24,20 @@ use Rattle.search_arcs.specs.Town.{Town, lawful, tail-node, head-node}
 use Rattle.search_arcs.specs.Chain.{Chained, NextArc}
 use Rattle.toward_row.specs.Arcs.{Primed}
 use Rattle.toward_row.specs.Cut.{Cut}
-use Rattle.toward_row.specs.Lower.{entries}
+use Rattle.toward_row.specs.Lower.{entries, offer, Numbers}
 use Rattle.theory_paths.specs.Queue.{Queue, queue-begin, queue-skip, queue-quiet, queue-lower, queue-least}
 use Rattle.theory_paths.specs.Queue.{queue-first, queue-bar, Lowering}
 use Rattle.toward_node.specs.Burden.{burden, burden-clear, burden-lower}
 use Rattle.toward_node.specs.Heights.{Heights, Held, Near, NearFirst, Highest, numbered}
-use Rattle.toward_node.specs.Heights.{number-early, heights-held}
+use Rattle.toward_node.specs.Heights.{number-early, heights-held, held-capped}
 use Rattle.toward_node.specs.Heights.{heights-clear, heights-lower, heights-first, numbered-early}
-use Rattle.toward_node.specs.Heights.{only-same, Lows, Bounds, lows-taken, lows-bounds, lows-first}
+use Rattle.toward_node.specs.Heights.{only-same, only-other, Lows, Bounds}
+use Rattle.toward_node.specs.Heights.{lows-taken, lows-bounds, lows-first}
 use Rattle.toward_node.specs.Leasts.{LeastTravel}
 use Rattle.toward_node.specs.Rows.{rowsOf, WorkedFor, rowLowered, row-lower, row-same, row-lowering}
 use Rattle.toward_node.specs.Rows.{row-quiet, row-held}
+use Rattle.toward_node.specs.Seen.{seen, seen-long, seen-size, seen-some, seen-bare}
+use Rattle.toward_node.specs.Seen.{seen-near, seen-highest, seen-cut, row-most, row-first, told}
 use Rattle.network.specs.Limits.{mostArcs, mostNodes, mostPeriod}
 
 -- A town, the table of its arcs' first points, and the chains of the arcs into each node.
@@ -192,8 +195,8 @@ module _ {file : List ℕ} {l : Layout} {starts hs W D H : List ℕ} {a u near :
         omega (arith, w .all x y, rw e at z, k .at _ (ended x), k .least _ (ended x)));
   }
 
-  module _ {M : List ℕ} {r : ℕ} (c : Cut (u * l .period) (u * l .period + l .period)
-      (rowLowered (travelAt (decode file) a) (entries hs) (l .period) (u * l .period) W) W M r) where
+  module _ {M : List ℕ} {r : ℕ} (c : Cut false (u * l .period) (u * l .period + l .period)
+      (rowLowered false (travelAt (decode file) a) (entries hs) (l .period) (u * l .period) W) W M r) where
     start : u * l .period ≡ tail (decode file) a * l .period
     start = rw e
 
@@ -214,7 +217,7 @@ module _ {file : List ℕ} {l : Layout} {starts hs W D H : List ℕ} {a u near :
       least = k .least;
     }
 
-    pub stepped-quiet : {bar : ℕ} → r ≡ 0 → Stepped file l a near bar hs W D H M D H
+    stepped-quiet : {bar : ℕ} → r ≡ 0 → Stepped file l a near bar hs W D H M D H
     stepped-quiet z =
         let same : M ≡ W = row-same c z in
         record {
@@ -242,26 +245,6 @@ module _ {file : List ℕ} {l : Layout} {starts hs W D H : List ℕ} {a u near :
           number-early (t .town .small) o (head (decode file) a) _ met (ended x) (k .some),
         ))
 
-    -- a row that got its first numbers: none is below the least of its head's row and its least travel
-    pub near-first : {m : ℕ} {first : Bool} → LeastTravel file l a m → (first ≡ true → getD H u 0 ≡ 0)
-        → NearFirst first (l .period) M u (near - m)
-    unfolding givesTicks
-    near-first w z = record {
-      holds = λ f. record {
-        all = λ x i.
-            let bare = rw e at (o .bare u x node i (z f)) in
-            rw e
-            (omega (
-              arith,
-              lowering .at x (omega (arith, t .town .sizes .period)),
-              w .all x i,
-              k .at _ (ended x),
-              k .least _ (ended x),
-              least-near w,
-            ));
-      };
-    }
-
     near-some : {d : ℕ} → Near (l .period) M u d → 0 < d
     near-some n =
         let x = t .town .small .period-some in
@@ -278,7 +261,7 @@ module _ {file : List ℕ} {l : Layout} {starts hs W D H : List ℕ} {a u near :
     other-clean {d} n w q i =
         omega (arith, near-some n, getD-set-same D u d 0 (omega (arith, node, o .wide)), rw i at q)
 
-    pub stepped-lower : {bar : ℕ} → 0 < r → {d high : ℕ} → Near (l .period) M u d
+    stepped-lower : {bar : ℕ} → 0 < r → {d high : ℕ} → Near (l .period) M u d
         → Highest (l .period) M u high
         → Stepped file l a near bar hs W D H M (set D u d) (set H u (never - high))
     stepped-lower z {d} {high} n top =
@@ -316,6 +299,89 @@ module _ {file : List ℕ} {l : Layout} {starts hs W D H : List ℕ} {a u near :
               (omega (arith, node, o .wide, e)));
         }
 
+-- AN ARC'S TURN, BY THE LIST: its rows are as they are seen, and `first` says that the tail has no number yet
+module _ {file : List ℕ} {l : Layout} {starts hs W M D H : List ℕ} {a u near r : ℕ} {first : Bool}
+    (t : Primed file l starts) (h : a < l .arcs) (o : Heights l (seen (l .period) H W) D H)
+    (k : Held (l .period) near hs (seen (l .period) H W) H (head (decode file) a))
+    (e : u ≡ tail (decode file) a)
+    (c : Cut first (u * l .period) (u * l .period + l .period)
+    (rowLowered first (travelAt (decode file) a) (entries hs) (l .period) (u * l .period) W) W M r) where
+  fits : u * l .period + l .period ≤ length W
+  fits =
+      let n : u + 1 ≤ l .nodes = omega (arith, tail-node (t .town) a u h e) in
+      omega (arith, mul-le-mul-right (l .period) n, seen-size W o)
+
+  offer-early : (x : ℕ) → x < l .period → offer (travelAt (decode file) a) (entries hs) (l .period) x < 2 ^ 31
+  unfolding offer entries
+  offer-early x i =
+      let z = held-capped (t .town .small) o k (head-node (t .town) a (head (decode file) a) h refl) in
+      omega (
+        arith,
+        z .entry _ (mod-lt (x + travelAt (decode file) a x) (t .town .small .period-some)),
+        town-bounded (t .town .sound) a x (omega (arith, t .town .sizes .arcs))
+            (omega (arith, t .town .sizes .period)),
+        t .town .sizes .period,
+        t .town .small .period-most,
+      )
+
+  pub tail-numbers : Numbers M (u * l .period) (u * l .period + l .period)
+  tail-numbers = record {
+    entry = λ k lo hi.
+        omega (arith, row-most (l .period) u _ _ c k lo hi, offer-early (k - u * l .period) (omega arith));
+  }
+
+  -- a row that got its first numbers: none is below the least of its head's row and its least travel
+  pub near-first : {m : ℕ} → LeastTravel file l a m → NearFirst first (l .period) M u (near - m)
+  unfolding offer entries
+  near-first w = record {
+    holds = λ f. record {
+      all = λ x i.
+          omega (
+            arith,
+            row-first (l .period) u _ _ c f x i,
+            w .all x i,
+            k .least _ (mod-lt (x + travelAt (decode file) a x) (t .town .small .period-some)),
+            least-near t h o k e w,
+          );
+    };
+  }
+
+  module _ (bare : first ≡ true → getD H u 0 ≡ 0) (known : first ≡ false → getD H u 0 ≢ 0) where
+    cut-seen : (I : List ℕ) → getD I u 0 ≢ 0 → ((v : ℕ) → v ≢ u → getD I v 0 ≡ getD H v 0)
+        → Cut false (u * l .period) (u * l .period + l .period)
+        (rowLowered false (travelAt (decode file) a) (entries hs) (l .period) (u * l .period)
+        (seen (l .period) H W)) (seen (l .period) H W) (seen (l .period) I M) r
+    cut-seen I got others =
+        seen-cut (l .period) u _ _ c H I (t .town .small .period-some) fits bare known got others
+        (λ x i. omega (arith, offer-early x i))
+
+    pub tail-quiet : {bar : ℕ} → r ≡ 0
+        → Stepped file l a near bar hs (seen (l .period) H W) D H (seen (l .period) H M) D H
+    tail-quiet z =
+        let f : first ≡ false = told first
+        (λ q. absurd (omega (arith, c .all q, t .town .small .period-some))) (λ q. q) in
+        stepped-quiet t h o k e (cut-seen H (known f) (λ _ _. refl)) z
+
+    pub tail-lower : {bar : ℕ} → 0 < r → {d high : ℕ} → Near (l .period) M u d → Highest (l .period) M u high
+        → Stepped file l a near bar hs (seen (l .period) H W) D H
+        (seen (l .period) (set H u (never - high)) M) (set D u d) (set H u (never - high))
+    unfolding gridAt
+    tail-lower z {d} {high} n top =
+        stepped-lower t h o k e
+        (cut-seen (set H u (never - high)) got (λ v ne. getD-set-other H u v (never - high) 0 ne)) z
+        (seen-near _ _ _ got n) (seen-highest _ _ _ got top)
+      where
+        got : getD (set H u (never - high)) u 0 ≢ 0
+        got q =
+            let x = top .within in
+            omega (
+              arith,
+              q,
+              getD-set-same H u (never - high) 0 (omega (arith, tail-node (t .town) a u h e, o .tall)),
+              top .met,
+              tail-numbers .entry (u * l .period + top .at) (omega arith) (omega arith),
+            )
+
 -- A NODE'S TURN
 module _ {file : List ℕ} {l : Layout} {starts into next : List ℕ} (t : Ready file l starts into next) where
   -- on to the arc that the table says
@@ -324,18 +390,20 @@ module _ {file : List ℕ} {l : Layout} {starts into next : List ℕ} (t : Ready
       → Queue (graphOf (decode file)) b bar v j T D
   walk-skip n q = queue-skip q (λ a lo hi m. n .none a lo hi (omega (arith, t .primed .town .sizes .arcs)))
 
-  pub walking-start : {v a bar : ℕ} {old hs W D H : List ℕ} → v < l .nodes → Heights l W D H
-      → getD D v 0 ≢ 0 → l .period ≤ length old → Filled 0 (l .period) (rowsOf (l .period) W v) old hs
-      → a ≡ getD into v 0
-      → Walking file l v a (getD D v 0) bar hs W (set D v 0) H W (set D v 0) H
-  walking-start {v} {a} {W = W} {D = D} h o d room f e =
+  pub walking-start : {v a bar : ℕ} {old hs D H : List ℕ} (W : List ℕ) → v < l .nodes
+      → Heights l (seen (l .period) H W) D H → getD D v 0 ≢ 0 → l .period ≤ length old
+      → Filled 0 (l .period) (rowsOf (l .period) W v) old hs → a ≡ getD into v 0
+      → Walking file l v a (getD D v 0) bar hs (seen (l .period) H W) (set D v 0) H (seen (l .period) H W)
+      (set D v 0) H
+  walking-start {v} {a} {H = H} W h o d room f e =
       let n = t .chained .firsts v h in
       let small = t .primed .town .small in
       rw e (record {
         within = n .within;
         meets = n .meets;
         heights = heights-clear small o v h;
-        held = heights-held small o h d (omega (arith, f .long)) (λ y m. f .written y (omega arith) m);
+        held = heights-held small o h d (omega (arith, f .long))
+            (λ y m. f .written y (omega arith) m ∙ sym (seen-some (l .period) H W v y m (o .dirty v h d)));
         lighter = omega arith;
         rises = λ u m. omega arith;
         kept = kept-same;
@@ -398,15 +466,14 @@ module _ {file : List ℕ} {l : Layout} {starts into next : List ℕ} (t : Ready
 -- TURN AFTER TURN
 module _ {file : List ℕ} {l : Layout} {starts into next : List ℕ} (t : Ready file l starts into next)
     {b goal : ℕ} where
-  pub waiting-start : {old W M : List ℕ} {bar : ℕ} → b < l .nodes → length old ≡ l .nodes * l .period
-      → Filled 0 (length old) (λ _. never) old W
+  pub waiting-start : {W M : List ℕ} {bar : ℕ} → b < l .nodes → length W ≡ l .nodes * l .period
       → Filled (b * l .period) (b * l .period + l .period) (λ _. 0) W M
       → Bar (l .nodes) goal (set (replicate mostNodes 0) b never) bar
-      → Waiting file l b goal bar M (set (replicate mostNodes 0) b never)
-      (set (replicate mostNodes 0) b never) (replicate mostNodes 0) b
+      → Waiting file l b goal bar (seen (l .period) (set (replicate mostNodes 0) b never) M)
+      (set (replicate mostNodes 0) b never) (set (replicate mostNodes 0) b never) (replicate mostNodes 0) b
   unfolding gridAt
-  waiting-start {W = W} {M = M} h s f z k = record {
-    heights = heights-first h (z .long ∙ f .long ∙ s) few
+  waiting-start {M = M} h s z k = record {
+    heights = heights-first h (seen-long (l .period) only M ∙ long) few
         (λ x k. home x (omega (arith, town .sizes .period)))
         (λ u x n k. away u x (omega (arith, town .sizes .nodes)) (omega (arith, town .sizes .period)));
     lows = lows-first h few
@@ -420,31 +487,34 @@ module _ {file : List ℕ} {l : Layout} {starts into next : List ℕ} (t : Ready
     };
   }
     where
+      only : List ℕ
+      only = set (replicate mostNodes 0) b never
+
       town : Town file l
       town = t .primed .town
+
+      long : length M ≡ l .nodes * l .period
+      long = z .long ∙ s
 
       few : l .nodes ≤ mostNodes
       few = town .small .nodes-most
 
-      dirty : getD (set (replicate mostNodes 0) b never) b 0 ≡ never
+      dirty : getD only b 0 ≡ never
       dirty = only-same b never (omega arith)
 
-      home : (x : ℕ) → x < graphOf (decode file) .period → gridAt (l .period) M b x ≡ 0
-      home x k = z .written (b * l .period + x) (omega arith) (omega (arith, town .sizes .period))
+      home : (x : ℕ) → x < graphOf (decode file) .period
+          → gridAt (l .period) (seen (l .period) only M) b x ≡ 0
+      home x k =
+          seen-some (l .period) only M b x (omega (arith, town .sizes .period)) (λ e. omega (arith, dirty))
+          ∙ z .written (b * l .period + x) (omega arith) (omega (arith, town .sizes .period))
 
       away : (u x : ℕ) → u < graphOf (decode file) .nodes → x < graphOf (decode file) .period → u ≢ b
-          → gridAt (l .period) M u x ≡ never
+          → gridAt (l .period) (seen (l .period) only M) u x ≡ never
       away u x n k ne =
           let y : x < l .period = omega (arith, town .sizes .period) in
-          let w : getD W (u * l .period + x) 0 ≡ never =
-          f .written (u * l .period + x) (omega arith)
-          (omega (arith, s, grid-in (l .period) (l .nodes) u x (omega (arith, town .sizes .nodes)) y)) in
-          elim (decLt u b) [
-            | yes m ↦ z .before (u * l .period + x) (omega (arith, mul-le-mul-right (l .period) m)) ∙ w
-            | no m ↦
-                let q : b < u = omega arith in
-                z .after (u * l .period + x) (omega (arith, mul-le-mul-right (l .period) q)) ∙ w
-          ]
+          let o : u < l .nodes = omega (arith, town .sizes .nodes) in
+          seen-bare (l .period) only M u x y (omega (arith, long, grid-in (l .period) (l .nodes) u x o y))
+          (only-other b never (omega arith) u (omega arith) ne)
 
   module _ {W D H L : List ℕ} {bar v : ℕ} (w : Waiting file l b goal bar W D H L v) where
     -- the bar does not fall

@@ -2,15 +2,17 @@
 // a lent list of numbers. The list has a row for each node and in it a number for each tick. A node whose
 // row has fallen is dirty; the arcs into a dirty node lower the rows of their tails, whole rows at a time,
 // until no node is dirty. The order in which nodes are taken is free; the nearest dirty node is taken first.
-// Where the row of one node is wanted alone, what is not below its greatest number is left out.
+// Where the row of one node is wanted alone, what is not below its greatest number is left out. The list is
+// lent as it comes: a row's first numbers are written over what stood there, and a wanted row that got none
+// is filled with never in the end (specs/Seen.antt).
 //   leasts   the least travel of each arc
 //   work     the lent list as a whole
 // Three tables stand beside the rows: `near`, 0 where a node is clean and else never less a number that no
 // entry of its row is below; `room`, 0 where it has no number yet and else never less its greatest; and
 // `low`, what `near` last had of a clean node (specs/Heights.antt). By the first two an arc that cannot lower
 // its tail's row is passed over.
-// It may call `toward_row` for an arc lowered into a row and `network` for the entries of the file; it cites
-// `search_arcs`, `theory_loops`, `theory_paths` and `theory_travel`.
+// It may call `toward_row` for an arc lowered into a row, `network` for the entries of the file and
+// `search_arcs` for widths and comparisons; it cites `theory_loops`, `theory_paths` and `theory_travel`.
 pub mod leasts;
 pub mod work;
 
@@ -20,24 +22,25 @@ use network::limits::MOST_NODES;
 use network::limits::MOST_PERIOD;
 use network::limits::NEVER;
 use network::read;
+use search_arcs::is_before;
 use search_arcs::wide;
 ghost use mathlib.Core.Path.{_≡_};
 ghost use mathlib.Core.Logic.{_≢_};
-ghost use Prim.Native.Nat.{_+_, _-_, _*_, _≤_, _<_, min, max};
+ghost use Prim.Native.Nat.{_+_, _-_, _*_, _^_, _≤_, _<_, min, max};
 ghost use lib.ListN.{length, getD, replicate};
 ghost use lib.Dec.{leb};
 ghost use Rattle.theory_loops.specs.Fill.{Filled};
-ghost use Rattle.theory_paths.specs.Earliest.{never};
 ghost use Rattle.network.specs.Network.{head};
 ghost use Rattle.network.specs.Limits.{mostNodes};
 ghost use Rattle.network.specs.Decode.{decode, Small};
 ghost use Rattle.network.specs.Town.{graphOf, travelAt};
 ghost use Rattle.toward_row.specs.Arcs.{Primed};
 ghost use Rattle.toward_row.specs.Cut.{Cut};
-ghost use Rattle.toward_row.specs.Lower.{entries, Capped, Fresh};
+ghost use Rattle.toward_row.specs.Lower.{entries, Capped, Known, Numbers};
 ghost use Rattle.toward_node.specs.Heights.{Heights, Held, Near, NearFirst, Highest, Lows, Bounds};
 ghost use Rattle.toward_node.specs.Leasts.{Leasts};
 ghost use Rattle.toward_node.specs.Rows.{rowsOf, rowLowered, Worked, WorkedFor, WorkedRow};
+ghost use Rattle.toward_node.specs.Seen.{seen, Shown, ShownFor};
 ghost use Rattle.toward_node.specs.Turn.{Ready, Stepped, Turned, Found, Bar};
 ghost use Rattle.toward_node.specs.Places.{Most};
 
@@ -66,7 +69,7 @@ fn copy_row(l: Layout, v: usize, work: &[u32], hs: &mut [u32; MOST_PERIOD])
 }
 
 // Lowers the row of node u by what an arc gives, where `hs` is its head's row. `first` says that the row has
-// no number yet. Answers how many entries fell.
+// no number yet, whatever stands there. Answers how many entries fell.
 fn lower_row(
     first: bool,
     file: &[u8],
@@ -80,9 +83,9 @@ fn lower_row(
     requires { ⌜ Primed (now file) l (now starts) ⌝ }
     requires { ⌜ (arc < l .arcs) × (u < l .nodes) × (length (now work) ≡ l .nodes * l .period) ⌝ }
     requires { ⌜ Capped (now hs) (l .period)
-        × Fresh first (now work) (u * l .period) (u * l .period + l .period) ⌝ }
-    ensures { λ r. ⌜ Cut (u * l .period) (u * l .period + l .period)
-        (rowLowered (travelAt (decode (now (file .entry))) arc) (entries (now (hs .entry))) (l .period)
+        × Known first (now work) (u * l .period) (u * l .period + l .period) ⌝ }
+    ensures { λ r. ⌜ Cut first (u * l .period) (u * l .period + l .period)
+        (rowLowered first (travelAt (decode (now (file .entry))) arc) (entries (now (hs .entry))) (l .period)
         (u * l .period) (now (work .entry))) (now (work .entry)) (now (work .exit)) r ⌝ }
 {
     let p = row_place(l, u);
@@ -90,14 +93,24 @@ fn lower_row(
     toward_row::lower_arc(first, file, l, starts, arc, hs, &mut work[p..e])
 }
 
-// The lesser of two numbers.
-fn lesser(a: u32, b: u32) -> u32
+// The lesser of two numbers of a row. The row's loops compare as signed numbers, which the vector code of any
+// x86-64 can do.
+fn lower(a: u32, b: u32) -> u32
+    requires { ⌜ (a < 2 ^ 31) × (b < 2 ^ 31) ⌝ }
     ensures { λ r. ⌜ r ≡ min a b ⌝ }
 {
-    if b < a { b } else { a }
+    if is_before(b, a) { b } else { a }
 }
 
-// The greater of two numbers.
+// The greater of two numbers of a row.
+fn higher(a: u32, b: u32) -> u32
+    requires { ⌜ (a < 2 ^ 31) × (b < 2 ^ 31) ⌝ }
+    ensures { λ r. ⌜ r ≡ max a b ⌝ }
+{
+    if is_before(a, b) { b } else { a }
+}
+
+// The greater of two entries of a table.
 fn greater(a: u32, b: u32) -> u32
     ensures { λ r. ⌜ r ≡ max a b ⌝ }
 {
@@ -107,14 +120,15 @@ fn greater(a: u32, b: u32) -> u32
 // How near a node is: never less the least number of its row.
 fn nearness(l: Layout, u: usize, work: &[u32]) -> u32
     requires { ⌜ Small l ⌝ }
-    requires { ⌜ (u < l .nodes) × (length (now work) ≡ l .nodes * l .period) ⌝ }
+    requires { ⌜ (u < l .nodes) × (length (now work) ≡ l .nodes * l .period)
+        × Numbers (now work) (u * l .period) (u * l .period + l .period) ⌝ }
     ensures { λ r. ⌜ Near (l .period) (now (work .entry)) u r ⌝ }
 {
     let p = row_place(l, u);
     let e = p + l.period;
-    let mut low = NEVER;
+    let mut low = work[p];
     for i in p..e {
-        low = lesser(low, work[i]);
+        low = lower(low, work[i]);
     }
     NEVER - low
 }
@@ -124,7 +138,8 @@ fn nearness(l: Layout, u: usize, work: &[u32]) -> u32
 fn nearness_after(first: bool, reach: u32, least: u16, l: Layout, u: usize, work: &[u32]) -> u32
     requires { ⌜ Small l ⌝ }
     requires { ⌜ (u < l .nodes) × (length (now work) ≡ l .nodes * l .period) × (least ≤ reach)
-        × NearFirst first (l .period) (now work) u (reach - least) ⌝ }
+        × NearFirst first (l .period) (now work) u (reach - least)
+        × Numbers (now work) (u * l .period) (u * l .period + l .period) ⌝ }
     ensures { λ r. ⌜ Near (l .period) (now (work .entry)) u r ⌝ }
 {
     if first {
@@ -136,14 +151,15 @@ fn nearness_after(first: bool, reach: u32, least: u16, l: Layout, u: usize, work
 // The greatest number of a node's row.
 fn highest(l: Layout, u: usize, work: &[u32]) -> u32
     requires { ⌜ Small l ⌝ }
-    requires { ⌜ (u < l .nodes) × (length (now work) ≡ l .nodes * l .period) ⌝ }
+    requires { ⌜ (u < l .nodes) × (length (now work) ≡ l .nodes * l .period)
+        × Numbers (now work) (u * l .period) (u * l .period + l .period) ⌝ }
     ensures { λ r. ⌜ Highest (l .period) (now (work .entry)) u r ⌝ }
 {
     let p = row_place(l, u);
     let e = p + l.period;
     let mut high = work[p];
     for i in p..e {
-        high = greater(high, work[i]);
+        high = higher(high, work[i]);
     }
     high
 }
@@ -172,10 +188,12 @@ fn lower_tail(
     room: &mut [u32; MOST_NODES],
 )
     requires { ⌜ Primed (now file) l (now starts) × Leasts (now file) l (l .arcs) (now least) ⌝ }
-    requires { ⌜ (arc < l .arcs) × Heights l (now work) (now near) (now room)
-        × Held (l .period) reach (now hs) (now work) (now room) (head (decode (now file)) arc) ⌝ }
-    ensures { λ _. ⌜ Stepped (now (file .entry)) l arc reach bar (now (hs .entry)) (now (work .entry))
-        (now (near .entry)) (now (room .entry)) (now (work .exit)) (now (near .exit)) (now (room .exit)) ⌝ }
+    requires { ⌜ (arc < l .arcs) × Heights l (seen (l .period) (now room) (now work)) (now near) (now room)
+        × Held (l .period) reach (now hs) (seen (l .period) (now room) (now work)) (now room)
+        (head (decode (now file)) arc) ⌝ }
+    ensures { λ _. ⌜ Stepped (now (file .entry)) l arc reach bar (now (hs .entry))
+        (seen (l .period) (now (room .entry)) (now (work .entry))) (now (near .entry)) (now (room .entry))
+        (seen (l .period) (now (room .exit)) (now (work .exit))) (now (near .exit)) (now (room .exit)) ⌝ }
 {
     let u = read::tail(file, l, arc);
     let top = room[u];
@@ -209,12 +227,13 @@ fn settle(
 )
     requires { ⌜ Ready (now file) l (now starts) (now into) (now next)
         × Leasts (now file) l (l .arcs) (now least) ⌝ }
-    requires { ⌜ (v < l .nodes) × Heights l (now work) (now near) (now room)
-        × Lows l (now work) (now near) (now low) × (getD (now near) v 0 ≢ 0)
+    requires { ⌜ (v < l .nodes) × Heights l (seen (l .period) (now room) (now work)) (now near) (now room)
+        × Lows l (seen (l .period) (now room) (now work)) (now near) (now low) × (getD (now near) v 0 ≢ 0)
         × (l .period ≤ length (now hs)) ⌝ }
-    ensures { λ _. ⌜ Turned (now (file .entry)) l bar (now (work .entry)) (now (near .entry))
-        (now (room .entry)) (now (work .exit)) (now (near .exit)) (now (room .exit)) (now (low .exit))
-        × (length (now (hs .exit)) ≡ length (now (hs .entry))) ⌝ }
+    ensures { λ _. ⌜ Turned (now (file .entry)) l bar
+        (seen (l .period) (now (room .entry)) (now (work .entry))) (now (near .entry)) (now (room .entry))
+        (seen (l .period) (now (room .exit)) (now (work .exit))) (now (near .exit)) (now (room .exit))
+        (now (low .exit)) × (length (now (hs .exit)) ≡ length (now (hs .entry))) ⌝ }
 {
     copy_row(l, v, work, hs);
     let reach = near[v];
@@ -276,28 +295,44 @@ fn bar_of(room: &[u32; MOST_NODES], nodes: usize, goal: usize) -> u32
     0
 }
 
-// No node has a number.
-fn clear(work: &mut [u32])
-    ensures { λ _. ⌜ Filled 0 (length (now (work .entry))) (λ _. never) (now (work .entry))
+// Each entry of node u's row is `value`.
+fn fill_row(l: Layout, u: usize, value: u32, work: &mut [u32])
+    requires { ⌜ Small l ⌝ }
+    requires { ⌜ (u < l .nodes) × (length (now work) ≡ l .nodes * l .period) ⌝ }
+    ensures { λ _. ⌜ Filled (u * l .period) (u * l .period + l .period) (λ _. value) (now (work .entry))
         (now (work .exit)) ⌝ }
 {
-    for i in 0..work.len() {
-        work[i] = NEVER;
+    let p = row_place(l, u);
+    let e = p + l.period;
+    for i in p..e {
+        work[i] = value;
     }
 }
 
-// Node b's numbers are 0.
-fn zero_row(l: Layout, b: usize, work: &mut [u32])
+// The rows of the nodes from `from` up to `to` that have no number are never.
+fn show_rows(l: Layout, from: usize, to: usize, room: &[u32; MOST_NODES], work: &mut [u32])
     requires { ⌜ Small l ⌝ }
-    requires { ⌜ (b < l .nodes) × (length (now work) ≡ l .nodes * l .period) ⌝ }
-    ensures { λ _. ⌜ Filled (b * l .period) (b * l .period + l .period) (λ _. 0) (now (work .entry))
-        (now (work .exit)) ⌝ }
+    requires { ⌜ (from ≤ to) × (to ≤ l .nodes) × (length (now work) ≡ l .nodes * l .period) ⌝ }
+    ensures { λ _. ⌜ Shown (l .period) from to (now (room .entry)) (now (work .entry)) (now (work .exit)) ⌝ }
 {
-    let p = row_place(l, b);
-    let e = p + l.period;
-    for i in p..e {
-        work[i] = 0;
+    for u in from..to {
+        if room[u] == 0 {
+            fill_row(l, u, NEVER, work);
+        }
     }
+}
+
+// The same for the rows that are wanted: that of the node `goal`, or all, where there is no such node.
+fn show_wanted(l: Layout, goal: usize, room: &[u32; MOST_NODES], work: &mut [u32])
+    requires { ⌜ Small l ⌝ }
+    requires { ⌜ length (now work) ≡ l .nodes * l .period ⌝ }
+    ensures { λ _. ⌜ ShownFor l goal (now (room .entry)) (now (work .entry)) (now (work .exit)) ⌝ }
+{
+    if goal < l.nodes {
+        show_rows(l, goal, goal + 1, room, work);
+        return;
+    }
+    show_rows(l, 0, l.nodes, room, work);
 }
 
 // The least travels to node b, by turn after turn: from the node `goal`, or from every node, where there is
@@ -326,8 +361,7 @@ fn work_out(
         × (l .nodes ≤ goal → Bounds l (now (work .exit)) (now (low .exit)) (now (room .exit)))
         × (length (now (hs .exit)) ≡ length (now (hs .entry))) ⌝ }
 {
-    clear(work);
-    zero_row(l, b, work);
+    fill_row(l, b, 0, work);
     let mut near = [0u32; MOST_NODES];
     near[b] = NEVER;
     room[b] = NEVER;
@@ -352,6 +386,7 @@ fn work_out(
         bar = bar_of(room, l.nodes, goal);
         v = nearest(&near, l.nodes, bar);
     }
+    show_wanted(l, goal, room, work);
 }
 
 // The least travels to node b from every node. `low` and `room` begin as zeros, and end with never less a

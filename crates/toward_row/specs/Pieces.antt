@@ -33,7 +33,7 @@ module _ {first : Bool} {hs old : List ℕ} {period a v b w : ℕ} (r : Ready fi
     fall-start = record { held = omega arith; at = omega (arith, ceiled-none (b - a) (v - w) (omega arith)) }
 
     pub fall-end : {step parts x j n : ℕ} {new : List ℕ} (f : ℕ → ℕ) → FallingAt a v b w step parts x j
-        → j ≤ v - w → v - w ≤ j → Cut a x f old new n → Cut a b f old new n
+        → j ≤ v - w → v - w ≤ j → Cut first a x f old new n → Cut first a b f old new n
     fall-end {x = x} {j = j} f s l m p =
         let q : j ≡ v - w = omega arith in
         let z : x ≡ b =
@@ -82,9 +82,9 @@ module _ {first : Bool} {hs old : List ℕ} {period a v b w : ℕ} (r : Ready fi
             omega (arith, fall-k, r .apart, ceiled-most (b - a) (v - w) (omega arith) (j + 1) (omega arith))
 
         pub fall-run : {mid new : List ℕ} {m n : ℕ}
-            → Cut a x (lowered (lineAt a v b w) (entries hs) period old) old mid m
-            → Cut x (a + k) (lowered (always (v - j)) (entries hs) period mid) mid new n
-            → Cut a (a + k) (lowered (lineAt a v b w) (entries hs) period old) old new (m + n)
+            → Cut first a x (lowered first (lineAt a v b w) (entries hs) period old) old mid m
+            → Cut first x (a + k) (lowered first (always (v - j)) (entries hs) period mid) mid new n
+            → Cut first a (a + k) (lowered first (lineAt a v b w) (entries hs) period old) old new (m + n)
         unfolding always
         fall-run {mid} {new} {m} {n} p q =
             lower-join (entries hs) period _ _ old mid new a x (a + k) m n p q (omega (arith, s .at))
@@ -97,8 +97,8 @@ module _ {first : Bool} {hs old : List ℕ} {period a v b w : ℕ} (r : Ready fi
   -- RISING
   module _ (h : v < w) where
     pub rise-first : {new : List ℕ} {n : ℕ}
-        → Cut a (a + 1) (lowered (always v) (entries hs) period old) old new n
-        → Cut a (a + 1) (lowered (lineAt a v b w) (entries hs) period old) old new n
+        → Cut first a (a + 1) (lowered first (always v) (entries hs) period old) old new n
+        → Cut first a (a + 1) (lowered first (lineAt a v b w) (entries hs) period old) old new n
     unfolding always
     rise-first {new} {n} p =
         lower-as (entries hs) period _ _ old new a (a + 1) n
@@ -118,10 +118,10 @@ module _ {first : Bool} {hs old : List ℕ} {period a v b w : ℕ} (r : Ready fi
           )
 
       pub rise-end : j ≤ w - v - 1 → w - v - 1 ≤ j → {base mid new : List ℕ} {o i n : ℕ}
-          → Cut a (a + 1) (lowered (always v) (entries hs) period old) old base o
-          → Cut (a + 1) x (lowered (lineAt a v b w) (entries hs) period base) base mid i
-          → Cut x b (lowered (always w) (entries hs) period mid) mid new n
-          → Cut a b (lowered (lineAt a v b w) (entries hs) period old) old new (o + (i + n))
+          → Cut first a (a + 1) (lowered first (always v) (entries hs) period old) old base o
+          → Cut first (a + 1) x (lowered first (lineAt a v b w) (entries hs) period base) base mid i
+          → Cut first x b (lowered first (always w) (entries hs) period mid) mid new n
+          → Cut first a b (lowered first (lineAt a v b w) (entries hs) period old) old new (o + (i + n))
       unfolding always
       rise-end l m {base} {mid} {new} {o} {i} {n} f p q =
           let g =
@@ -174,9 +174,11 @@ module _ {first : Bool} {hs old : List ℕ} {period a v b w : ℕ} (r : Ready fi
               )
 
           pub rise-run : {base mid new : List ℕ} {m n : ℕ}
-              → Cut (a + 1) x (lowered (lineAt a v b w) (entries hs) period base) base mid m
-              → Cut x (a + 1 + k) (lowered (always (v + (j + 1))) (entries hs) period mid) mid new n
-              → Cut (a + 1) (a + 1 + k) (lowered (lineAt a v b w) (entries hs) period base) base new (m + n)
+              → Cut first (a + 1) x (lowered first (lineAt a v b w) (entries hs) period base) base mid m
+              → Cut first x (a + 1 + k) (lowered first (always (v + (j + 1))) (entries hs) period mid) mid
+              new n
+              → Cut first (a + 1) (a + 1 + k) (lowered first (lineAt a v b w) (entries hs) period base) base
+              new (m + n)
           unfolding always
           rise-run {base} {mid} {new} {m} {n} p q =
               lower-join (entries hs) period _ _ base mid new (a + 1) x (a + 1 + k) m n p q
@@ -187,8 +189,8 @@ module _ {first : Bool} {hs old : List ℕ} {period a v b w : ℕ} (r : Ready fi
 
   -- FLAT
   pub flat-run : v ≡ w → {new : List ℕ} {n : ℕ}
-      → Cut a b (lowered (always v) (entries hs) period old) old new n
-      → Cut a b (lowered (lineAt a v b w) (entries hs) period old) old new n
+      → Cut first a b (lowered first (always v) (entries hs) period old) old new n
+      → Cut first a b (lowered first (lineAt a v b w) (entries hs) period old) old new n
   unfolding always
   flat-run e {new} {n} p =
       lower-as (entries hs) period _ _ old new a b n (λ y lo hi. rw (← e) (sym (value-flat y a v b lo hi))) p

@@ -3,25 +3,25 @@
 // becomes vector code. Where the runs of one travel begin is found by one division for each point of the arc.
 // It tells whether an entry fell by a count.
 // It may call `network` for the entries of the file, `search_arcs` for widths and `travel_runs` for steps; it
-// cites `theory_travel`, `theory_loops` and `theory_paths`.
+// cites `theory_travel` and `theory_loops`.
 use network::header::Layout;
 use network::limits::MOST_ARCS;
 use network::read;
 use search_arcs::is_before;
 use search_arcs::wide;
 ghost use mathlib.Core.Path.{_≡_};
+ghost use mathlib.Core.Bool.{true, false};
 ghost use Prim.Native.Nat.{_+_, _-_, _/_, _^_, _≤_, _<_, min};
-ghost use lib.ListN.{length, getD};
+ghost use lib.ListN.{length};
 ghost use Rattle.theory_travel.specs.Pieces.{lineAt};
 ghost use Rattle.theory_travel.specs.Table.{valueAt};
 ghost use Rattle.network.specs.Limits.{mostPeriod};
 ghost use Rattle.network.specs.Decode.{decode, Laid};
 ghost use Rattle.network.specs.Town.{travelAt};
 ghost use Rattle.theory_loops.specs.Fill.{Filled};
-ghost use Rattle.theory_paths.specs.Earliest.{never};
 ghost use Rattle.toward_row.specs.Cut.{Cut, Fell};
-ghost use Rattle.toward_row.specs.Lower.{entries, always, lowered, shifted, copied};
-ghost use Rattle.toward_row.specs.Lower.{Capped, Numbers, Fresh, Ready};
+ghost use Rattle.toward_row.specs.Lower.{entries, always, lowered, shifted};
+ghost use Rattle.toward_row.specs.Lower.{Capped, Numbers, Known, Ready};
 ghost use Rattle.toward_row.specs.Arcs.{Arc, Primed};
 
 // The lesser of an entry and a head's entry with `more` added.
@@ -54,8 +54,8 @@ fn wholes(parts: u64) -> usize
 fn copy_run(hs: &[u32], from: usize, more: u32, row: &mut [u32], a: usize, b: usize)
     requires { ⌜ (a ≤ b) × (b ≤ length (now row)) × (more ≤ mostPeriod) ⌝ }
     requires { ⌜ Capped (now hs) (from + (b - a)) ⌝ }
-    ensures { λ _. ⌜ Filled a b (copied (now (hs .entry)) from a more) (now (row .entry))
-        (now (row .exit)) ⌝ }
+    ensures { λ _. ⌜ Filled a b (shifted true (now (hs .entry)) from a more (now (row .entry)))
+        (now (row .entry)) (now (row .exit)) ⌝ }
 {
     for x in a..b {
         row[x] = hs[from + (x - a)] + more;
@@ -66,8 +66,8 @@ fn copy_run(hs: &[u32], from: usize, more: u32, row: &mut [u32], a: usize, b: us
 fn fold_run(hs: &[u32], from: usize, more: u32, row: &mut [u32], a: usize, b: usize) -> u32
     requires { ⌜ (a ≤ b) × (b ≤ length (now row)) × (b ≤ mostPeriod) × (more ≤ mostPeriod) ⌝ }
     requires { ⌜ Capped (now hs) (from + (b - a)) × Numbers (now row) a b ⌝ }
-    ensures { λ r. ⌜ Cut a b (shifted (now (hs .entry)) from a more (now (row .entry))) (now (row .entry))
-        (now (row .exit)) r ⌝ }
+    ensures { λ r. ⌜ Cut false a b (shifted false (now (hs .entry)) from a more (now (row .entry)))
+        (now (row .entry)) (now (row .exit)) r ⌝ }
 {
     let mut count = 0;
     for x in a..b {
@@ -79,7 +79,7 @@ fn fold_run(hs: &[u32], from: usize, more: u32, row: &mut [u32], a: usize, b: us
     count
 }
 
-// The same, where the row may have no number yet: then there is nothing to compare.
+// The same, where the row may be written for the first time: then there is nothing to compare.
 fn lower_run(
     first: bool,
     hs: &[u32],
@@ -90,9 +90,9 @@ fn lower_run(
     b: usize,
 ) -> u32
     requires { ⌜ (a ≤ b) × (b ≤ length (now row)) × (b ≤ mostPeriod) × (more ≤ mostPeriod) ⌝ }
-    requires { ⌜ Capped (now hs) (from + (b - a)) × Fresh first (now row) a b ⌝ }
-    ensures { λ r. ⌜ Cut a b (shifted (now (hs .entry)) from a more (now (row .entry))) (now (row .entry))
-        (now (row .exit)) r ⌝ }
+    requires { ⌜ Capped (now hs) (from + (b - a)) × Known first (now row) a b ⌝ }
+    ensures { λ r. ⌜ Cut first a b (shifted first (now (hs .entry)) from a more (now (row .entry)))
+        (now (row .entry)) (now (row .exit)) r ⌝ }
 {
     if first {
         copy_run(hs, from, more, row, a, b);
@@ -114,9 +114,9 @@ fn lower_span(
 ) -> u32
     requires { ⌜ (a ≤ b) × (b ≤ period) × (c ≤ period) × (period ≤ mostPeriod)
         × (period ≤ length (now row)) ⌝ }
-    requires { ⌜ Capped (now hs) period × Fresh first (now row) a b ⌝ }
-    ensures { λ r. ⌜ Cut a b (lowered (always c) (entries (now (hs .entry))) period (now (row .entry)))
-        (now (row .entry)) (now (row .exit)) r ⌝ }
+    requires { ⌜ Capped (now hs) period × Known first (now row) a b ⌝ }
+    ensures { λ r. ⌜ Cut first a b (lowered first (always c) (entries (now (hs .entry))) period
+        (now (row .entry))) (now (row .entry)) (now (row .exit)) r ⌝ }
 {
     let next = period - c;
     let more = c as u32;
@@ -144,7 +144,7 @@ fn lower_falling(
 ) -> u32
     requires { ⌜ Ready first (now hs) (now row) period a v b w ⌝ }
     requires { ⌜ w < v ⌝ }
-    ensures { λ r. ⌜ Cut a b (lowered (lineAt a v b w) (entries (now (hs .entry))) period
+    ensures { λ r. ⌜ Cut first a b (lowered first (lineAt a v b w) (entries (now (hs .entry))) period
         (now (row .entry))) (now (row .entry)) (now (row .exit)) r ⌝ }
 {
     let fall = v - w;
@@ -174,7 +174,7 @@ fn lower_rising(
 ) -> u32
     requires { ⌜ Ready first (now hs) (now row) period a v b w ⌝ }
     requires { ⌜ v < w ⌝ }
-    ensures { λ r. ⌜ Cut a b (lowered (lineAt a v b w) (entries (now (hs .entry))) period
+    ensures { λ r. ⌜ Cut first a b (lowered first (lineAt a v b w) (entries (now (hs .entry))) period
         (now (row .entry))) (now (row .entry)) (now (row .exit)) r ⌝ }
 {
     let last = w - v - 1;
@@ -205,7 +205,7 @@ fn lower_piece(
     w: usize,
 ) -> u32
     requires { ⌜ Ready first (now hs) (now row) period a v b w ⌝ }
-    ensures { λ r. ⌜ Cut a b (lowered (lineAt a v b w) (entries (now (hs .entry))) period
+    ensures { λ r. ⌜ Cut first a b (lowered first (lineAt a v b w) (entries (now (hs .entry))) period
         (now (row .entry))) (now (row .entry)) (now (row .exit)) r ⌝ }
 {
     if v < w {
@@ -232,10 +232,10 @@ fn lower_points(
     requires { ⌜ Arc (decode (now file) .ticks) (decode (now file) .travels) from count (l .period)
         (l .points) ⌝ }
     requires { ⌜ (l .period ≤ length (now row)) × Capped (now hs) (l .period)
-        × Fresh first (now row) 0 (l .period) ⌝ }
-    ensures { λ r. ⌜ Cut 0 (l .period)
-        (lowered (valueAt (decode (now (file .entry)) .ticks) (decode (now (file .entry)) .travels) from count
-        (l .period)) (entries (now (hs .entry))) (l .period) (now (row .entry)))
+        × Known first (now row) 0 (l .period) ⌝ }
+    ensures { λ r. ⌜ Cut first 0 (l .period)
+        (lowered first (valueAt (decode (now (file .entry)) .ticks) (decode (now (file .entry)) .travels) from
+        count (l .period)) (entries (now (hs .entry))) (l .period) (now (row .entry)))
         (now (row .entry)) (now (row .exit)) r ⌝ }
 {
     let last = count - 1;
@@ -273,9 +273,9 @@ pub fn lower_arc(
 ) -> u32
     requires { ⌜ Primed (now file) l (now starts) ⌝ }
     requires { ⌜ (arc < l .arcs) × (l .period ≤ length (now row)) × Capped (now hs) (l .period)
-        × Fresh first (now row) 0 (l .period) ⌝ }
-    ensures { λ r. ⌜ Cut 0 (l .period)
-        (lowered (travelAt (decode (now (file .entry))) arc) (entries (now (hs .entry))) (l .period)
+        × Known first (now row) 0 (l .period) ⌝ }
+    ensures { λ r. ⌜ Cut first 0 (l .period)
+        (lowered first (travelAt (decode (now (file .entry))) arc) (entries (now (hs .entry))) (l .period)
         (now (row .entry))) (now (row .entry)) (now (row .exit)) r ⌝ }
 {
     let from = wide(starts[arc]);

@@ -2,7 +2,7 @@
 -- exactly where the arc gives the tail's number, since no arc gives less.
 use mathlib.Core.Path.{_≡_, refl, sym, _∙_, ap}
 use mathlib.Core.Logic.{_≢_}
-use mathlib.Core.Bool.{Bool, true, false, true≢false}
+use mathlib.Core.Bool.{Bool, true, false}
 use mathlib.Core.List.{List}
 use Prim.Native.Nat.{ℕ, _+_, _-_, _*_, _%_, _≤_, _<_}
 use native.Mathlib.Nat.{mod-lt, le-antisymm, mul-le-mul}
@@ -29,7 +29,7 @@ use Rattle.network.specs.Town.{graphOf, travelAt}
 use Rattle.search_arcs.specs.Town.{Town, lawful}
 use Rattle.toward_row.specs.Arcs.{Primed}
 use Rattle.toward_row.specs.Cut.{Cut}
-use Rattle.toward_row.specs.Lower.{entries, lowered, offer, Capped, Fresh}
+use Rattle.toward_row.specs.Lower.{entries, lowest, lowered, offer, Capped, Known}
 use Rattle.toward_node.specs.Rows.{Worked, row-long, row-entry}
 use Rattle.toward_node.specs.Turn.{modest}
 
@@ -128,46 +128,47 @@ module _ {g : Graph} (m : Modest g) {b : ℕ} {W : List ℕ} (w : Worked g b W) 
     module _ (hs : List ℕ) {row new after : List ℕ} {r : ℕ} (some : 0 < g .period)
         (held : (y : ℕ) → y < g .period → getD hs y 0 ≡ gridAt (g .period) W (g .head a) y)
         (up : Filled 0 (g .period) (raised (g .period) W (g .tail a)) after row)
-        (c : Cut 0 (g .period) (lowered (g .travel a) (entries hs) (g .period) row) row new r) where
-      offered : (x : ℕ) → x < g .period
-          → offer (g .travel a) (entries hs) (g .period) x ≡ givesTicks g (leastTicks g b) a x
-      unfolding offer entries
-      offered x h =
-          let y = (x + g .travel a x) % g .period in
-          omega (arith, held y (mod-lt (x + g .travel a x) some), gives-is x h)
+        (c : Cut false 0 (g .period) (lowered false (g .travel a) (entries hs) (g .period) row) row new r)
+      where
+        offered : (x : ℕ) → x < g .period
+            → offer (g .travel a) (entries hs) (g .period) x ≡ givesTicks g (leastTicks g b) a x
+        unfolding offer entries
+        offered x h =
+            let y = (x + g .travel a x) % g .period in
+            omega (arith, held y (mod-lt (x + g .travel a x) some), gives-is x h)
 
-      stood : (x : ℕ) → x < g .period → getD row x 0 ≡ leastTicks g b (g .tail a) x + 1
-      unfolding raised
-      stood x h =
-          omega (arith, up .written x (omega arith) h, w .at (g .tail a) x (m .lawful .tails a l) h)
+        stood : (x : ℕ) → x < g .period → getD row x 0 ≡ leastTicks g b (g .tail a) x + 1
+        unfolding raised
+        stood x h =
+            omega (arith, up .written x (omega arith) h, w .at (g .tail a) x (m .lawful .tails a l) h)
 
-      pub start-quiet : r ≡ 0 → false ≡ starts g (leastTicks g b) a
-      unfolding lowered
-      start-quiet z = start-nowhere (λ x h q.
-          omega (
-            arith,
-            c .none z x (omega arith) h,
-            c .filled .written x (omega arith) h,
-            offered x h,
-            stood x h,
-          ))
+        pub start-quiet : r ≡ 0 → false ≡ starts g (leastTicks g b) a
+        unfolding lowered lowest
+        start-quiet z = start-nowhere (λ x h q.
+            omega (
+              arith,
+              c .none refl z x (omega arith) h,
+              c .filled .written x (omega arith) h,
+              offered x h,
+              stood x h,
+            ))
 
-      pub start-fell : 0 < r → true ≡ starts g (leastTicks g b) a
-      unfolding lowered startsAt
-      start-fell z =
-          let f = c .some z in
-          let x = f .at in
-          let h : x < g .period = f .to in
-          sym (yes-any (startsAt g (leastTicks g b) a) (g .period) x h
-          (eq-eqb _ _ (le-antisymm
-          (omega (arith, f .less, c .filled .written x (f .from) h, offered x h, stood x h))
-          (gives-no-less m (least-travels m b) a l x h))))
+        pub start-fell : 0 < r → true ≡ starts g (leastTicks g b) a
+        unfolding lowered lowest startsAt
+        start-fell z =
+            let f = c .some refl z in
+            let x = f .at in
+            let h : x < g .period = f .to in
+            sym (yes-any (startsAt g (leastTicks g b) a) (g .period) x h
+            (eq-eqb _ _ (le-antisymm
+            (omega (arith, f .less, c .filled .written x (f .from) h, offered x h, stood x h))
+            (gives-no-less m (least-travels m b) a l x h))))
 
-      pub start-told : {t : Bool} → t ≡ ltb 0 r → t ≡ starts g (leastTicks g b) a
-      start-told e = elim (decLt 0 r) [
-        | yes z ↦ e ∙ lt-ltb 0 r z ∙ start-fell z
-        | no z ↦ e ∙ le-ltb 0 r (omega arith) ∙ start-quiet (omega arith)
-      ]
+        pub start-told : {t : Bool} → t ≡ ltb 0 r → t ≡ starts g (leastTicks g b) a
+        start-told e = elim (decLt 0 r) [
+          | yes z ↦ e ∙ lt-ltb 0 r z ∙ start-fell z
+          | no z ↦ e ∙ le-ltb 0 r (omega arith) ∙ start-quiet (omega arith)
+        ]
 
 -- FOR THE LOOP that raises a row from place p on
 pub raise-entry : (W : List ℕ) (p x : ℕ) → getD W (p + x) 0 + 1 ≡ raisedFrom W p x
@@ -231,12 +232,11 @@ module _ {file : List ℕ} {l : Layout} {first : List ℕ} (t : Primed file l fi
         (known-tail (modest town) w a arc (omega (arith, early)) head-known)
 
     -- the tail's row with one more at each tick: numbers, not written for the first time
-    pub raised-fresh : {after row : List ℕ} → Filled 0 (l .period) (raised (l .period) W u) after row
-        → Fresh false row 0 (l .period)
+    pub raised-known : {after row : List ℕ} → Filled 0 (l .period) (raised (l .period) W u) after row
+        → Known false row 0 (l .period)
     unfolding raised
-    raised-fresh i = record {
-      none = λ y. absurd (true≢false (sym y));
-      known = λ _. record {
+    raised-known i = record {
+      numbers = λ _. record {
         entry = λ x lo n.
             let m : x < g .period = omega (arith, same) in
             let j : (g .nodes - 1 + 1) * g .period ≡ g .nodes * g .period =
@@ -269,8 +269,8 @@ module _ {file : List ℕ} {l : Layout} {first : List ℕ} (t : Primed file l fi
 
   pub start-is : {p o r : ℕ} {after row new : List ℕ} {t : Bool} → p ≡ v * l .period → o ≡ p + l .period
       → o ≤ length W → Filled 0 (l .period) (raised (l .period) W u) after row
-      → Cut 0 (l .period)
-      (lowered (travelAt (decode file) a) (entries (take (o - p) (drop p W))) (l .period) row) row new r
+      → Cut false 0 (l .period)
+      (lowered false (travelAt (decode file) a) (entries (take (o - p) (drop p W))) (l .period) row) row new r
       → t ≡ ltb 0 r → t ≡ starts g (leastTicks g b) a
   start-is {p} {o} q to fits i c d =
       start-told (modest town) w a arc (take (o - p) (drop p W)) some

@@ -10,6 +10,7 @@ use plan::flag::is_set;
 use plan::header::PlanHeader;
 use plan::header::PlanLayout;
 use plan::read::flag_word;
+use plan_validate::header::count_borders;
 use plan_validate::validate::validate_plan;
 use search_labels::query::Query;
 use trip_call::begin::ask;
@@ -120,7 +121,8 @@ fn flagged_planned(
         (r .trip) ⌝ }
     ensures opens { λ r. ⌜ r .opens ≡ openTick (decode (now (network .entry))) (q .target) (r .trip) ⌝ }
 {
-    match validate_plan(network, h, h.layout(), plan) {
+    let borders = count_borders(network, h, h.layout());
+    match validate_plan(network, h, borders, plan) {
         Planning::Refused(r) => refused(r),
         Planning::WellFormed(k) => flagged_asked(network, h, plan, k, q, arrivals, roads),
     }

@@ -1,40 +1,99 @@
--- `arc_runs::fill_points` meets its contract: before point k the runs are the day's.
+-- `arc_runs::fill_points` meets its contract: before point k the runs are the day's, and the walk stands
+-- before that point.
+use mathlib.Core.Path.{_≡_, refl, _∙_}
 use Prim.Native.Nat.{_+_, _-_, _≤_, _<_}
 use native.Mathlib.Omega.{arith}
-use Rattle.theory_travel.specs.Table.{entryAt, entry-start}
-use Rattle.network.specs.Decode.{decode}
-use Rattle.day_runs.specs.Filling.{Space, Filling, space-on, filling-start, room-next, room-last}
-use Rattle.day_runs.specs.Filling.{filling-next, filling-last, pending-ends}
+use denote.Ref.{now}
 use lib.ListN.{length, length-set}
 use lib.Seq.{getD-set-same}
-use mathlib.Core.Path.{_≡_, refl, _∙_}
+use Rattle.theory_travel.specs.Table.{entryAt, entry-start}
+use Rattle.network.specs.Network.{tick, travel}
+use Rattle.network.specs.Decode.{decode}
+use Rattle.day_runs.specs.Filling.{Space, Filling, space-on, filling-start, room-next, room-last}
+use Rattle.day_runs.specs.Filling.{filling-next, filling-leads, filling-last}
+use Rattle.file_blocks.specs.Walk.{walk-first}
+use Rattle.arc_runs.specs.Points.{pointAt, step-may, step-on, point-near, tick-there}
+use Rattle.arc_runs.specs.Points.{travel-there, tick-read, travel-read}
 use borrow.Author.Needs.{needs}
 use Rattle.arc_runs.proofs.fill_points.Statement.{statement}
 use Rattle.arc_runs.proofs.fill_points.Tie as tie
 
 abbrev Inv-loop : tie.InvT-loop
-Inv-loop file l from count starts₀ values₀ finds₀ last begin n₀ a₀ v₀ k₀ starts values finds n a v k =
+Inv-loop file l from count starts₀ values₀ finds₀ last at₀ begin n₀ a₀ v₀ k₀ starts values finds at n a v k =
     (k ≤ last) × (length starts ≡ length starts₀) × (length values ≡ length values₀)
     × Space starts values (l .period)
-    × Filling (entryAt (decode file .ticks) from) (entryAt (decode file .travels) from) count (l .period)
-    starts
-    values n k a v
-    × (finds ≡ finds₀ + k)
+    × Filling (entryAt (decode file .ticks) from) (entryAt (decode file .travels) from) count
+    (l .period) starts values n k a v
+    × (finds ≡ finds₀ + k) × (at ≡ pointAt (l .pointblock) (from + k))
 
 abbrev μ-loop : tie.MeasureT-loop
-μ-loop file l from count starts₀ values₀ finds₀ last begin n₀ a₀ v₀ k₀ starts values finds n a v k = last - k
+μ-loop file l from count starts₀ values₀ finds₀ last at₀ begin n₀ a₀ v₀ k₀ starts values finds at n a v k =
+    last - k
+
+-- the first point stands in the file
+first : (s : tie.Start Inv-loop μ-loop) → s .args .from < s .args .l .points
+first s = omega (arith, s .pre .1 .0 .0 .some, s .pre .1 .0 .1)
+
+-- and what was read of it is the day's first value
+begun : (c : tie.After-travel Inv-loop μ-loop)
+    → c .travel .result
+    ≡ entryAt (decode (now (c .before .before .before .before .before .args .file)) .travels)
+    (c .before .before .before .before .before .args .from) 0
+begun c = let s = c .before .before .before .before .before in
+    entry-start _ (s .args .from) _
+    (travel-read (s .pre .0) (first s) (c .before .point-at .ensures) (c .travel .ensures))
+
+abbrev start : tie.In-loop Inv-loop μ-loop → tie.Start Inv-loop μ-loop
+start c = c .before .before .before .before .before .before .before
+
+-- this point stands in the file
+here : (c : tie.In-loop Inv-loop μ-loop)
+    → start c .args .from + c .before .loop .k < start c .args .l .points
+here c = omega arith
+
+-- and the next, with the walk before it
+inside : (c : tie.In-loop Inv-loop μ-loop)
+    → start c .args .from + (c .before .loop .k + 1) < start c .args .l .points
+inside c = omega arith
+
+stands : (c : tie.After-next Inv-loop μ-loop)
+    → c .next .result
+    ≡ pointAt (start (c .before) .args .l .pointblock)
+    (start (c .before) .args .from + (c .before .before .loop .k + 1))
+stands c = let d = c .before in
+    step-on (start d .pre .0) _ (d .before .loop .k) (here d) (d .before .loop .inv .6) (c .next .ensures)
+
+tick-told : (c : tie.After-field16 Inv-loop μ-loop)
+    → c .field16 .result
+    ≡ tick (decode (now (start (c .before .before) .args .file)))
+    (start (c .before .before) .args .from + (c .before .before .before .loop .k + 1))
+tick-told c =
+    tick-read (start (c .before .before) .pre .0) (inside (c .before .before)) (stands (c .before))
+    (c .field16 .ensures .0)
+
+travel-told : (c : tie.After-travel2 Inv-loop μ-loop)
+    → c .travel2 .result
+    ≡ travel (decode (now (start (c .before .before .before) .args .file)))
+    (start (c .before .before .before) .args .from + (c .before .before .before .before .loop .k + 1))
+travel-told c =
+    travel-read (start (c .before .before .before) .pre .0) (inside (c .before .before .before))
+    (stands (c .before .before)) (c .travel2 .ensures)
 
 sub-last : tie.Need-sub-last Inv-loop μ-loop
 sub-last c = search needs
 
+point-at-requires : tie.Need-point-at-requires Inv-loop μ-loop
+point-at-requires c κs = let s = c .before .before .before in point-near (s .pre .0) (first s)
+
 travel-requires : tie.Need-travel-requires Inv-loop μ-loop
-travel-requires c κs = search needs
+travel-requires c κs = let s = c .before .before .before .before in
+    travel-there (s .pre .0) (first s) (c .point-at .ensures)
 
 slice-write-starts : tie.Need-slice-write-starts Inv-loop μ-loop
 slice-write-starts c = search needs
 
 loop-holds : tie.Need-loop-holds Inv-loop μ-loop
-loop-holds c = let s = c .before .before .before .before in
+loop-holds c = let s = c .before .before .before .before .before in
     let z = length-set (s .args .starts .now) 0 0 in
     let r = s .pre .1 .1 .0 in (
       search needs,
@@ -42,53 +101,45 @@ loop-holds c = let s = c .before .before .before .before in
       refl,
       record { short = r .short; in-s = omega (arith, r .in-s, z); in-v = r .in-v },
       filling-start (s .pre .1 .0 .0) _ _
-          (getD-set-same (s .args .starts .now) 0 0 0 (omega (arith, r .in-s)))
-          (entry-start _ (s .args .from) _ (c .travel .ensures)),
+          (getD-set-same (s .args .starts .now) 0 0 0 (omega (arith, r .in-s))) (begun c),
       omega arith,
+      walk-first _ _ _ _ (c .before .point-at .ensures),
     )
 
-add-tick : tie.Need-add-tick Inv-loop μ-loop
-add-tick c = search needs
+next-requires : tie.Need-next-requires Inv-loop μ-loop
+next-requires c κs = step-may (start c .pre .0) _ (c .before .loop .k) (here c) (c .before .loop .inv .6)
 
-add-tick-2 : tie.Need-add-tick-2 Inv-loop μ-loop
-add-tick-2 c = search needs
-
-tick-requires : tie.Need-tick-requires Inv-loop μ-loop
-tick-requires c κs = search needs
-
-add-travel : tie.Need-add-travel Inv-loop μ-loop
-add-travel c = search needs
-
-add-travel-2 : tie.Need-add-travel-2 Inv-loop μ-loop
-add-travel-2 c = search needs
+field16-requires : tie.Need-field16-requires Inv-loop μ-loop
+field16-requires c κs = tick-there (start (c .before) .pre .0) (inside (c .before)) (stands c)
 
 travel-requires-2 : tie.Need-travel-requires-2 Inv-loop μ-loop
-travel-requires-2 c κs = search needs
+travel-requires-2 c κs =
+    travel-there (start (c .before .before) .pre .0) (inside (c .before .before)) (stands (c .before))
 
 extend-requires : tie.Need-extend-requires Inv-loop μ-loop
 unfolding entryAt
-extend-requires c κs =
-    let s = c .before .before .before .before .before .before .before .before .before .before .before in
-    let l = c .before .before .before .before .before .before .loop in
+extend-requires c κs = let d = c .before .before .before .before .before .before in
+    let s = start d in
+    let l = d .before .loop in
+    let t = tick-told (c .before .before .before .before) in
     let h : l .k + 1 < s .args .count = omega arith in (
-      room-next (s .pre .1 .0 .0) _ (l .inv .4) _ (l .inv .3) (c .before .before .before .before
-          .tick .ensures .0) h,
+      room-next (s .pre .1 .0 .0) _ (l .inv .4) _ (l .inv .3) t h,
       omega (arith, l .inv .5, s .pre .1 .1 .1),
     )
 
 add-k : tie.Need-add-k Inv-loop μ-loop
-add-k c = search needs
+add-k c = let d = c .before .before .before .before .before .before .before .before .before .before .before in
+    omega (arith, d .loop-test .taken, start d .fits .count)
 
 loop-less : tie.Need-loop-less Inv-loop μ-loop
 loop-less c = search needs
 
 loop-again : tie.Need-loop-again Inv-loop μ-loop
 unfolding entryAt
-loop-again c =
-    let s =
-    c .before .before .before .before .before .before .before .before .before .before .before .before .before
-    .before .before .before in
-    let l = c .before .before .before .before .before .before .before .before .before .before .before .loop in
+loop-again c = let f = c .before .before .before .before .before .before .before .before in
+    let d = f .before .before .before in
+    let s = start d in
+    let l = d .before .loop in
     let t = c .before .before .before .before .extend .ensures in
     let e = t .0 in
     let h : l .k + 1 < s .args .count = omega arith in (
@@ -96,81 +147,43 @@ loop-again c =
       e .long-s ∙ l .inv .1,
       e .long-v ∙ l .inv .2,
       space-on (l .inv .3) e,
-      filling-next (s .pre .1 .0 .0) _ (l .inv .4) e
-          (c .before .before .before .before .before .before .before .before .before .tick .ensures .0)
-          (c .before .before .before .before .before .before .before .before .travel2 .ensures) h,
+      filling-next (s .pre .1 .0 .0) _ (l .inv .4) e (tick-told (f .before)) (travel-told f) h,
       omega (arith, l .inv .5, t .1),
+      stands (f .before .before),
     )
 
-extend-requires-2 : tie.Need-extend-requires-2 Inv-loop μ-loop
-extend-requires-2 c κs = let s = c .before .before .before .before .before .before .before .before .before in
-    let l = c .before .before .before .before .loop in (
-      room-last (s .pre .1 .0 .0) _ (l .inv .4) (l .inv .3) (omega (arith, s .pre .1 .0 .0 .some, l .inv .0)),
-      omega (arith, l .inv .5, s .pre .1 .1 .1, l .inv .0, s .pre .1 .0 .0 .some),
+finish-requires : tie.Need-finish-requires Inv-loop μ-loop
+finish-requires c κs = let d = c .before .before .before in
+    let s = d .before .before .before .before .before .before .before in
+    let l = d .before .loop in
+    let y = s .pre .1 .0 .0 in
+    let h : l .k < s .args .count = omega (arith, y .some, l .inv .0) in
+    let o : s .args .count ≤ l .k + 1 = omega (arith, d .loop-test .left) in (
+      room-last y _ (l .inv .4) (l .inv .3) h,
+      (
+        filling-leads y _ (l .inv .4) refl (begun (d .before .before)) h o,
+        omega (arith, l .inv .5, s .pre .1 .1 .1),
+      ),
     )
-
-close-requires : tie.Need-close-requires Inv-loop μ-loop
-close-requires c κs =
-    let s = c .before .before .before .before .before .before .before .before .before .before
-    .before .before .before .before .before .before in
-    let l = c .before .before .before .before .before .before .before .before .before .before
-    .before .loop in
-    let e = c .before .before .before .before .before .before .extend2 .ensures .0 in
-    let p =
-    filling-last (s .pre .1 .0 .0) _ (l .inv .4) (c .before .before .before .before .before
-    .before .extend2 .ensures .0) refl
-    (entry-start _ (s .args .from) _ (c .before .before .before .before .before .before .before
-    .before .before .before .before .before .travel .ensures))
-    (omega (arith, s .pre .1 .0 .0 .some, l .inv .0))
-    (omega (
-      arith,
-      c .before .before .before .before .before .before .before .before .before
-          .before .loop-test .left,
-    )) in
-    pending-ends (space-on (l .inv .3) e) p
 
 same-length : tie.Need-same-length Inv-loop μ-loop
-same-length c =
-    c .before .before .before .before .close .ensures .long-s ∙ c .before .before .before .before
-    .before .before .before .before .before .before .before .extend2 .ensures .0 .long-s
-    ∙ c .before .before .before .before .before .before .before .before .before .before .before
-    .before .before .before .before .before .loop .inv .1
-    ∙ length-set (c .before .before .before .before .before .before .before .before .before .before
-    .before .before .before .before .before .before .before .before .before .before
-    .before .args .starts .now) 0 0
+same-length c = let d = c .before .before .before .before .before .before .before .before in
+    c .before .before .before .before .finish .ensures .0 .long-s ∙ d .before .loop .inv .1
+    ∙ length-set (d .before .before .before .before .before .before .before .args .starts .now) 0 0
 
 same-length-2 : tie.Need-same-length-2 Inv-loop μ-loop
 same-length-2 c = search needs
 
 returns : tie.Need-returns Inv-loop μ-loop
-returns c =
-    let s = c .before .before .before .before .before .before .before .before .before .before
-    .before .before .before .before .before .before .before .before .before .before .before in
-    let l = c .before .before .before .before .before .before .before .before .before .before
-    .before .before .before .before .before .before .loop in
-    let t = c .before .before .before .before .before .before .before .before .before .before
-    .before .before .before .before .before .loop-test .left in
-    let p =
-    filling-last (s .pre .1 .0 .0) _ (l .inv .4) (c .before .before .before .before .before .before
-    .before .before .before .before .before .extend2 .ensures .0) refl
-    (entry-start _ (s .args .from) _ (c .before .before .before .before .before .before .before
-    .before .before .before .before .before .before .before .before .before .before .travel .ensures))
-    (omega (arith, s .pre .1 .0 .0 .some, l .inv .0))
-    (omega (
-      arith,
-      c .before .before .before .before .before .before .before .before .before .before
-          .before .before .before .before .before .loop-test .left,
-    )) in (
-      c .before .before .before .before .close .ensures .runs _ p,
-      omega (
-        arith,
-        l .inv .5,
-        c .before .before .before .before .before .before .before .before
-            .before .before .before .extend2 .ensures .1,
-        s .pre .1 .0 .0 .some,
-        l .inv .0,
-        t,
-      ),
+returns c = let d = c .before .before .before .before .before .before .before .before in
+    let s = d .before .before .before .before .before .before .before in
+    let l = d .before .loop in
+    let y = s .pre .1 .0 .0 in
+    let h : l .k < s .args .count = omega (arith, y .some, l .inv .0) in
+    let o : s .args .count ≤ l .k + 1 = omega (arith, d .loop-test .left) in
+    let f = c .before .before .before .before .finish .ensures in (
+      filling-last y _ (l .inv .4) refl (begun (d .before .before)) h o (f .0),
+      omega (arith, l .inv .5, f .1),
     )
 
 pub fill-points-spec : {M : Type 1} → statement M
@@ -180,21 +193,18 @@ fill-points-spec =
     Inv-loop
     μ-loop
     sub-last
+    point-at-requires
     travel-requires
     slice-write-starts
     loop-holds
-    add-tick
-    add-tick-2
-    tick-requires
-    add-travel
-    add-travel-2
+    next-requires
+    field16-requires
     travel-requires-2
     extend-requires
     add-k
     loop-less
     loop-again
-    extend-requires-2
-    close-requires
+    finish-requires
     same-length
     same-length-2
     returns)

@@ -1,37 +1,73 @@
--- `profile_runs::greatest_point` meets its contract: none of the first k points is above the greatest.
-use Prim.Native.Nat.{_-_, _≤_}
+-- `profile_runs::greatest_point` meets its contract: none of the first k + 1 points is above the greatest,
+-- and the walk stands before the last of them.
+use mathlib.Core.Path.{_≡_}
+use Prim.Native.Nat.{_+_, _-_, _≤_, _<_}
 use native.Mathlib.Omega.{arith}
 use Rattle.theory_travel.specs.Table.{entryAt, entry-start}
 use Rattle.plan.specs.PlanDecode.{decodePlan}
 use Rattle.day_runs.specs.Bounds.{Most, most-one, most-more}
-use mathlib.Core.Path.{_≡_}
+use Rattle.file_blocks.specs.Walk.{walk-first}
+use Rattle.plan.specs.PlanWalk.{pointAt, point-may, point-on, point-near}
+use Rattle.plan.specs.PlanWalk.{travel-there, travel-read}
 use borrow.Author.Needs.{needs}
 use Rattle.profile_runs.proofs.greatest_point.Statement.{statement}
 use Rattle.profile_runs.proofs.greatest_point.Tie as tie
 
 abbrev Inv-loop : tie.InvT-loop
-Inv-loop plan l from count greatest₀ k₀ greatest k =
-    (1 ≤ k) × (k ≤ count) × Most (entryAt (decodePlan plan .travels) from) k greatest
+Inv-loop plan from count last block at₀ greatest₀ k₀ at greatest k =
+    (k ≤ last) × Most (entryAt (decodePlan plan .travels) from) (k + 1) greatest
+    × (at ≡ pointAt block (from + k))
 
 abbrev μ-loop : tie.MeasureT-loop
-μ-loop plan l from count greatest₀ k₀ greatest k = count - k
+μ-loop plan from count last block at₀ greatest₀ k₀ at greatest k = last - k
 
-travel-requires : tie.Need-travel-requires Inv-loop μ-loop
-travel-requires c κs = search needs
+-- the first point stands in the file
+first : (s : tie.Start Inv-loop μ-loop) → s .args .from < s .args .l .points
+first s = omega arith
+
+abbrev start : tie.In-loop Inv-loop μ-loop → tie.Start Inv-loop μ-loop
+start c = c .before .before .before .before .before
+
+-- this point stands in the file
+here : (c : tie.In-loop Inv-loop μ-loop)
+    → start c .args .from + c .before .loop .k < start c .args .l .points
+here c = omega arith
+
+-- and the next, with the walk before it
+inside : (c : tie.In-loop Inv-loop μ-loop)
+    → start c .args .from + (c .before .loop .k + 1) < start c .args .l .points
+inside c = omega arith
+
+stands : (c : tie.After-next Inv-loop μ-loop)
+    → c .next .result
+    ≡ pointAt (start (c .before) .args .l .pointblock)
+    (start (c .before) .args .from + (c .before .before .loop .k + 1))
+stands c = let d = c .before in
+    point-on (start d .pre .0) _ (d .before .loop .k) (here d) (d .before .loop .inv .2) (c .next .ensures)
+
+sub-last : tie.Need-sub-last Inv-loop μ-loop
+sub-last c = search needs
+
+point-at-requires : tie.Need-point-at-requires Inv-loop μ-loop
+point-at-requires c κs = point-near (c .before .pre .0) (first (c .before))
+
+field32-requires : tie.Need-field32-requires Inv-loop μ-loop
+field32-requires c κs = let s = c .before .before in
+    travel-there (s .pre .0) (first s) (c .point-at .ensures)
 
 loop-holds : tie.Need-loop-holds Inv-loop μ-loop
-loop-holds c = (
-  search needs,
-  search needs,
-  most-one _ _
-      (entry-start _ (c .before .before .args .from) _ (c .travel .ensures)),
-)
+loop-holds c = let s = c .before .before .before in
+    let e = travel-read (s .pre .0) (first s) (c .before .point-at .ensures) (c .field32 .ensures) in (
+      search needs,
+      most-one _ _ (entry-start _ (s .args .from) _ e),
+      walk-first _ _ _ _ (c .before .point-at .ensures),
+    )
 
-add-travel : tie.Need-add-travel Inv-loop μ-loop
-add-travel c = search needs
+next-requires : tie.Need-next-requires Inv-loop μ-loop
+next-requires c κs = point-may (start c .pre .0) _ (c .before .loop .k) (here c) (c .before .loop .inv .2)
 
-travel-requires-2 : tie.Need-travel-requires-2 Inv-loop μ-loop
-travel-requires-2 c κs = search needs
+field32-requires-2 : tie.Need-field32-requires-2 Inv-loop μ-loop
+field32-requires-2 c κs = travel-there (start (c .before) .pre .0) (inside (c .before)) (stands c)
 
 greater-requires : tie.Need-greater-requires Inv-loop μ-loop
 greater-requires c κs = search needs
@@ -44,17 +80,18 @@ loop-less c = search needs
 
 loop-again : tie.Need-loop-again Inv-loop μ-loop
 unfolding entryAt
-loop-again c = (
-  search needs,
-  search needs,
-  most-more _ _ _ _ _ (c .before .before .before .loop .inv .2)
-      (c .before .travel2 .ensures) (c .greater .ensures),
-)
+loop-again c = let d = c .before .before in
+    let s = start (d .before) in
+    let e = travel-read (s .pre .0) (inside (d .before)) (stands d) (c .before .field322 .ensures) in (
+      search needs,
+      most-more _ _ _ _ _ (d .before .before .loop .inv .1) e (c .greater .ensures),
+      stands d,
+    )
 
 returns : tie.Need-returns Inv-loop μ-loop
 returns c = let l = c .before .loop in
-    let e : l .k ≡ c .before .before .before .before .args .count = omega arith in
-    rw e at (l .inv .2)
+    let e : l .k + 1 ≡ c .before .before .before .before .before .args .count = omega arith in
+    rw e at (l .inv .1)
 
 pub greatest-point-spec : {M : Type 1} → statement M
 greatest-point-spec =
@@ -62,10 +99,12 @@ greatest-point-spec =
     (tie.spec
     Inv-loop
     μ-loop
-    travel-requires
+    sub-last
+    point-at-requires
+    field32-requires
     loop-holds
-    add-travel
-    travel-requires-2
+    next-requires
+    field32-requires-2
     greater-requires
     add-k
     loop-less

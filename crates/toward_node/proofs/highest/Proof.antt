@@ -28,14 +28,25 @@ shared-slice-read-high c = search needs
 loop-holds : tie.Need-loop-holds Inv-loop μ-loop
 loop-holds c = (search needs, search needs, upper-none (omega arith) refl)
 
-mul-greater : tie.Need-mul-greater Inv-loop μ-loop
-mul-greater c = search needs
+mul-higher : tie.Need-mul-higher Inv-loop μ-loop
+mul-higher c = search needs
 
-shared-slice-read-greater : tie.Need-shared-slice-read-greater Inv-loop μ-loop
-shared-slice-read-greater c = search needs
+shared-slice-read-higher : tie.Need-shared-slice-read-higher Inv-loop μ-loop
+shared-slice-read-higher c = search needs
 
-greater-requires : tie.Need-greater-requires Inv-loop μ-loop
-greater-requires c κs = search needs
+higher-requires : tie.Need-higher-requires Inv-loop μ-loop
+higher-requires c κs =
+    let s = c .before .before .before .before .before .before .before in
+    let r = c .before .before .before .before .before .row-place .ensures .0 in
+    let at = c .before .before .loop in
+    let w = at .inv .2 in (
+      omega (
+        arith,
+        w .met,
+        s .pre .1 .2 .entry (w .at) (omega (arith, r, w .from)) (omega (arith, r, w .to)),
+      ),
+      s .pre .1 .2 .entry (at .i) (omega (arith, r, at .inv .0)) (omega (arith, r)),
+    )
 
 add-i : tie.Need-add-i Inv-loop μ-loop
 add-i c = search needs
@@ -48,7 +59,7 @@ loop-again c = (
   search needs,
   search needs,
   upper-more (c .before .before .before .loop .inv .2) (c .before .before .before .loop .inv .0)
-      (c .before .before .loop-test .taken) (c .greater .ensures),
+      (c .before .before .loop-test .taken) (c .higher .ensures),
 )
 
 returns : tie.Need-returns Inv-loop μ-loop
@@ -67,9 +78,9 @@ highest-spec =
     mul-high
     shared-slice-read-high
     loop-holds
-    mul-greater
-    shared-slice-read-greater
-    greater-requires
+    mul-higher
+    shared-slice-read-higher
+    higher-requires
     add-i
     loop-less
     loop-again

@@ -3,7 +3,7 @@ use Prim.Native.Nat.{_+_, _*_, _≤_}
 use native.Mathlib.Omega.{arith}
 use lib.ListN.{length}
 use denote.Ref.{now}
-use Rattle.toward_node.specs.Rows.{row-lent, fresh-lent}
+use Rattle.toward_node.specs.Rows.{row-lent, known-lent}
 use borrow.Author.Needs.{needs}
 use Rattle.toward_node.proofs.lower_row.Statement.{statement}
 use Rattle.toward_node.proofs.lower_row.Tie as tie
@@ -34,7 +34,7 @@ lower-arc-requires c κs =
         s .pre .1 .0 .0,
         search needs,
         s .pre .1 .1 .0,
-        fresh-lent (c .before .before .before .row-place .ensures .0) (s .pre .1 .1 .1),
+        known-lent (c .before .before .before .row-place .ensures .0) (s .pre .1 .1 .1),
       ),
     )
 

@@ -4,8 +4,10 @@ use Prim.Native.Nat.{_<_}
 use native.Mathlib.Omega.{arith}
 use borrow.Author.Tests.{leb-true, eqb-true, eqb-false}
 use Rattle.search_arcs.specs.Town.{tail-node, head-node}
-use Rattle.toward_node.specs.Heights.{held-capped, heights-fresh}
-use Rattle.toward_node.specs.Turn.{stepped-skip, stepped-quiet, stepped-lower, least-near, near-first}
+use Rattle.toward_node.specs.Heights.{held-capped, heights-known}
+use Rattle.toward_node.specs.Seen.{seen-size, seen-known}
+use Rattle.toward_node.specs.Turn.{stepped-skip, tail-quiet, tail-lower, tail-numbers}
+use Rattle.toward_node.specs.Turn.{least-near, near-first}
 use borrow.Author.Needs.{needs}
 use Rattle.toward_node.proofs.lower_tail.Statement.{statement}
 use Rattle.toward_node.proofs.lower_tail.Tie as tie
@@ -51,10 +53,11 @@ lower-row-requires c κs =
     let met = head-node (p .town) _ _ h refl in (
       p,
       (
-        (h, node, o .size),
+        (h, node, seen-size _ o),
         (
           held-capped (p .town .small) o (s .pre .1 .2) met,
-          heights-fresh (p .town .small) o node (λ t. eqb-true _ _ t) (λ t. eqb-false _ _ t),
+          seen-known _ _ _ _ (λ t. eqb-false _ _ t)
+              (heights-known (p .town .small) o node (λ t. eqb-false _ _ t)),
         ),
       ),
     )
@@ -66,9 +69,10 @@ returns-2 : tie.Need-returns-2
 returns-2 c =
     let s = c .before .before .before .before .before .before .before .before .before .before .before
     .before in
-    stepped-quiet (s .pre .0 .0) (s .pre .1 .0) (s .pre .1 .1) (s .pre .1 .2) (c .before .before .before
+    tail-quiet (s .pre .0 .0) (s .pre .1 .0) (s .pre .1 .1) (s .pre .1 .2) (c .before .before .before
     .before .before .before .before .before .before .tail .ensures .0)
-    (c .before .before .before .lower-row .ensures) (c .if2 .taken)
+    (c .before .before .before .lower-row .ensures) (λ t. eqb-true _ _ t) (λ t. eqb-false _ _ t)
+    (c .if2 .taken)
 
 mul-nearness-after : tie.Need-mul-nearness-after
 mul-nearness-after c = search needs
@@ -91,9 +95,10 @@ nearness-after-requires c κs =
       p .town .small,
       (
         tail-node (p .town) _ _ h e,
-        r .filled .long ∙ o .size,
+        r .filled .long ∙ seen-size _ o,
         least-near p h o k e w,
-        near-first p h o k e r w (λ t. eqb-true _ _ t),
+        near-first p h o k e r w,
+        tail-numbers p h o k e r,
       ),
     )
 
@@ -114,13 +119,15 @@ element-write-near c =
 highest-requires : tie.Need-highest-requires
 highest-requires c κs =
     let s = c .before .before .before .before .before .before .before .before .before .before .before
-    .before .before .before .before .before in (
+    .before .before .before .before .before in
+    let e = c .before .before .before .before .before .before .before .before .before .before .before .before
+    .before .tail .ensures .0 in
+    let r = c .before .before .before .before .before .before .before .lower-row .ensures in (
       s .pre .0 .0 .town .small,
       (
-        tail-node (s .pre .0 .0 .town) _ _ (s .pre .1 .0) (c .before .before .before .before .before
-            .before .before .before .before .before .before .before .before .tail .ensures .0),
-        c .before .before .before .before .before .before .before .lower-row .ensures .filled .long ∙ s
-            .pre .1 .1 .size,
+        tail-node (s .pre .0 .0 .town) _ _ (s .pre .1 .0) e,
+        r .filled .long ∙ seen-size _ (s .pre .1 .1),
+        tail-numbers (s .pre .0 .0) (s .pre .1 .0) (s .pre .1 .1) (s .pre .1 .2) e r,
       ),
     )
 
@@ -150,10 +157,11 @@ returns-3 c =
     .before .before .before .before .before .before in
     let z : 0 < c .before .before .before .before .before .before .before .before .lower-row .result =
     omega arith in
-    stepped-lower (s .pre .0 .0) (s .pre .1 .0) (s .pre .1 .1) (s .pre .1 .2) (c .before .before .before
+    tail-lower (s .pre .0 .0) (s .pre .1 .0) (s .pre .1 .1) (s .pre .1 .2) (c .before .before .before
     .before .before .before .before .before .before .before .before .before .before .before .tail .ensures .0)
-    (c .before .before .before .before .before .before .before .before .lower-row .ensures) z (c .before
-    .before .nearness-after .ensures) (c .highest .ensures)
+    (c .before .before .before .before .before .before .before .before .lower-row .ensures)
+    (λ t. eqb-true _ _ t) (λ t. eqb-false _ _ t) z (c .before .before .nearness-after .ensures)
+    (c .highest .ensures)
 
 pub lower-tail-spec : {M : Type 1} → statement M
 lower-tail-spec =

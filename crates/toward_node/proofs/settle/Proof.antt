@@ -3,6 +3,7 @@
 use mathlib.Core.Path.{sym, _∙_}
 use Prim.Native.Nat.{_-_}
 use native.Mathlib.Omega.{arith}
+use Rattle.toward_node.specs.Seen.{seen, seen-size}
 use Rattle.toward_node.specs.Turn.{Walking, walking-start, walking-held, walking-next, walking-less}
 use Rattle.toward_node.specs.Turn.{walking-end}
 use borrow.Author.Needs.{needs}
@@ -11,13 +12,16 @@ use Rattle.toward_node.proofs.settle.Tie as tie
 
 abbrev Inv-loop : tie.InvT-loop
 Inv-loop file l starts into next least v bar hs work₀ near₀ low room₀ reach a₀ work near room a =
-    Walking file l v a reach bar hs work₀ near₀ room₀ work near room
+    Walking file l v a reach bar hs (seen (l .period) room₀ work₀) near₀ room₀ (seen (l .period) room work)
+    near room
 
 abbrev μ-loop : tie.MeasureT-loop
 μ-loop file l starts into next least v bar hs work₀ near₀ low room₀ reach a₀ work near room a = l .arcs - a
 
 copy-row-requires : tie.Need-copy-row-requires Inv-loop μ-loop
-copy-row-requires c κs = search needs
+copy-row-requires c κs =
+    let s = c .before .before .before .before in
+    (s .pre .0 .0 .primed .town .small, (s .pre .1 .0, seen-size _ (s .pre .1 .1), s .pre .1 .4))
 
 mul-reach : tie.Need-mul-reach Inv-loop μ-loop
 mul-reach c = search needs
@@ -49,7 +53,7 @@ wide-requires c κs = search needs
 loop-holds : tie.Need-loop-holds Inv-loop μ-loop
 loop-holds c =
     let s = c .before .before .before .before .before .before .before .before in
-    walking-start (s .pre .0 .0) (s .pre .1 .0) (s .pre .1 .1) (s .pre .1 .3) (s .pre .1 .4)
+    walking-start (s .pre .0 .0) _ (s .pre .1 .0) (s .pre .1 .1) (s .pre .1 .3) (s .pre .1 .4)
     (c .before .before .before .copy-row .ensures) (c .wide .ensures .0)
 
 lower-tail-requires : tie.Need-lower-tail-requires Inv-loop μ-loop
@@ -97,8 +101,8 @@ loop-again c =
 
 same-length : tie.Need-same-length Inv-loop μ-loop
 same-length c =
-    c .before .before .loop .inv .heights .size ∙ sym (c .before .before .before .before .before .before
-    .before .before .before .before .before .pre .1 .1 .size)
+    seen-size _ (c .before .before .loop .inv .heights) ∙ sym (seen-size _ (c .before .before .before .before
+    .before .before .before .before .before .before .before .pre .1 .1))
 
 returns : tie.Need-returns Inv-loop μ-loop
 returns c =

@@ -1,14 +1,16 @@
 -- `toward_row::copy_run` meets its contract: the entries passed are copied.
+use mathlib.Core.Bool.{true}
 use Prim.Native.Nat.{_+_, _-_, _≤_, _<_}
 use native.Mathlib.Omega.{arith}
 use Rattle.theory_loops.specs.Fill.{Filled, fills}
-use Rattle.toward_row.specs.Lower.{copied, copies}
+use Rattle.toward_row.specs.Lower.{shifted, copies}
 use borrow.Author.Needs.{needs}
 use Rattle.toward_row.proofs.copy_run.Statement.{statement}
 use Rattle.toward_row.proofs.copy_run.Tie as tie
 
 abbrev Inv-loop : tie.InvT-loop
-Inv-loop hs from more row₀ a b x₀ row x = (a ≤ x) × (x ≤ b) × Filled a x (copied hs from a more) row₀ row
+Inv-loop hs from more row₀ a b x₀ row x =
+    (a ≤ x) × (x ≤ b) × Filled a x (shifted true hs from a more row₀) row₀ row
 
 abbrev μ-loop : tie.MeasureT-loop
 μ-loop hs from more row₀ a b x₀ row x = b - x

@@ -1,5 +1,6 @@
 -- `toward_row::fold_run` meets its contract: the entries passed are lowered, and the one at hand is the old
 -- one.
+use mathlib.Core.Bool.{false}
 use Prim.Native.Nat.{_+_, _-_, _≤_, _<_}
 use native.Mathlib.Omega.{arith}
 use Rattle.toward_row.specs.Cut.{Cut}
@@ -10,7 +11,7 @@ use Rattle.toward_row.proofs.fold_run.Tie as tie
 
 abbrev Inv-loop : tie.InvT-loop
 Inv-loop hs from more row₀ a b count₀ x₀ row count x =
-    (a ≤ x) × (x ≤ b) × Cut a x (shifted hs from a more row₀) row₀ row count
+    (a ≤ x) × (x ≤ b) × Cut false a x (shifted false hs from a more row₀) row₀ row count
 
 abbrev μ-loop : tie.MeasureT-loop
 μ-loop hs from more row₀ a b count₀ x₀ row count x = b - x

@@ -3,7 +3,7 @@ use Prim.Native.Nat.{_+_, _-_, _≤_}
 use native.Mathlib.Omega.{arith}
 use Rattle.theory_travel.specs.Pieces.{lineAt}
 use Rattle.toward_row.specs.Cut.{Cut}
-use Rattle.toward_row.specs.Lower.{entries, lowered, fresh-on}
+use Rattle.toward_row.specs.Lower.{entries, lowered, known-on}
 use Rattle.toward_row.specs.Pieces.{FallingAt, fall-run, falls}
 use borrow.Author.Needs.{needs}
 use Rattle.toward_row.proofs.lower_falling.Statement.{statement}
@@ -12,7 +12,7 @@ use Rattle.toward_row.proofs.lower_falling.Tie as tie
 abbrev Inv-loop : tie.InvT-loop
 Inv-loop first hs period row₀ a v b w fall step count₀ parts₀ x₀ j₀ row count parts x j =
     (j ≤ fall) × FallingAt a v b w step parts x j
-    × Cut a x (lowered (lineAt a v b w) (entries hs) period row₀) row₀ row count
+    × Cut first a x (lowered first (lineAt a v b w) (entries hs) period row₀) row₀ row count
 
 abbrev μ-loop : tie.MeasureT-loop
 μ-loop first hs period row₀ a v b w fall step count₀ parts₀ x₀ j₀ row count parts x j = fall - j
@@ -57,7 +57,7 @@ lower-span-requires c κs =
     let w = c .before .before .before .loop .inv in
     let m : a .a ≤ c .before .before .before .loop .x = omega (arith, w .1 .at) in (
       (l, omega arith, omega arith, omega arith, omega arith),
-      (r .capped, fresh-on (r .fresh) (w .2 .filled) m h),
+      (r .capped, known-on (r .known) (w .2 .filled) m h),
     )
 
 add-count : tie.Need-add-count Inv-loop μ-loop

@@ -9,7 +9,7 @@ use Rattle.theory_travel.specs.Table.{entryAt, valueAt, entry-start}
 use Rattle.theory_travel.specs.Pieces.{tick-first, tick-rises, tick-below}
 use Rattle.network.specs.Decode.{decode}
 use Rattle.toward_row.specs.Cut.{Cut, cut-none}
-use Rattle.toward_row.specs.Lower.{entries, lowered, fresh-on}
+use Rattle.toward_row.specs.Lower.{entries, lowered, known-on}
 use Rattle.toward_row.specs.Arcs.{Flat, flat-none, flat-more, flat-lowered, ready-next, ready-last}
 use Rattle.toward_row.specs.Arcs.{arc-next, arc-last}
 use borrow.Author.Needs.{needs}
@@ -20,8 +20,8 @@ abbrev Inv-loop : tie.InvT-loop
 Inv-loop first file l from count hs row₀ last begin fallen₀ flat₀ a₀ v₀ k₀ row fallen flat a v k =
     (k ≤ last) × (a ≡ entryAt (decode file .ticks) from k) × (v ≡ entryAt (decode file .travels) from k)
     × Flat (valueAt (decode file .ticks) (decode file .travels) from count (l .period)) flat a v
-    × Cut 0 flat
-    (lowered (valueAt (decode file .ticks) (decode file .travels) from count (l .period)) (entries hs)
+    × Cut first 0 flat
+    (lowered first (valueAt (decode file .ticks) (decode file .travels) from count (l .period)) (entries hs)
     (l .period) row₀) row₀ row fallen
 
 abbrev μ-loop : tie.MeasureT-loop
@@ -100,7 +100,7 @@ lower-span-requires c κs =
       ),
       (
         s .pre .1 .1 .1,
-        fresh-on (s .pre .1 .1 .2) (l .inv .4 .filled) (omega arith)
+        known-on (s .pre .1 .1 .2) (l .inv .4 .filled) (omega arith)
             (omega (arith, tick-below (s .pre .1 .0 .day) (l .k) _ (l .inv .1) h)),
       ),
     )
@@ -133,12 +133,12 @@ lower-piece-requires c κs =
     let m : s .args .l .period ≤ length (c .before .before .before .lower-span .last .1 .1 .1 .1 .0) =
     omega (arith, l .inv .4 .filled .long, c .before .before .before .lower-span .ensures .filled .long)
     in
-    let before = fresh-on {e = s .args .l .period} (s .pre .1 .1 .2) (l .inv .4 .filled) (omega arith)
+    let before = known-on {e = s .args .l .period} (s .pre .1 .1 .2) (l .inv .4 .filled) (omega arith)
     (omega arith) in
-    let fresh = fresh-on {e = s .args .l .period} before (c .before .before .before .lower-span .ensures
+    let known = known-on {e = s .args .l .period} before (c .before .before .before .lower-span .ensures
     .filled)
     (l .inv .3 .order) (omega arith) in
-    ready-next (s .pre .1 .0) (s .pre .1 .1 .1) (l .k) _ _ _ _ fresh (l .inv .1) (l .inv .2) m
+    ready-next (s .pre .1 .0) (s .pre .1 .1 .1) (l .k) _ _ _ _ known (l .inv .1) (l .inv .2) m
     (c .before .before .before .before .before .before .before .tick .ensures .0)
     (c .before .before .before .before .before .before .travel2 .ensures .0) h
 
@@ -212,7 +212,7 @@ lower-span-requires-2 c κs =
       ),
       (
         s .pre .1 .1 .1,
-        fresh-on (s .pre .1 .1 .2) (l .inv .4 .filled) (omega arith)
+        known-on (s .pre .1 .1 .2) (l .inv .4 .filled) (omega arith)
             (omega (arith, tick-below (s .pre .1 .0 .day) (l .k) _ (l .inv .1) h)),
       ),
     )
@@ -245,12 +245,12 @@ lower-piece-requires-2 c κs =
     let first =
     entry-start (decode (now (s .args .file)) .travels) (s .args .from) _
     (c .before .before .before .before .before .before .before .travel .ensures .0) in
-    let before = fresh-on {e = s .args .l .period} (s .pre .1 .1 .2) (l .inv .4 .filled) (omega arith)
+    let before = known-on {e = s .args .l .period} (s .pre .1 .1 .2) (l .inv .4 .filled) (omega arith)
     (omega arith) in
-    let fresh = fresh-on {e = s .args .l .period} before (c .before .before .before .lower-span2 .ensures
+    let known = known-on {e = s .args .l .period} before (c .before .before .before .lower-span2 .ensures
     .filled)
     (l .inv .3 .order) (omega arith) in
-    ready-last (s .pre .1 .0) (s .pre .1 .1 .1) (l .k) _ _ _ _ fresh (l .inv .1) (l .inv .2) m refl first h
+    ready-last (s .pre .1 .0) (s .pre .1 .1 .1) (l .k) _ _ _ _ known (l .inv .1) (l .inv .2) m refl first h
 
 add-result : tie.Need-add-result Inv-loop μ-loop
 unfolding entryAt

@@ -4,7 +4,7 @@ use Prim.Native.Nat.{ℕ, _+_, _-_, _≤_, _<_}
 use native.Mathlib.Omega.{arith}
 use Rattle.theory_travel.specs.Pieces.{lineAt}
 use Rattle.toward_row.specs.Cut.{Cut, cut-none}
-use Rattle.toward_row.specs.Lower.{entries, lowered, fresh-part, fresh-on}
+use Rattle.toward_row.specs.Lower.{entries, lowered, known-part, known-on}
 use Rattle.toward_row.specs.Pieces.{RisingAt, rise-start, rise-still, rise-fits, rise-within}
 use Rattle.toward_row.specs.Pieces.{rise-rises}
 use Rattle.toward_row.specs.Pieces.{rise-next, rise-run, rise-end}
@@ -19,7 +19,7 @@ shrinks n j h = omega arith
 abbrev Inv-loop : tie.InvT-loop
 Inv-loop first hs period row₀ a v b w last step begun count₀ parts₀ x₀ j₀ row count parts x j =
     (j ≤ last) × RisingAt a v b w step parts x j
-    × Cut (a + 1) x (lowered (lineAt a v b w) (entries hs) period row₀) row₀ row count
+    × Cut first (a + 1) x (lowered first (lineAt a v b w) (entries hs) period row₀) row₀ row count
 
 abbrev μ-loop : tie.MeasureT-loop
 μ-loop first hs period row₀ a v b w last step begun count₀ parts₀ x₀ j₀ row count parts x j = last - j
@@ -49,7 +49,7 @@ lower-span-requires : tie.Need-lower-span-requires Inv-loop μ-loop
 lower-span-requires c κs =
     let r = c .before .before .before .before .pre .0 in (
       (search needs, omega arith, search needs, search needs, search needs),
-      (r .capped, fresh-part (r .fresh) (omega (arith, r .apart))),
+      (r .capped, known-part (r .known) (omega (arith, r .apart))),
     )
 
 add-x : tie.Need-add-x Inv-loop μ-loop
@@ -102,9 +102,9 @@ lower-span-requires-2 c κs =
     let h = rise-within (s .pre .0) (s .pre .1) (l .inv .1) step taken (c .before .wholes .ensures) in
     let k = rise-rises (s .pre .0) (s .pre .1) (l .inv .1) step taken (c .before .wholes .ensures) in
     let first = c .before .before .before .before .before .before .lower-span .ensures .filled in
-    let fresh = fresh-on {e = s .args .b} (s .pre .0 .fresh) first (omega arith) (omega arith) in (
+    let known = known-on {e = s .args .b} (s .pre .0 .known) first (omega arith) (omega arith) in (
       (k, omega arith, omega arith, omega arith, omega arith),
-      (s .pre .0 .capped, fresh-on fresh (l .inv .2 .filled) (omega (arith, l .inv .1 .at)) h),
+      (s .pre .0 .capped, known-on known (l .inv .2 .filled) (omega (arith, l .inv .1 .at)) h),
     )
 
 add-count : tie.Need-add-count Inv-loop μ-loop
@@ -158,7 +158,7 @@ lower-span-requires-3 c κs =
     let s = c .before .before .before .before .before .before .before .before .before .before in
     let l = c .before .before .loop in
     let first = c .before .before .before .before .before .lower-span .ensures .filled in
-    let fresh = fresh-on {e = s .args .b} (s .pre .0 .fresh) first (omega arith) (omega arith) in (
+    let known = known-on {e = s .args .b} (s .pre .0 .known) first (omega arith) (omega arith) in (
       (
         rise-still (s .pre .0) (s .pre .1) (l .inv .1) (l .inv .0),
         omega arith,
@@ -166,7 +166,7 @@ lower-span-requires-3 c κs =
         omega arith,
         omega arith,
       ),
-      (s .pre .0 .capped, fresh-on fresh (l .inv .2 .filled) (omega (arith, l .inv .1 .at)) (omega arith)),
+      (s .pre .0 .capped, known-on known (l .inv .2 .filled) (omega (arith, l .inv .1 .at)) (omega arith)),
     )
 
 add-result : tie.Need-add-result Inv-loop μ-loop

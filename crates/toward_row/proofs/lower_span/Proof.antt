@@ -1,6 +1,6 @@
 -- `toward_row::lower_span` meets its contract: the run is today's, tomorrow's, or both.
 use native.Mathlib.Omega.{arith}
-use Rattle.toward_row.specs.Lower.{spans, capped-part, fresh-part, fresh-on}
+use Rattle.toward_row.specs.Lower.{spans, capped-part, known-part, known-on}
 use borrow.Author.Needs.{needs}
 use Rattle.toward_row.proofs.lower_span.Statement.{statement}
 use Rattle.toward_row.proofs.lower_span.Tie as tie
@@ -42,7 +42,7 @@ add-lower-run-2 c = search needs
 lower-run-requires-3 : tie.Need-lower-run-requires-3
 lower-run-requires-3 c κs =
     let s = c .before .before .before .before .before in
-    (search needs, (capped-part (s .pre .1 .0) (omega arith), fresh-part (s .pre .1 .1) (omega arith)))
+    (search needs, (capped-part (s .pre .1 .0) (omega arith), known-part (s .pre .1 .1) (omega arith)))
 
 lower-run-requires-4 : tie.Need-lower-run-requires-4
 lower-run-requires-4 c κs =
@@ -50,7 +50,7 @@ lower-run-requires-4 c κs =
       search needs,
       (
         capped-part (s .pre .1 .0) (omega arith),
-        fresh-on (s .pre .1 .1) (c .before .before .before .lower-run3 .ensures .filled) (omega arith)
+        known-on (s .pre .1 .1) (c .before .before .before .lower-run3 .ensures .filled) (omega arith)
             (omega arith),
       ),
     )

@@ -5,7 +5,7 @@ use native.Mathlib.Omega.{arith}
 use lib.ListN.{length}
 use denote.Ref.{now}
 use Rattle.search_arcs.specs.Town.{tail-node, head-node}
-use Rattle.toward_start.specs.Start.{no-start, tail-row, head-capped, raised-fresh, start-is}
+use Rattle.toward_start.specs.Start.{no-start, tail-row, head-capped, raised-known, start-is}
 use borrow.Author.Needs.{needs}
 use Rattle.toward_start.proofs.is_start.Statement.{statement}
 use Rattle.toward_start.proofs.is_start.Tie as tie
@@ -86,7 +86,7 @@ lower-arc-requires c κs =
             .before .before .before .before .tail .ensures .0)
             (c .before .before .before .before .before .before .before .before .head .ensures .0) _ _ (place
             .0) refl (c .before .before .before .before .before .if1 .left) refl fits,
-        raised-fresh (s .pre .0) (s .pre .1 .1) (s .pre .1 .0 .0) (c .before .before .before .before .before
+        raised-known (s .pre .0) (s .pre .1 .1) (s .pre .1 .0 .0) (c .before .before .before .before .before
             .before .before .before .before .tail .ensures .0)
             (c .before .before .before .before .before .before .before .before .head .ensures .0) _ _ (place
             .0) refl (c .before .before .before .before .before .if1 .left) (c .before .before .raise-row

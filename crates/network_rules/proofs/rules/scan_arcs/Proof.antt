@@ -1,59 +1,75 @@
--- `network_rules::rules::scan_arcs` meets its contract: no arc before a is bad, and `sum` is the points of
--- those.
+-- `network_rules::rules::scan_arcs` meets its contract: no arc of the blocks passed is bad, and `sum` is the
+-- points of those.
+use mathlib.Core.Path.{_≡_, sym}
+use Prim.Native.Nat.{_-_, _*_, _≤_, min}
 use native.Mathlib.Omega.{arith}
-use mathlib.Core.Path.{_≡_}
-use Prim.Native.Nat.{_≤_, _-_, _*_}
-use Rattle.theory_loops.specs.First.{first, firsts}
-use Rattle.theory_loops.specs.Total.{total, totals}
+use Rattle.file_blocks.specs.Kind.{arcPer}
+use Rattle.file_blocks.specs.Place.{blocks}
+use Rattle.network.specs.Limits.{mostArcs}
 use Rattle.network.specs.Decode.{decode, laid-small}
-use Rattle.network.specs.Network.{start, count}
-use Rattle.network.specs.Rules.{badArc}
+use Rattle.network_rules.specs.ScanArcs.{ArcsPassed, arcs-none, arcs-at, arcs-found}
 use borrow.Author.Needs.{needs}
 use Rattle.network_rules.proofs.rules.scan_arcs.Statement.{statement}
 use Rattle.network_rules.proofs.rules.scan_arcs.Tie as tie
-use Rattle.network.specs.Limits.{mostArcs}
 
 abbrev Inv-loop : tie.InvT-loop
-Inv-loop file l arcs sum₀ a₀ sum a =
-    (a ≤ arcs) × (arcs ≤ mostArcs) × (first a (badArc (decode file)) ≡ a)
-    × (sum ≡ total a (count (decode file))) × (sum ≤ 65535 * a)
+Inv-loop file l arcs sum₀ j₀ j-end sum j =
+    (j ≤ j-end) × (j-end ≡ blocks arcPer arcs) × (arcs ≤ mostArcs)
+    × ArcsPassed (decode file) (min arcs (arcPer * j)) sum
 
 abbrev μ-loop : tie.MeasureT-loop
-μ-loop file l arcs sum₀ a₀ sum a = arcs - a
+μ-loop file l arcs sum₀ j₀ j-end sum j = j-end - j
+
+blocks-requires : tie.Need-blocks-requires Inv-loop μ-loop
+blocks-requires c κs = omega (arith, laid-small (c .before .pre) .arcs-most)
 
 loop-holds : tie.Need-loop-holds Inv-loop μ-loop
 loop-holds c = (
   search needs,
-  omega (arith, laid-small (c .before .pre)),
-  search firsts,
-  search totals,
   search needs,
+  omega (arith, laid-small (c .before .before .pre) .arcs-most),
+  arcs-at arcs-none _ (search needs),
 )
 
-is-bad-arc-requires : tie.Need-is-bad-arc-requires Inv-loop μ-loop
-is-bad-arc-requires c κs = search needs
+entries-in-requires : tie.Need-entries-in-requires Inv-loop μ-loop
+entries-in-requires c κs = search needs
+
+scan-block-requires : tie.Need-scan-block-requires Inv-loop μ-loop
+scan-block-requires c κs =
+    let b = c .before .before in
+    (b .before .before .before .pre, (search needs, arcs-at (b .loop .inv .3) _ (search needs)))
+
+mul-if1 : tie.Need-mul-if1 Inv-loop μ-loop
+mul-if1 c = search needs
+
+add-if1 : tie.Need-add-if1 Inv-loop μ-loop
+add-if1 c = search needs
 
 returns : tie.Need-returns Inv-loop μ-loop
-returns c = (search firsts, λ h. absurd (search needs))
+returns c =
+    let s = c .before .before in
+    (arcs-found _ _ _ _ (s .scan-block .ensures) (c .if1 .taken) (search needs), λ h. absurd (search needs))
 
-count-requires : tie.Need-count-requires Inv-loop μ-loop
-count-requires c κs = search needs
-
-add-sum : tie.Need-add-sum Inv-loop μ-loop
-add-sum c = search needs
-
-add-a : tie.Need-add-a Inv-loop μ-loop
-add-a c = search needs
+add-j : tie.Need-add-j Inv-loop μ-loop
+add-j c = search needs
 
 loop-less : tie.Need-loop-less Inv-loop μ-loop
 loop-less c = search needs
 
 loop-again : tie.Need-loop-again Inv-loop μ-loop
-loop-again c = (search needs, search needs, search firsts, search totals, search needs)
+loop-again c =
+    let s = c .before .before in (
+      search needs,
+      search needs,
+      search needs,
+      arcs-at (s .scan-block .ensures .passed (c .if1 .left)) _ (search needs),
+    )
 
 returns-2 : tie.Need-returns-2 Inv-loop μ-loop
-unfolding start
-returns-2 c = (search firsts, λ h. search totals)
+returns-2 c =
+    let arcs = c .before .before .before .before .args .l .arcs in
+    let p = arcs-at (c .before .loop .inv .3) arcs (search needs) in
+    (sym (p .none), λ h. p .is)
 
 pub scan-arcs-spec : {M : Type 1} → statement M
 scan-arcs-spec =
@@ -61,12 +77,14 @@ scan-arcs-spec =
     (tie.spec
     Inv-loop
     μ-loop
+    blocks-requires
     loop-holds
-    is-bad-arc-requires
+    entries-in-requires
+    scan-block-requires
+    mul-if1
+    add-if1
     returns
-    count-requires
-    add-sum
-    add-a
+    add-j
     loop-less
     loop-again
     returns-2)

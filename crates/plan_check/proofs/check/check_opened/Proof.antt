@@ -9,6 +9,9 @@ use Rattle.plan_check.proofs.check.check_opened.Tie as tie
 layout-requires : tie.Need-layout-requires
 layout-requires c κs = search needs
 
+count-borders-requires : tie.Need-count-borders-requires
+count-borders-requires c κs = search needs
+
 validate-plan-requires : tie.Need-validate-plan-requires
 validate-plan-requires c κs = search needs
 
@@ -37,6 +40,7 @@ check-opened-spec =
     tie.close
     (tie.spec
     layout-requires
+    count-borders-requires
     validate-plan-requires
     enum-known-r
     refused-requires

@@ -1,8 +1,7 @@
 -- `plan_check::check::check_triples` meets its contract.
 use mathlib.Core.Path.{sym}
 use native.Mathlib.Omega.{arith}
-use Rattle.plan_check.specs.Standing.{stands-verdict}
-use Rattle.plan_check.specs.Tally.{finds-told}
+use Rattle.plan_check.specs.Verdict.{stands-verdict, finds-told}
 use borrow.Author.Needs.{needs}
 use Rattle.plan_check.proofs.check.check_triples.Statement.{statement}
 use Rattle.plan_check.proofs.check.check_triples.Tie as tie

@@ -1,20 +1,13 @@
 -- `plan_validate::rules::find_bad` meets its contract: the points passed keep the rule, the next tick's range
--- goes by the last, and the cursor stands before the next point.
+-- goes by the last, and the walk stands before the next point.
 use mathlib.Core.Path.{_≡_}
 use Prim.Native.Nat.{_+_, _-_, _<_}
 use native.Mathlib.Omega.{arith}
 use denote.Ref.{now}
 use borrow.Author.Needs.{needs}
 use Rattle.plan.specs.PlanDecode.{decodePlan, pointTick, plan-small}
-use Rattle.plan_validate.specs.PlanScan.{
-  Scanning,
-  scans,
-  scan-stop,
-  scan-more,
-  tick-there,
-  tick-read,
-  tick-step,
-}
+use Rattle.plan.specs.PlanWalk.{tick-there, tick-read, point-may, point-on}
+use Rattle.plan_validate.specs.PlanScan.{Scanning, scans, scan-stop, scan-more}
 use Rattle.plan_validate.proofs.rules.find_bad.Statement.{statement}
 use Rattle.plan_validate.proofs.rules.find_bad.Tie as tie
 
@@ -34,18 +27,18 @@ inside : (c : tie.In-loop Inv-loop μ-loop)
 inside c = omega arith
 
 -- what the field that is read there says
-read : (c : tie.After-field Inv-loop μ-loop)
-    → c .field .result
+read : (c : tie.After-field16 Inv-loop μ-loop)
+    → c .field16 .result
     ≡ pointTick (decodePlan (now (start (c .before) .args .plan)))
     (start (c .before) .args .from + c .before .before .loop .i)
 read c = tick-read (start (c .before) .pre .0) (inside (c .before)) (c .before .before .loop .inv .at)
-    (c .field .ensures .0)
+    (c .field16 .ensures .0)
 
 loop-holds : tie.Need-loop-holds Inv-loop μ-loop
 loop-holds c = search scans
 
-field-requires : tie.Need-field-requires Inv-loop μ-loop
-field-requires c κs = tick-there (start c .pre .0) (inside c) (c .before .loop .inv .at)
+field16-requires : tie.Need-field16-requires Inv-loop μ-loop
+field16-requires c κs = tick-there (start c .pre .0) (inside c) (c .before .loop .inv .at)
 
 is-outside-requires : tie.Need-is-outside-requires Inv-loop μ-loop
 is-outside-requires c κs = search needs
@@ -64,7 +57,7 @@ add-low c = search needs
 
 next-requires : tie.Need-next-requires Inv-loop μ-loop
 next-requires c κs = let d = c .before .before .before in
-    tick-step (start d .pre .0) (inside d) (d .before .loop .inv .at)
+    point-may (start d .pre .0) _ _ (inside d) (d .before .loop .inv .at)
 
 add-i : tie.Need-add-i Inv-loop μ-loop
 add-i c = search needs
@@ -76,7 +69,8 @@ loop-again : tie.Need-loop-again Inv-loop μ-loop
 loop-again c = let d = c .before .before .before .before in
     scan-more _ _ _ _ _ _ _ _ _ _ (plan-small (start d .pre .0) .period-some) (d .before .loop .inv)
     (d .loop-test .taken) (read (c .before .before .before)) (c .before .before .is-outside .ensures) _
-    (c .before .if1 .left) (c .next .ensures)
+    (c .before .if1 .left)
+    (point-on (start d .pre .0) _ _ (inside d) (d .before .loop .inv .at) (c .next .ensures))
 
 returns-2 : tie.Need-returns-2 Inv-loop μ-loop
 returns-2 c = search scans
@@ -88,7 +82,7 @@ find-bad-spec =
     Inv-loop
     μ-loop
     loop-holds
-    field-requires
+    field16-requires
     is-outside-requires
     add-t13
     returns

@@ -8,9 +8,6 @@ use Rattle.plan_validate.proofs.validate.validate_header.Tie as tie
 header-at-requires : tie.Need-header-at-requires
 header-at-requires c κs = search needs
 
-count-borders-requires : tie.Need-count-borders-requires
-count-borders-requires c κs = search needs
-
 is-matching-requires : tie.Need-is-matching-requires
 is-matching-requires c κs = search needs
 
@@ -31,7 +28,6 @@ validate-header-spec =
     tie.close
     (tie.spec
     header-at-requires
-    count-borders-requires
     is-matching-requires
     validate-length-requires
     returns

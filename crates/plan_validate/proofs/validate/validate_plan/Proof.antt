@@ -1,12 +1,30 @@
--- `plan_validate::validate::validate_plan` meets its contract: the length decides, then the first bad sum, or
--- the answer is left to the first block.
+-- `plan_validate::validate::validate_plan` meets its contract: the length decides, then whether the file is
+-- well-formed, then the first bad sum, or the answer is left to the first block.
+use mathlib.Core.Path.{_≡_, sym}
+use mathlib.Core.Bool.{false}
+use Prim.Native.Nat.{_≤_}
 use native.Mathlib.Omega.{arith}
+use lib.ListN.{length}
+use denote.Ref.{now}
 use borrow.Author.Needs.{needs}
-use Rattle.theory_loops.specs.Pick.{picks}
-use Rattle.file_blocks.specs.Form.{length-fine}
+use Rattle.theory_loops.specs.First.{told}
+use Rattle.theory_loops.specs.Pick.{picks, passed, at-first, past-first}
+use Rattle.file_fields.specs.Block.{blockSize}
+use Rattle.file_blocks.specs.Form.{badLength, length-fine}
+use Rattle.plan.specs.PlanLimits.{mostPlanBytes}
 use Rattle.plan.specs.PlanValidate.{planned}
+use Rattle.plan.specs.PlanValid.{plan-exactly}
 use Rattle.plan_validate.proofs.validate.validate_plan.Statement.{statement}
 use Rattle.plan_validate.proofs.validate.validate_plan.Tie as tie
+
+-- a length that was passed
+length-passed : (c : tie.Else1)
+    → badLength mostPlanBytes (length (now (c .before .before .before .before .args .plan))) ≡ false
+length-passed c = told _ _ _ (c .before .is-bad-length .ensures) (c .if1 .left)
+
+fine : (c : tie.Else1) → let n = length (now (c .before .before .before .before .args .plan)) in
+    (blockSize ≤ n) × (n ≤ mostPlanBytes)
+fine c = length-fine _ _ _ (c .before .is-bad-length .ensures) (c .if1 .left)
 
 is-bad-length-requires : tie.Need-is-bad-length-requires
 is-bad-length-requires c κs = search needs
@@ -18,38 +36,44 @@ returns : tie.Need-returns
 unfolding planned
 returns c = search picks
 
+is-well-formed-requires : tie.Need-is-well-formed-requires
+is-well-formed-requires c κs = (search needs, (search needs, fine c .0))
+
+header-at-requires : tie.Need-header-at-requires
+header-at-requires c κs = fine (c .before .before) .0
+
+returns-2 : tie.Need-returns-2
+returns-2 c =
+    let w = c .before .before in
+    rw (c .header-at .ensures)
+    (sym (plan-exactly (w .before .before .before .before .before .pre .0) _ _ .1
+    (w .is-well-formed .ensures (c .before .if2 .taken))))
+
 first-bad-sum-requires : tie.Need-first-bad-sum-requires
 first-bad-sum-requires c κs = search needs
 
 cast-refused : tie.Need-cast-refused
-cast-refused c =
-    omega (
-      arith,
-      length-fine _ _ _ (c .before .before .before .is-bad-length .ensures) (c .before .before .if1 .left),
-    )
+cast-refused c = omega (arith, fine (c .before .before .before .before))
 
 refused-requires-2 : tie.Need-refused-requires-2
 refused-requires-2 c κs = search needs
 
-returns-2 : tie.Need-returns-2
-unfolding planned
-returns-2 c = search picks
-
-validate-first-requires : tie.Need-validate-first-requires
-validate-first-requires c κs = (
-  search needs,
-  (
-    search needs,
-    omega (
-      arith,
-      length-fine _ _ _ (c .before .before .before .is-bad-length .ensures) (c .before .before .if1 .left),
-    ),
-  ),
-)
-
 returns-3 : tie.Need-returns-3
 unfolding planned
-returns-3 c = search picks
+returns-3 c =
+    passed _ _ _ _ (length-passed (c .before .before .before .before .before))
+    (at-first _ _ _ _ _ _ (c .before .before .first-bad-sum .ensures) (c .before .if3 .taken)
+    (c .refused2 .ensures))
+
+validate-first-requires : tie.Need-validate-first-requires
+validate-first-requires c κs = (search needs, (search needs, fine (c .before .before .before .before) .0))
+
+returns-4 : tie.Need-returns-4
+unfolding planned
+returns-4 c =
+    passed _ _ _ _ (length-passed (c .before .before .before .before .before))
+    (past-first _ _ _ _ _ _ (c .before .before .first-bad-sum .ensures) (c .before .if3 .left)
+    (c .validate-first .ensures))
 
 pub validate-plan-spec : {M : Type 1} → statement M
 validate-plan-spec =
@@ -58,9 +82,12 @@ validate-plan-spec =
     is-bad-length-requires
     refused-requires
     returns
+    is-well-formed-requires
+    header-at-requires
+    returns-2
     first-bad-sum-requires
     cast-refused
     refused-requires-2
-    returns-2
+    returns-3
     validate-first-requires
-    returns-3)
+    returns-4)

@@ -1,38 +1,35 @@
 -- `search_arcs::times::segment` meets its contract: the first point that is left is at or before x, the one
 -- behind the last is after it, and they come together by halves.
-use mathlib.Core.Path.{refl}
-use mathlib.Core.Logic.{⊎-elim}
 use Prim.Native.Nat.{_+_}
-use native.Mathlib.Omega.{arith}
 use Rattle.theory_travel.specs.Table.{entryAt}
 use Rattle.theory_travel.specs.Search.{Between}
-use Rattle.network.specs.Decode.{decode, laid-small}
-use Rattle.search_arcs.specs.Halves.{left-up, left-down, halving}
+use Rattle.network.specs.Decode.{decode}
+use Rattle.search_arcs.specs.Halves.{halving}
 use borrow.Author.Needs.{needs}
 use Rattle.search_arcs.proofs.times.segment.Statement.{statement}
 use Rattle.search_arcs.proofs.times.segment.Tie as tie
 
 abbrev Inv-loop : tie.InvT-loop
-Inv-loop file l from count x a₀ left₀ a left = Between (entryAt (decode file .ticks) from) count x a
-    (a + left)
+Inv-loop file l s n x a₀ left₀ a left =
+    Between (entryAt (decode file .ticks) (s .first)) n x a (a + left)
 
 abbrev μ-loop : tie.MeasureT-loop
-μ-loop file l from count x a₀ left₀ a left = left
+μ-loop file l s n x a₀ left₀ a left = left
 
 loop-holds : tie.Need-loop-holds Inv-loop μ-loop
 loop-holds c = search halving
 
-add-m : tie.Need-add-m Inv-loop μ-loop
-add-m c = search needs
-
-add-short : tie.Need-add-short Inv-loop μ-loop
-add-short c = search needs
-
-short-requires : tie.Need-short-requires Inv-loop μ-loop
-short-requires c κs = omega (arith, laid-small (c .before .before .before .pre .0) .points-most)
+add-tick : tie.Need-add-tick Inv-loop μ-loop
+add-tick c = search needs
 
 tick-requires : tie.Need-tick-requires Inv-loop μ-loop
-tick-requires c κs = (c .before .before .before .before .pre .0, omega (arith, c .short .ensures))
+tick-requires c κs = search needs
+
+step-requires : tie.Need-step-requires Inv-loop μ-loop
+step-requires c κs = search needs
+
+add-a : tie.Need-add-a Inv-loop μ-loop
+add-a c = search needs
 
 sub-left : tie.Need-sub-left Inv-loop μ-loop
 sub-left c = search needs
@@ -42,15 +39,7 @@ loop-less c = search needs
 
 loop-again : tie.Need-loop-again Inv-loop μ-loop
 unfolding entryAt
-loop-again c =
-    let t = c .before in
-    let k = t .before .before in
-    let i = k .before .loop .inv in
-    let l = k .loop-test .taken in
-    let e = rw (t .before .short .ensures) at (t .tick .ensures .0) in
-    ⊎-elim (λ w. rw (w .1) (left-up _ _ _ _ _ _ _ _ i l refl refl e (w .0 .taken)))
-    (λ w. rw (w .1) (left-down _ _ _ _ _ _ _ _ i l refl refl e (w .0 .left)))
-    (c .if1 .came)
+loop-again c = search halving
 
 returns : tie.Need-returns Inv-loop μ-loop
 returns c = search halving
@@ -62,10 +51,10 @@ segment-spec =
     Inv-loop
     μ-loop
     loop-holds
-    add-m
-    add-short
-    short-requires
+    add-tick
     tick-requires
+    step-requires
+    add-a
     sub-left
     loop-less
     loop-again

@@ -8,6 +8,9 @@ use Rattle.trip.proofs.flagged.flagged_planned.Tie as tie
 layout-requires : tie.Need-layout-requires
 layout-requires c κs = search needs
 
+count-borders-requires : tie.Need-count-borders-requires
+count-borders-requires c κs = search needs
+
 validate-plan-requires : tie.Need-validate-plan-requires
 validate-plan-requires c κs = search needs
 
@@ -40,6 +43,7 @@ flagged-planned-spec =
     tie.close
     (tie.spec
     layout-requires
+    count-borders-requires
     validate-plan-requires
     enum-known-r
     refused-requires

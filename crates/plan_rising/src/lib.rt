@@ -1,0 +1,9 @@
+// plan_rising: whether a plan keeps the rules 18 and 19 in sound blocks of points, yes or no, in one walk.
+//   breaks    where the ticks of a block's points do not rise
+//   progress  the blocks of the points, each looked at once
+//   rising    the profiles, and the answer
+// It may call `file_fields`, `file_blocks` and `plan`, and cites `theory_loops`, `theory_breaks`,
+// `theory_travel` and `file_refusals`. The file is read in place.
+mod breaks;
+mod progress;
+pub mod rising;
