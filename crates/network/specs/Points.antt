@@ -16,17 +16,17 @@ use Rattle.network.specs.Network.{tick, travel}
 use Rattle.network.specs.Decode.{decode, Laid, point-in, tick-is, travel-is}
 
 -- the byte at which point q starts
-abbrev pointAt : Layout → ℕ → ℕ
-pointAt l = offset (l .pointblock) pointPer pointSize
+abbrev byteOf : Layout → ℕ → ℕ
+byteOf l = offset (l .pointblock) pointPer pointSize
 
-pub record Stands (l : Layout) (s : Stretch) : Type 0 where
-  pub at : s .at ≡ pointAt l (s .first)
+pub record Placed (l : Layout) (s : Stretch) : Type 0 where
+  pub at : s .at ≡ byteOf l (s .first)
   pub room : s .room ≡ pointPer - s .first % pointPer
 
-module _ {file : List ℕ} {l : Layout} (d : Laid file l) {s : Stretch} (h : Stands l s) where
+module _ {file : List ℕ} {l : Layout} (d : Laid file l) {s : Stretch} (h : Placed l s) where
   -- its points stand side by side
   module _ (i : ℕ) (m : i < s .room) (k : s .first + i < l .points) where
-    side : s .at + pointSize * i ≡ pointAt l (s .first + i)
+    side : s .at + pointSize * i ≡ byteOf l (s .first + i)
     unfolding offset
     side = omega (arith, h)
 
@@ -40,21 +40,21 @@ module _ {file : List ℕ} {l : Layout} (d : Laid file l) {s : Stretch} (h : Sta
         → r ≡ travel (decode file) (s .first + i)
     side-travel r e = travel-is d k (rw (← side) e)
 
-    pub side-on : Stands l (record
+    pub side-on : Placed l (record
         { first = s .first + i; at = s .at + pointSize * i; room = s .room - i })
     side-on = record { at = side; room = omega (arith, h) }
 
   -- and the next block's first some bytes behind them
   module _ (k : s .first + s .room < l .points) where
     behind : s .at + pointSize * s .room + (blockSize - pointSize * pointPer)
-        ≡ pointAt l (s .first + s .room)
+        ≡ byteOf l (s .first + s .room)
     unfolding offset
     behind = omega (arith, h)
 
     pub behind-in : s .at + pointSize * s .room + (blockSize - pointSize * pointPer) ≤ length file
     behind-in = omega (arith, behind, point-in d k .room)
 
-    pub behind-on : Stands l (record {
+    pub behind-on : Placed l (record {
       first = s .first + s .room;
       at = s .at + pointSize * s .room + (blockSize - pointSize * pointPer);
       room = pointPer;

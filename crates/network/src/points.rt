@@ -10,7 +10,7 @@ ghost use mathlib.Core.Path.{_≡_};
 ghost use Prim.Native.Nat.{_+_, _-_, _≤_, _<_, min};
 ghost use Rattle.network.specs.Network;
 ghost use Rattle.network.specs.Decode.{decode, Laid};
-ghost use Rattle.network.specs.Points.{Stands};
+ghost use Rattle.network.specs.Points.{Placed};
 
 // A point, the byte at which it starts, and how many points its block can hold from it on.
 pub struct Stretch {
@@ -27,7 +27,7 @@ impl Stretch {
     pub fn new(file: &[u8], l: Layout, q: usize) -> Stretch
         requires { ⌜ Laid (now file) l ⌝ }
         requires { ⌜ q < l .points ⌝ }
-        ensures { λ r. ⌜ (r .first ≡ q) × Stands l r ⌝ }
+        ensures { λ r. ⌜ (r .first ≡ q) × Placed l r ⌝ }
     {
         Stretch {
             first: q,
@@ -39,8 +39,8 @@ impl Stretch {
     // From the next block's first point on.
     pub fn next(self, file: &[u8], l: Layout) -> Stretch
         requires { ⌜ Laid (now file) l ⌝ }
-        requires { ⌜ Stands l self × (self .first + self .room < l .points) ⌝ }
-        ensures { λ r. ⌜ (r .first ≡ self .first + self .room) × Stands l r ⌝ }
+        requires { ⌜ Placed l self × (self .first + self .room < l .points) ⌝ }
+        ensures { λ r. ⌜ (r .first ≡ self .first + self .room) × Placed l r ⌝ }
     {
         Stretch {
             first: self.first + self.room,
@@ -52,8 +52,8 @@ impl Stretch {
     // From the point after the i-th on, which may be the next block's first.
     pub fn after(self, file: &[u8], l: Layout, i: usize) -> Stretch
         requires { ⌜ Laid (now file) l ⌝ }
-        requires { ⌜ Stands l self × (i < self .room) × (self .first + (i + 1) < l .points) ⌝ }
-        ensures { λ r. ⌜ (r .first ≡ self .first + (i + 1)) × Stands l r ⌝ }
+        requires { ⌜ Placed l self × (i < self .room) × (self .first + (i + 1) < l .points) ⌝ }
+        ensures { λ r. ⌜ (r .first ≡ self .first + (i + 1)) × Placed l r ⌝ }
     {
         let passed = i + 1;
         if passed < self.room {
@@ -78,7 +78,7 @@ impl Stretch {
     // The tick of its i-th point, from 0.
     pub fn tick(self, file: &[u8], l: Layout, i: usize) -> usize
         requires { ⌜ Laid (now file) l ⌝ }
-        requires { ⌜ Stands l self × (i < self .room) × (self .first + i < l .points) ⌝ }
+        requires { ⌜ Placed l self × (i < self .room) × (self .first + i < l .points) ⌝ }
         ensures { λ r. ⌜ (r ≡ Network.tick (decode (now (file .entry))) (self .first + i)) × (r < 65536) ⌝ }
     {
         le16(file, self.at + POINT_SIZE * i) as usize
@@ -87,7 +87,7 @@ impl Stretch {
     // The travel of its i-th point, from 0.
     pub fn travel(self, file: &[u8], l: Layout, i: usize) -> usize
         requires { ⌜ Laid (now file) l ⌝ }
-        requires { ⌜ Stands l self × (i < self .room) × (self .first + i < l .points) ⌝ }
+        requires { ⌜ Placed l self × (i < self .room) × (self .first + i < l .points) ⌝ }
         ensures { λ r. ⌜ (r ≡ Network.travel (decode (now (file .entry))) (self .first + i)) × (r < 65536) ⌝ }
     {
         le16(file, self.at + POINT_SIZE * i + 2) as usize

@@ -12,11 +12,11 @@ use Rattle.theory_travel.specs.Day.{to-next, to-first}
 use Rattle.theory_travel.specs.Table.{entryAt, valueAt, entry-start}
 use Rattle.network.specs.declared.header.Layout.{Layout}
 use Rattle.network.specs.declared.points.Stretch.{Stretch}
-use Rattle.network.specs.Points.{Stands}
+use Rattle.network.specs.Points.{Placed}
 
 -- the stretch starts at or before tick x, at one of the `count` points from `from` on
 pub record Passed (ticks : List ℕ) (l : Layout) (from count x : ℕ) (s : Stretch) : Type 0 where
-  pub stands : Stands l s
+  pub stands : Placed l s
   pub begins : from ≤ s .first
   pub between : Between (entryAt ticks from) count x (s .first - from) count
 
@@ -31,7 +31,7 @@ unfolding entryAt
 entry-read list from q i v e f = rw f at e
 
 module _ {ticks : List ℕ} {l : Layout} {from count x : ℕ} where
-  pub pass-first : (s : Stretch) → Sorted (entryAt ticks from) count x → s .first ≡ from → Stands l s
+  pub pass-first : (s : Stretch) → Sorted (entryAt ticks from) count x → s .first ≡ from → Placed l s
       → Passed ticks l from count x s
   pass-first s o e h =
       let z : s .first - from ≡ 0 = omega arith in
@@ -44,7 +44,7 @@ module _ {ticks : List ℕ} {l : Layout} {from count x : ℕ} where
     there : (i : ℕ) → from + i ≡ next .first → u ≡ entryAt ticks from i
     there i f = entry-read ticks from (next .first + 0) i u q (omega arith)
 
-    pub pass-next : Stands l next → u ≤ x → Passed ticks l from count x next
+    pub pass-next : Placed l next → u ≤ x → Passed ticks l from count x next
     pass-next h o = record {
       stands = h;
       begins = omega (arith, p .begins);

@@ -18,7 +18,7 @@ ghost use Rattle.theory_travel.specs.Day.{Day};
 ghost use Rattle.theory_travel.specs.Table.{entryAt, valueAt};
 ghost use Rattle.network.specs.Network.{count, start};
 ghost use Rattle.network.specs.Decode.{decode, Laid};
-ghost use Rattle.network.specs.Points.{Stands};
+ghost use Rattle.network.specs.Points.{Placed};
 ghost use Rattle.network.specs.Town.{graphOf};
 ghost use Rattle.search_arcs.specs.Town.{Town, lastTick};
 ghost use Rattle.search_arcs.specs.Stretches.{Reaching};
@@ -71,7 +71,7 @@ fn step(half: usize, t: usize, x: usize) -> usize
 // The last of the first n points of a stretch that is at or before x, counted from its first.
 fn segment(file: &[u8], l: Layout, s: Stretch, n: usize, x: usize) -> usize
     requires { ⌜ Laid (now file) l × (x < 65536) ⌝ }
-    requires { ⌜ Stands l s × (n ≤ s .room) × (s .first + n ≤ l .points) ⌝ }
+    requires { ⌜ Placed l s × (n ≤ s .room) × (s .first + n ≤ l .points) ⌝ }
     requires { ⌜ Sorted (entryAt (decode (now file) .ticks) (s .first)) n x ⌝ }
     ensures { λ r. ⌜ Last (entryAt (decode (now (file .entry)) .ticks) (s .first)) n x r ⌝ }
 {
