@@ -11,7 +11,7 @@ use Rattle.file_refusals.specs.Writing.{writtenInto, Writes}
 use Rattle.network.specs.Limits.{mostPeriod}
 use Rattle.network.specs.Network.{Network}
 use Rattle.network_encode.specs.Encode.{encode}
-use Rattle.text_numbers.specs.Lines.{linesOf}
+use Rattle.text_lines.specs.Lines.{linesOf}
 use Rattle.dimacs_line.specs.declared.line.Sizes.{Sizes}
 use Rattle.dimacs_line.specs.declared.line.Arc.{Arc}
 use Rattle.dimacs_text.specs.declared.judge.Judgement.{Judgement}

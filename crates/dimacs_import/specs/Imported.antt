@@ -7,7 +7,7 @@ use native.Mathlib.Omega.{arith}
 use lib.ListN.{length, getD, replicate, length-map, length-replicate, getD-replicate, List·getD-map}
 use lib.ListN.{List·getD-eq-default}
 use lib.Dec.{lit≤}
-use Rattle.text_numbers.specs.Lines.{linesOf}
+use Rattle.text_lines.specs.Lines.{linesOf}
 use Rattle.network.specs.declared.header.Header.{Header}
 use Rattle.network.specs.Limits.{mostPeriod, WithinLimits}
 use Rattle.network.specs.Network.{cell, tail, head, count, tick, travel}

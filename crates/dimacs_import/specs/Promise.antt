@@ -32,7 +32,7 @@ use Rattle.network.specs.Validate.{validated}
 use Rattle.network_open.specs.Open.{tooShort, tablesAfter, OpenCall}
 use Rattle.network_encode.specs.Encode.{headerOf, encode}
 use Rattle.network_pack.specs.RoundTrip.{decode-encode, encode-valid}
-use Rattle.text_numbers.specs.Lines.{linesOf}
+use Rattle.text_lines.specs.Lines.{linesOf}
 use Rattle.dimacs_line.specs.declared.line.Sizes.{Sizes}
 use Rattle.dimacs_line.specs.declared.line.Arc.{Arc}
 use Rattle.dimacs_text.specs.declared.judge.Judgement.{Judgement}

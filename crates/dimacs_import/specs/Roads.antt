@@ -11,7 +11,7 @@ use Rattle.file_fields.specs.Block.{blockSize}
 use Rattle.file_refusals.specs.declared.writing.Writing.{Writing}
 use Rattle.file_refusals.specs.declared.writing.Writing.the-variants.{Written}
 use Rattle.file_refusals.specs.Writing.{unwritten, writtenInto, Writes, into-short, into-whole}
-use Rattle.text_numbers.specs.Lines.{linesOf}
+use Rattle.text_lines.specs.Lines.{linesOf}
 use Rattle.network.specs.declared.header.Layout.{Layout}
 use Rattle.network.specs.Limits.{mostNodes, mostArcs, mostPeriod}
 use Rattle.network.specs.Layout.{layoutOf, layout-blocks, mostBlocks}

@@ -13,7 +13,7 @@ use borrow.Author.Tests.{eqb-false, ne-eqb, ltb-false, le-ltb, le-leb, lt-leb}
 use Rattle.theory_loops.specs.Pick.{or-passed, passed-by, cond-holds}
 use Rattle.file_refusals.specs.declared.Refusal.{Refusal}
 use Rattle.network.specs.Limits.{mostNodes, mostArcs, mostPeriod}
-use Rattle.text_numbers.specs.Lines.{linesOf}
+use Rattle.text_lines.specs.Lines.{linesOf}
 use Rattle.dimacs_line.specs.declared.line.Sizes.{Sizes}
 use Rattle.dimacs_line.specs.declared.line.Arc.{Arc}
 use Rattle.dimacs_line.specs.declared.line.Shape.{Shape}

@@ -13,7 +13,7 @@ use borrow.Author.Tests.{leb-false, ltb-false}
 use Rattle.theory_loops.specs.Pick.{or-passed}
 use Rattle.file_refusals.specs.declared.Refusal.{Refusal}
 use Rattle.network.specs.Limits.{mostArcs}
-use Rattle.text_numbers.specs.Lines.{linesOf, next-line}
+use Rattle.text_lines.specs.Lines.{linesOf, next-line}
 use Rattle.dimacs_line.specs.declared.line.Sizes.{Sizes}
 use Rattle.dimacs_line.specs.declared.line.Arc.{Arc}
 use Rattle.dimacs_line.specs.declared.line.Shape.{Shape}

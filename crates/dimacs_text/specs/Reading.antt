@@ -15,7 +15,7 @@ use Rattle.theory_loops.specs.Pick.{cond-holds}
 use Rattle.file_refusals.specs.declared.Refusal.{Refusal}
 use Rattle.file_refusals.specs.Refusal.{refusal}
 use Rattle.network.specs.Limits.{mostNodes, mostArcs, mostPeriod}
-use Rattle.text_numbers.specs.Lines.{linesOf, LineTo, next-line, last-line}
+use Rattle.text_lines.specs.Lines.{linesOf, LineTo, next-line, last-line}
 use Rattle.dimacs_line.specs.declared.line.Sizes.{Sizes}
 use Rattle.dimacs_line.specs.declared.line.Arc.{Arc}
 use Rattle.dimacs_line.specs.declared.line.Shape.{Shape}

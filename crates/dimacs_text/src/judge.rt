@@ -11,7 +11,7 @@ use file_refusals::number;
 use file_refusals::refuse;
 use network::limits::MOST_ARCS;
 ghost use mathlib.Core.Path.{_≡_};
-ghost use Rattle.text_numbers.specs.Lines.{linesOf};
+ghost use Rattle.text_lines.specs.Lines.{linesOf};
 ghost use Rattle.dimacs_text.specs.Reading as readings;
 ghost use Rattle.dimacs_text.specs.Reading.{readAll, tellable, unfinished};
 ghost use Rattle.dimacs_text.specs.Noting.{TablesLong, ReadInto, JudgedInto};

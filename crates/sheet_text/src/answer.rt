@@ -10,7 +10,7 @@ use search_path::answer::Arrival;
 use sheet_line::line::Asking;
 use sheet_line::line::Line;
 use sheet_line::line::ended;
-use text_numbers::spaced::Scan;
+use text_spaced::spaced::Scan;
 use text_numbers::text::end_line;
 use text_numbers::text::put_decimal;
 use text_numbers::text::put_text;

@@ -6,9 +6,9 @@ use mathlib.Core.List.{List}
 use Prim.Native.Nat.{ℕ, _+_, _-_, _*_, _≤_, _<_, min}
 use lib.Dec.{eqb, ltb}
 use borrow.Author.Tests.{lt-ltb, le-ltb}
-use Rattle.text_numbers.specs.declared.spaced.Scan.{Scan}
-use Rattle.text_numbers.specs.Fold.{folded}
+use Rattle.text_spaced.specs.declared.spaced.Scan.{Scan}
+use Rattle.text_spaced.specs.Fold.{folded}
 use Rattle.text_numbers.specs.Spaced.{limit}
 
 -- not ruled out: so many numbers have ended, these two, and the next has so many digits and this value
 abbrev pub reading : ℕ → ℕ → ℕ → ℕ → ℕ → Scan

@@ -11,13 +11,13 @@ use native.Mathlib.Omega.{arith}
 use lib.ListN.{length, length-append}
 use lib.Dec.{eqb, leb}
 use borrow.Author.Tests.{lt-ltb, le-ltb, leb-true, le-leb, eq-eqb, ne-eqb, ltb-true}
-use Rattle.text_numbers.specs.declared.spaced.Scan.{Scan}
+use Rattle.text_spaced.specs.declared.spaced.Scan.{Scan}
 use Rattle.text_numbers.specs.Number.{isDigit, areDigits, valueFrom, valueOf, digits-append}
 use Rattle.text_numbers.specs.Number.{value-append}
-use Rattle.text_numbers.specs.Fold.{folded, folded-append}
+use Rattle.text_spaced.specs.Fold.{folded, folded-append}
 use Rattle.text_numbers.specs.Spaced.{limit, counted, Numeral, Spaced, one, more}
-use Rattle.text_numbers.specs.Scanning.{reading, fresh, ruledOut, oneMore, spaceScanned}
-use Rattle.text_numbers.specs.Scanning.{digitScanned, scanned, scannedAll, whole}
+use Rattle.text_spaced.specs.Scanning.{reading, fresh, ruledOut, oneMore, spaceScanned}
+use Rattle.text_spaced.specs.Scanning.{digitScanned, scanned, scannedAll, whole}
 
 -- a digit, by its code
 is-digit : (b : ℕ) → 48 ≤ b → b ≤ 57 → isDigit b ≡ true

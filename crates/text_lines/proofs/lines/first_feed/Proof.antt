@@ -3,10 +3,10 @@ use Prim.Native.Nat.{_-_, _≤_}
 use native.Mathlib.Omega.{arith}
 use lib.ListN.{length}
 use denote.Ref.{now}
-use Rattle.text_numbers.specs.Lines.{Unended, unended-more, ended-at, ended-last}
+use Rattle.text_lines.specs.Lines.{Unended, unended-more, ended-at, ended-last}
 use borrow.Author.Needs.{needs}
-use Rattle.text_numbers.proofs.lines.first_feed.Statement.{statement}
-use Rattle.text_numbers.proofs.lines.first_feed.Tie as tie
+use Rattle.text_lines.proofs.lines.first_feed.Statement.{statement}
+use Rattle.text_lines.proofs.lines.first_feed.Tie as tie
 
 abbrev Inv-loop : tie.InvT-loop
 Inv-loop text at i₀ i-end i =

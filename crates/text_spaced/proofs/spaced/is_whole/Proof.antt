@@ -1,10 +1,10 @@
 -- `text_numbers::spaced::is_whole` meets its contract.
 use borrow.Author.Tests.{not-true, not-false}
 use Rattle.theory_loops.specs.Pick.{picks}
-use Rattle.text_numbers.specs.Scanning.{whole}
+use Rattle.text_spaced.specs.Scanning.{whole}
 use borrow.Author.Needs.{needs}
-use Rattle.text_numbers.proofs.spaced.is_whole.Statement.{statement}
-use Rattle.text_numbers.proofs.spaced.is_whole.Tie as tie
+use Rattle.text_spaced.proofs.spaced.is_whole.Statement.{statement}
+use Rattle.text_spaced.proofs.spaced.is_whole.Tie as tie
 
 returns : tie.Need-returns
 unfolding whole

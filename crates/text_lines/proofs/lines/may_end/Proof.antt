@@ -4,10 +4,10 @@ use mathlib.Core.Bool.{false}
 use Prim.Native.Nat.{_+_, _-_, _≤_}
 use native.Mathlib.Omega.{arith}
 use denote.Ref.{now}
-use Rattle.text_numbers.specs.Lines.{Unended, unfound-more, unfound-all}
+use Rattle.text_lines.specs.Lines.{Unended, unfound-more, unfound-all}
 use borrow.Author.Needs.{needs}
-use Rattle.text_numbers.proofs.lines.may_end.Statement.{statement}
-use Rattle.text_numbers.proofs.lines.may_end.Tie as tie
+use Rattle.text_lines.proofs.lines.may_end.Statement.{statement}
+use Rattle.text_lines.proofs.lines.may_end.Tie as tie
 
 abbrev Inv-loop : tie.InvT-loop
 Inv-loop text at found₀ k₀ found k =

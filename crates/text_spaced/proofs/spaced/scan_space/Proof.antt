@@ -1,10 +1,10 @@
 -- `text_numbers::spaced::scan_space` meets its contract.
 use borrow.Author.Tests.{not-true, not-false}
 use Rattle.theory_loops.specs.Pick.{picks}
-use Rattle.text_numbers.specs.Scanning.{spaceScanned}
+use Rattle.text_spaced.specs.Scanning.{spaceScanned}
 use borrow.Author.Needs.{needs}
-use Rattle.text_numbers.proofs.spaced.scan_space.Statement.{statement}
-use Rattle.text_numbers.proofs.spaced.scan_space.Tie as tie
+use Rattle.text_spaced.proofs.spaced.scan_space.Statement.{statement}
+use Rattle.text_spaced.proofs.spaced.scan_space.Tie as tie
 
 ruled-out-requires : tie.Need-ruled-out-requires
 ruled-out-requires c κs = search needs

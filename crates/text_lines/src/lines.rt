@@ -4,7 +4,7 @@ ghost use mathlib.Core.Path.{_≡_};
 ghost use mathlib.Core.Bool.{false};
 ghost use Prim.Native.Nat.{_+_, _≤_};
 ghost use lib.ListN.{length};
-ghost use Rattle.text_numbers.specs.Lines.{Unended, LineTo};
+ghost use Rattle.text_lines.specs.Lines.{Unended, LineTo};
 
 // The bytes that are looked at together.
 const TOGETHER: usize = 16;

@@ -1,10 +1,10 @@
 -- `text_numbers::spaced::scan_byte` meets its contract.
 use borrow.Author.Tests.{not-true, not-false}
 use Rattle.theory_loops.specs.Pick.{picks}
-use Rattle.text_numbers.specs.Scanning.{scanned}
+use Rattle.text_spaced.specs.Scanning.{scanned}
 use borrow.Author.Needs.{needs}
-use Rattle.text_numbers.proofs.spaced.scan_byte.Statement.{statement}
-use Rattle.text_numbers.proofs.spaced.scan_byte.Tie as tie
+use Rattle.text_spaced.proofs.spaced.scan_byte.Statement.{statement}
+use Rattle.text_spaced.proofs.spaced.scan_byte.Tie as tie
 
 returns : tie.Need-returns
 unfolding scanned

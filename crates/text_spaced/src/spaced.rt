@@ -1,9 +1,9 @@
 // Numbers one space apart, read a byte at a time into a small state, so that a line may be of any length. A
 // reader says how many digits a number may have, leading zeros counted; `ANY` stands for any number of them.
 ghost use mathlib.Core.Path.{_≡_};
-ghost use Rattle.text_numbers.specs.Scanning;
-ghost use Rattle.text_numbers.specs.Scanning.{oneMore, spaceScanned, digitScanned, scanned};
-ghost use Rattle.text_numbers.specs.Scanning.{scannedAll, whole};
+ghost use Rattle.text_spaced.specs.Scanning;
+ghost use Rattle.text_spaced.specs.Scanning.{oneMore, spaceScanned, digitScanned, scanned};
+ghost use Rattle.text_spaced.specs.Scanning.{scannedAll, whole};
 
 // The greatest number that a line may hold.
 const LIMIT: u64 = 4294967295;

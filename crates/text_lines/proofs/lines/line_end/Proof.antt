@@ -3,10 +3,10 @@ use Prim.Native.Nat.{_-_, _≤_}
 use native.Mathlib.Omega.{arith}
 use lib.ListN.{length}
 use denote.Ref.{now}
-use Rattle.text_numbers.specs.Lines.{Unended, unended-join, line-behind}
+use Rattle.text_lines.specs.Lines.{Unended, unended-join, line-behind}
 use borrow.Author.Needs.{needs}
-use Rattle.text_numbers.proofs.lines.line_end.Statement.{statement}
-use Rattle.text_numbers.proofs.lines.line_end.Tie as tie
+use Rattle.text_lines.proofs.lines.line_end.Statement.{statement}
+use Rattle.text_lines.proofs.lines.line_end.Tie as tie
 
 abbrev Inv-loop : tie.InvT-loop
 Inv-loop text at i₀ i = (at ≤ i) × (i ≤ length text) × Unended text at i

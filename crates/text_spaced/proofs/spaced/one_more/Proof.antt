@@ -1,8 +1,8 @@
 -- `text_numbers::spaced::one_more` meets its contract.
 use native.Mathlib.Omega.{arith}
 use borrow.Author.Needs.{needs}
-use Rattle.text_numbers.proofs.spaced.one_more.Statement.{statement}
-use Rattle.text_numbers.proofs.spaced.one_more.Tie as tie
+use Rattle.text_spaced.proofs.spaced.one_more.Statement.{statement}
+use Rattle.text_spaced.proofs.spaced.one_more.Tie as tie
 
 add-result : tie.Need-add-result
 add-result c = search needs
