@@ -14,10 +14,10 @@ use Rattle.network.specs.Network.{cell, tail, head, count, tick, travel}
 use Rattle.network_encode.specs.Encode.{headerOf}
 use Rattle.dimacs_line.specs.declared.line.Sizes.{Sizes}
 use Rattle.dimacs_line.specs.declared.line.Arc.{Arc}
-use Rattle.dimacs_text.specs.declared.judge.Judgement.the-variants.{Accepted}
-use Rattle.dimacs_text.specs.Reading.{judging}
-use Rattle.dimacs_text.specs.Accepted.{Within}
-use Rattle.dimacs_text.specs.AcceptedExact.{accepted-exactly}
+use Rattle.dimacs_reading.specs.declared.verdict.Judgement.the-variants.{Accepted}
+use Rattle.dimacs_reading.specs.Reading.{judging}
+use Rattle.dimacs_reading.specs.Accepted.{Within}
+use Rattle.dimacs_reading.specs.AcceptedExact.{accepted-exactly}
 use Rattle.dimacs_text.specs.Arcs.{arcsOf, arcAt, nowhere, Fit, text-arcs, text-fit}
 use Rattle.dimacs_import.specs.Import.{networkBy}
 

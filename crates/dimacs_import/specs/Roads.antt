@@ -23,11 +23,11 @@ use Rattle.network_encode.specs.Packable.{Packable}
 use Rattle.network_pack.specs.Proper.{packed-long}
 use Rattle.dimacs_line.specs.declared.line.Sizes.{Sizes}
 use Rattle.dimacs_line.specs.declared.line.Arc.{Arc}
-use Rattle.dimacs_text.specs.Accepted.{Within}
+use Rattle.dimacs_reading.specs.Accepted.{Within}
 use Rattle.dimacs_text.specs.Arcs.{arcsOf, arcAt, Fit}
-use Rattle.dimacs_text.specs.declared.judge.Judgement.{Judgement}
-use Rattle.dimacs_text.specs.declared.judge.Judgement.the-variants.{Accepted}
-use Rattle.dimacs_text.specs.Reading.{judging}
+use Rattle.dimacs_reading.specs.declared.verdict.Judgement.{Judgement}
+use Rattle.dimacs_reading.specs.declared.verdict.Judgement.the-variants.{Accepted}
+use Rattle.dimacs_reading.specs.Reading.{judging}
 use Rattle.dimacs_text.specs.Noting.{lowered, shortened, tailOf, headOf, travelOf, TablesLong, Column, Noted}
 use Rattle.dimacs_text.specs.Noting.{JudgedInto}
 use Rattle.dimacs_import.specs.Import.{networkBy, ImportCall, import-accepted}

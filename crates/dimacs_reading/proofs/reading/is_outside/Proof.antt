@@ -1,9 +1,9 @@
 -- `dimacs_text::reading::is_outside` meets its contract.
 use borrow.Author.Tests.{not-true, not-false}
 use Rattle.theory_loops.specs.Pick.{picks}
-use Rattle.dimacs_text.specs.Reading.{outside}
-use Rattle.dimacs_text.proofs.reading.is_outside.Statement.{statement}
-use Rattle.dimacs_text.proofs.reading.is_outside.Tie as tie
+use Rattle.dimacs_reading.specs.Reading.{outside}
+use Rattle.dimacs_reading.proofs.reading.is_outside.Statement.{statement}
+use Rattle.dimacs_reading.proofs.reading.is_outside.Tie as tie
 
 returns : tie.Need-returns
 unfolding outside

@@ -1,9 +1,9 @@
 -- `dimacs_text::reading::is_misfit` meets its contract.
 use borrow.Author.Tests.{not-true, not-false}
 use Rattle.theory_loops.specs.Pick.{picks}
-use Rattle.dimacs_text.specs.Reading.{misfit}
-use Rattle.dimacs_text.proofs.reading.is_misfit.Statement.{statement}
-use Rattle.dimacs_text.proofs.reading.is_misfit.Tie as tie
+use Rattle.dimacs_reading.specs.Reading.{misfit}
+use Rattle.dimacs_reading.proofs.reading.is_misfit.Statement.{statement}
+use Rattle.dimacs_reading.proofs.reading.is_misfit.Tie as tie
 
 returns : tie.Need-returns
 unfolding misfit

@@ -1,10 +1,10 @@
 -- `dimacs_text::reading::after_sizes` meets its contract.
 use borrow.Author.Tests.{not-true, not-false}
 use Rattle.theory_loops.specs.Pick.{picks}
-use Rattle.dimacs_text.specs.Reading.{sizedBy, sized-told}
+use Rattle.dimacs_reading.specs.Reading.{sizedBy, sized-told}
 use borrow.Author.Needs.{needs}
-use Rattle.dimacs_text.proofs.reading.after_sizes.Statement.{statement}
-use Rattle.dimacs_text.proofs.reading.after_sizes.Tie as tie
+use Rattle.dimacs_reading.proofs.reading.after_sizes.Statement.{statement}
+use Rattle.dimacs_reading.proofs.reading.after_sizes.Tie as tie
 
 after-line-requires : tie.Need-after-line-requires
 after-line-requires c κs = search needs

@@ -21,14 +21,14 @@ use Rattle.dimacs_line.specs.declared.line.Shape.the-variants.{Remark, Other}
 use Rattle.dimacs_line.specs.declared.line.Shape.the-variants.{Sizes as SizesLine, Arc as ArcLine}
 use Rattle.dimacs_line.specs.Shape.{shapeOf, IsSizes, IsArc}
 use Rattle.dimacs_line.specs.ShapeExact.{remark-exactly, sizes-exactly, arc-exactly}
-use Rattle.dimacs_text.specs.declared.reading.Reading.{Reading}
-use Rattle.dimacs_text.specs.declared.judge.Judgement.{Judgement}
-use Rattle.dimacs_text.specs.declared.judge.Judgement.the-variants.{Accepted, Refused}
-use Rattle.dimacs_text.specs.Accepted.{Within, Fitting, ArcLines, none, remark, arc, RoadText}
-use Rattle.dimacs_text.specs.Accepted.{remark-first, sizes}
-use Rattle.dimacs_text.specs.Reading.{outside, misfit, noted, passedBy, sizedBy, arcBy, stepped}
-use Rattle.dimacs_text.specs.Reading.{readAll, unfinished, judged, judging, read-stopped, read-line}
-use Rattle.dimacs_text.specs.Reading.{read-none}
+use Rattle.dimacs_reading.specs.declared.reading.Reading.{Reading}
+use Rattle.dimacs_reading.specs.declared.verdict.Judgement.{Judgement}
+use Rattle.dimacs_reading.specs.declared.verdict.Judgement.the-variants.{Accepted, Refused}
+use Rattle.dimacs_reading.specs.Accepted.{Within, Fitting, ArcLines, none, remark, arc, RoadText}
+use Rattle.dimacs_reading.specs.Accepted.{remark-first, sizes}
+use Rattle.dimacs_reading.specs.Reading.{outside, misfit, noted, passedBy, sizedBy, arcBy, stepped}
+use Rattle.dimacs_reading.specs.Reading.{readAll, unfinished, judged, judging, read-stopped, read-line}
+use Rattle.dimacs_reading.specs.Reading.{read-none}
 
 -- THE RULES of 36 as facts
 within-limits : (k : Sizes) → outside k ≡ false → Within k

@@ -1,10 +1,10 @@
 -- `dimacs_text::reading::after_arc` meets its contract.
 use borrow.Author.Tests.{not-true, not-false}
 use Rattle.theory_loops.specs.Pick.{picks}
-use Rattle.dimacs_text.specs.Reading.{arcBy, arc-told}
+use Rattle.dimacs_reading.specs.Reading.{arcBy, arc-told}
 use borrow.Author.Needs.{needs}
-use Rattle.dimacs_text.proofs.reading.after_arc.Statement.{statement}
-use Rattle.dimacs_text.proofs.reading.after_arc.Tie as tie
+use Rattle.dimacs_reading.proofs.reading.after_arc.Statement.{statement}
+use Rattle.dimacs_reading.proofs.reading.after_arc.Tie as tie
 
 after-line-requires : tie.Need-after-line-requires
 after-line-requires c κs = search needs

@@ -1,10 +1,10 @@
--- `dimacs_text::judge::judged` meets its contract.
+-- `dimacs_text::verdict::judged` meets its contract.
 use borrow.Author.Tests.{not-true, not-false}
 use Rattle.theory_loops.specs.Pick.{picks}
-use Rattle.dimacs_text.specs.Reading.{judged, judged-form, judged-value}
+use Rattle.dimacs_reading.specs.Reading.{judged, judged-form, judged-value}
 use borrow.Author.Needs.{needs}
-use Rattle.dimacs_text.proofs.judge.judged.Statement.{statement}
-use Rattle.dimacs_text.proofs.judge.judged.Tie as tie
+use Rattle.dimacs_reading.proofs.verdict.judged.Statement.{statement}
+use Rattle.dimacs_reading.proofs.verdict.judged.Tie as tie
 
 is-unfinished-requires : tie.Need-is-unfinished-requires
 is-unfinished-requires c κs = search needs

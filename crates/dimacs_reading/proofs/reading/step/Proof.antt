@@ -1,8 +1,8 @@
 -- `dimacs_text::reading::step` meets its contract.
-use Rattle.dimacs_text.specs.Reading.{steps}
+use Rattle.dimacs_reading.specs.Reading.{steps}
 use borrow.Author.Needs.{needs}
-use Rattle.dimacs_text.proofs.reading.step.Statement.{statement}
-use Rattle.dimacs_text.proofs.reading.step.Tie as tie
+use Rattle.dimacs_reading.proofs.reading.step.Statement.{statement}
+use Rattle.dimacs_reading.proofs.reading.step.Tie as tie
 
 enum-told : tie.Need-enum-told
 enum-told c = search needs

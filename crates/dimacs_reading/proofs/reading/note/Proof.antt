@@ -1,9 +1,9 @@
 -- `dimacs_text::reading::note` meets its contract.
 use borrow.Author.Tests.{not-true, not-false}
 use Rattle.theory_loops.specs.Pick.{picks}
-use Rattle.dimacs_text.specs.Reading.{noted}
-use Rattle.dimacs_text.proofs.reading.note.Statement.{statement}
-use Rattle.dimacs_text.proofs.reading.note.Tie as tie
+use Rattle.dimacs_reading.specs.Reading.{noted}
+use Rattle.dimacs_reading.proofs.reading.note.Statement.{statement}
+use Rattle.dimacs_reading.proofs.reading.note.Tie as tie
 
 returns : tie.Need-returns
 unfolding noted

@@ -22,9 +22,9 @@ use Rattle.dimacs_line.specs.declared.line.Shape.{Shape}
 use Rattle.dimacs_line.specs.declared.line.Shape.the-variants.{Remark, Other}
 use Rattle.dimacs_line.specs.declared.line.Shape.the-variants.{Sizes as SizesLine, Arc as ArcLine}
 use Rattle.dimacs_line.specs.Shape.{shapeOf}
-use Rattle.dimacs_text.specs.declared.reading.Reading.{Reading}
-use Rattle.dimacs_text.specs.declared.judge.Judgement.{Judgement}
-use Rattle.dimacs_text.specs.declared.judge.Judgement.the-variants.{Accepted, Refused}
+use Rattle.dimacs_reading.specs.declared.reading.Reading.{Reading}
+use Rattle.dimacs_reading.specs.declared.verdict.Judgement.{Judgement}
+use Rattle.dimacs_reading.specs.declared.verdict.Judgement.the-variants.{Accepted, Refused}
 
 -- before the first line
 abbrev pub begun : Reading

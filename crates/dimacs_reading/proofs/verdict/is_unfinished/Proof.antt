@@ -1,9 +1,9 @@
--- `dimacs_text::judge::is_unfinished` meets its contract.
+-- `dimacs_text::verdict::is_unfinished` meets its contract.
 use borrow.Author.Tests.{not-true, not-false}
 use Rattle.theory_loops.specs.Pick.{picks}
-use Rattle.dimacs_text.specs.Reading.{unfinished}
-use Rattle.dimacs_text.proofs.judge.is_unfinished.Statement.{statement}
-use Rattle.dimacs_text.proofs.judge.is_unfinished.Tie as tie
+use Rattle.dimacs_reading.specs.Reading.{unfinished}
+use Rattle.dimacs_reading.proofs.verdict.is_unfinished.Statement.{statement}
+use Rattle.dimacs_reading.proofs.verdict.is_unfinished.Tie as tie
 
 returns : tie.Need-returns
 unfolding unfinished
