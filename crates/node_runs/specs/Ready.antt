@@ -15,7 +15,7 @@ use Rattle.plan_tests.specs.declared.tests.Target.{Target}
 use Rattle.plan_tests.specs.Giving.{Prepared}
 use Rattle.day_runs.specs.Runs.{Grid, Runs, runs-few}
 use Rattle.day_runs.specs.Bounds.{Floor, Ceiling}
-use Rattle.day_merge.specs.Walk.{Listed}
+use Rattle.day_walk.specs.Walk.{Listed}
 use Rattle.profile_runs.specs.Numbers.{numberAt}
 use Rattle.node_runs.specs.Adds.{numbersOf}
 

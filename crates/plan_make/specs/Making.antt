@@ -52,7 +52,7 @@ use Rattle.search_arcs.specs.declared.chain.End.the-variants.{Head}
 use Rattle.toward_node.specs.Leasts.{Leasts}
 use Rattle.plan.specs.Border
 use Rattle.plan.specs.Borders.{listed-front}
-use Rattle.plan_make.specs.Rounds.{Tables, Counted, Held, PutTo}
+use Rattle.plan_rounds.specs.Rounds.{Tables, Counted, Held, PutTo}
 
 -- THE TABLES
 module _ {file : List ℕ} {l : Layout} (t : Town file l) where

@@ -1,6 +1,4 @@
 // Make plan: refusals 1 to 10 with 37, then 34, 33 and 31, or the plan of the network written.
-use crate::rounds::count_points;
-use crate::rounds::put_borders;
 use file_fields::BLOCK;
 use file_frames::checks::write_checks;
 use file_refusals::number;
@@ -20,6 +18,8 @@ use plan::limits::MOST_POINTS;
 use plan_encode::entries::put_flags;
 use plan_encode::frames::write_frames;
 use plan_flags::inside_words;
+use plan_rounds::rounds::count_points;
+use plan_rounds::rounds::put_borders;
 use search_arcs::chain;
 use search_arcs::chain::End;
 use search_arcs::times;
@@ -38,7 +38,7 @@ ghost use Rattle.plan.specs.Border.{borderCount};
 ghost use Rattle.plan.specs.PlanLimits.{mostProfilePoints};
 ghost use Rattle.plan_encode.specs.Places.{PlanWritable};
 ghost use Rattle.plan_made.specs.File.{madeFile, madeHeader};
-ghost use Rattle.plan_make.specs.Rounds.{Tables, Counted};
+ghost use Rattle.plan_rounds.specs.Rounds.{Tables, Counted};
 ghost use Rattle.plan_make.specs.Make.{MakeCall, MakesOpened, madeInto};
 
 // Writes the plan's file: frames, the entries of all borders, the flag words, and the checks.

@@ -1,13 +1,13 @@
--- `day_merge::on` meets its contract: run i does not begin after tick e.
+-- `day_merge::walk::on` meets its contract: run i does not begin after tick e.
 use Prim.Native.Nat.{_+_, _-_, _≤_, _<_}
 use native.Mathlib.Omega.{arith}
 use lib.ListN.{getD}
 use denote.Ref.{now}
 use Rattle.day_runs.specs.Runs.{starts-few}
-use Rattle.day_merge.specs.Walk.{reached-most, step-on, on-more}
+use Rattle.day_walk.specs.Walk.{reached-most, step-on, on-more}
 use borrow.Author.Needs.{needs}
-use Rattle.day_merge.proofs.on.Statement.{statement}
-use Rattle.day_merge.proofs.on.Tie as tie
+use Rattle.day_walk.proofs.walk.on.Statement.{statement}
+use Rattle.day_walk.proofs.walk.on.Tie as tie
 
 abbrev Inv-loop : tie.InvT-loop
 Inv-loop starts n from e period i₀ i = (i < n) × (getD starts i 0 ≤ e)

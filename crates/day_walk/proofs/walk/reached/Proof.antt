@@ -1,8 +1,8 @@
--- `day_merge::reached` meets its contract.
-use Rattle.day_merge.specs.Walk.{reached-is}
+-- `day_merge::walk::reached` meets its contract.
+use Rattle.day_walk.specs.Walk.{reached-is}
 use borrow.Author.Needs.{needs}
-use Rattle.day_merge.proofs.reached.Statement.{statement}
-use Rattle.day_merge.proofs.reached.Tie as tie
+use Rattle.day_walk.proofs.walk.reached.Statement.{statement}
+use Rattle.day_walk.proofs.walk.reached.Tie as tie
 
 cast-result : tie.Need-cast-result
 cast-result c = search needs

@@ -1,9 +1,9 @@
 use mathlib.Core.Path.{refl}
 use native.Mathlib.Omega.{arith}
-use Rattle.plan_make.specs.Rounds.{border-index, border-node, border-aimed}
+use Rattle.plan_rounds.specs.Rounds.{border-index, border-node, border-aimed}
 use borrow.Author.Needs.{needs}
-use Rattle.plan_make.proofs.rounds.travels_to.Statement.{statement}
-use Rattle.plan_make.proofs.rounds.travels_to.Tie as tie
+use Rattle.plan_rounds.proofs.rounds.travels_to.Statement.{statement}
+use Rattle.plan_rounds.proofs.rounds.travels_to.Tie as tie
 
 mul-wide : tie.Need-mul-wide
 mul-wide c =

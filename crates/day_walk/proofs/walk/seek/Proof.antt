@@ -1,12 +1,12 @@
--- `day_merge::seek` meets its contract.
+-- `day_merge::walk::seek` meets its contract.
 use Prim.Native.Nat.{_≤_}
 use native.Mathlib.Omega.{arith}
 use lib.ListN.{getD}
 use denote.Ref.{now}
-use Rattle.day_merge.specs.Walk.{at-first, begun-below}
+use Rattle.day_walk.specs.Walk.{at-first, begun-below}
 use borrow.Author.Needs.{needs}
-use Rattle.day_merge.proofs.seek.Statement.{statement}
-use Rattle.day_merge.proofs.seek.Tie as tie
+use Rattle.day_walk.proofs.walk.seek.Statement.{statement}
+use Rattle.day_walk.proofs.walk.seek.Tie as tie
 
 start-requires : tie.Need-start-requires
 start-requires c κs = search needs

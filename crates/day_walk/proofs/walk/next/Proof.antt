@@ -1,10 +1,10 @@
--- `day_merge::next` meets its contract.
+-- `day_merge::walk::next` meets its contract.
 use native.Mathlib.Omega.{arith}
 use Rattle.day_runs.specs.Runs.{starts-few}
-use Rattle.day_merge.specs.Walk.{reached-most, step-next}
+use Rattle.day_walk.specs.Walk.{reached-most, step-next}
 use borrow.Author.Needs.{needs}
-use Rattle.day_merge.proofs.next.Statement.{statement}
-use Rattle.day_merge.proofs.next.Tie as tie
+use Rattle.day_walk.proofs.walk.next.Statement.{statement}
+use Rattle.day_walk.proofs.walk.next.Tie as tie
 
 add-start : tie.Need-add-start
 add-start c = search needs

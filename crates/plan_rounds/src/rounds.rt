@@ -18,7 +18,7 @@ ghost use Rattle.network.specs.Town.{partitionOf};
 ghost use Rattle.plan.specs.Border.{borderCount};
 ghost use Rattle.plan_encode.specs.Places.{PlanRoom};
 ghost use Rattle.plan_flags.specs.Words.{Flags, FlagsAfter};
-ghost use Rattle.plan_make.specs.Rounds.{Tables, Aimed, Counted, Held, PutTo};
+ghost use Rattle.plan_rounds.specs.Rounds.{Tables, Aimed, Counted, Held, PutTo};
 
 // The least travels to border number i, which it answers. `row` is a row to work in.
 fn travels_to(

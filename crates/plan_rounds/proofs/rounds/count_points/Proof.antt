@@ -7,11 +7,11 @@ use native.Mathlib.Omega.{arith}
 use lib.ListN.{length}
 use Rattle.network.specs.Decode.{decode}
 use Rattle.plan.specs.PlanLimits.{mostProfilePoints}
-use Rattle.plan_make.specs.Rounds.{pointsBefore, counted-none, counted-all, counted-many}
-use Rattle.plan_make.specs.Rounds.{rows-low, counted-more, counted-few}
+use Rattle.plan_rounds.specs.Rounds.{pointsBefore, counted-none, counted-all, counted-many}
+use Rattle.plan_rounds.specs.Rounds.{rows-low, counted-more, counted-few}
 use borrow.Author.Needs.{needs}
-use Rattle.plan_make.proofs.rounds.count_points.Statement.{statement}
-use Rattle.plan_make.proofs.rounds.count_points.Tie as tie
+use Rattle.plan_rounds.proofs.rounds.count_points.Statement.{statement}
+use Rattle.plan_rounds.proofs.rounds.count_points.Tie as tie
 
 abbrev Inv-loop : tie.InvT-loop
 Inv-loop file l starts into next least borders count work₀ row₀ seen₀ i₀ work row seen i =

@@ -1,10 +1,10 @@
--- `day_merge::ends` meets its contract.
+-- `day_merge::walk::ends` meets its contract.
 use mathlib.Core.Path.{refl}
 use native.Mathlib.Omega.{arith}
-use Rattle.day_merge.specs.Walk.{turned}
+use Rattle.day_walk.specs.Walk.{turned}
 use borrow.Author.Needs.{needs}
-use Rattle.day_merge.proofs.ends.Statement.{statement}
-use Rattle.day_merge.proofs.ends.Tie as tie
+use Rattle.day_walk.proofs.walk.ends.Statement.{statement}
+use Rattle.day_walk.proofs.walk.ends.Tie as tie
 
 add-e : tie.Need-add-e
 add-e c = search needs

@@ -4,12 +4,12 @@ use native.Mathlib.Omega.{arith}
 use denote.Ref.{now}
 use lib.ListN.{length}
 use Rattle.network.specs.Decode.{decode}
-use Rattle.plan_make.specs.Rounds.{pointsBefore, PutTo, counted-none, put-none, put-more, rows-low}
-use Rattle.plan_make.specs.Rounds.{profiles-few, profiles-room, points-room, listed, put-kept, put-end}
-use Rattle.plan_make.specs.Rounds.{border-index}
+use Rattle.plan_rounds.specs.Rounds.{pointsBefore, PutTo, counted-none, put-none, put-more, rows-low}
+use Rattle.plan_rounds.specs.Rounds.{profiles-few, profiles-room, points-room, listed, put-kept, put-end}
+use Rattle.plan_rounds.specs.Rounds.{border-index}
 use borrow.Author.Needs.{needs}
-use Rattle.plan_make.proofs.rounds.put_borders.Statement.{statement}
-use Rattle.plan_make.proofs.rounds.put_borders.Tie as tie
+use Rattle.plan_rounds.proofs.rounds.put_borders.Statement.{statement}
+use Rattle.plan_rounds.proofs.rounds.put_borders.Tie as tie
 
 abbrev Inv-loop : tie.InvT-loop
 Inv-loop file l starts into next least borders k work₀ words₀ out₀ row₀ q₀ i₀ i-end work words out row q i =

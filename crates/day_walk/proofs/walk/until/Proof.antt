@@ -1,9 +1,9 @@
--- `day_merge::until` meets its contract.
+-- `day_merge::walk::until` meets its contract.
 use native.Mathlib.Omega.{arith}
-use Rattle.day_merge.specs.Walk.{at-end}
+use Rattle.day_walk.specs.Walk.{at-end}
 use borrow.Author.Needs.{needs}
-use Rattle.day_merge.proofs.until.Statement.{statement}
-use Rattle.day_merge.proofs.until.Tie as tie
+use Rattle.day_walk.proofs.walk.until.Statement.{statement}
+use Rattle.day_walk.proofs.walk.until.Tie as tie
 
 add-start : tie.Need-add-start
 add-start c = search needs
