@@ -9,8 +9,8 @@ use native.Mathlib.Omega.{arith}
 use lib.ListN.{length, getD, set, length-set}
 use lib.Seq.{getD-set-same, getD-set-other}
 use Rattle.theory_paths.specs.Labels.{label}
-use Rattle.search_labels.specs.Settle.{Moved}
-use Rattle.search_labels.specs.Frontier.{
+use Rattle.search_frontier.specs.Settle.{Moved}
+use Rattle.search_frontier.specs.Frontier.{
   nodeOf,
   nodeAt,
   Held,

@@ -3,7 +3,7 @@
 use mathlib.Core.Path.{refl, sym, _∙_}
 use mathlib.Core.Logic.{⊎-elim}
 use Prim.Native.Nat.{_≤_, _-_}
-use Rattle.search_labels.specs.Nearest.{
+use Rattle.search_frontier.specs.Nearest.{
   Least,
   least-one,
   least-less,
@@ -14,8 +14,8 @@ use Rattle.search_labels.specs.Nearest.{
 use native.Mathlib.Numerals.{add-one}
 use borrow.Author.Needs.{needs}
 use borrow.Author.Tests.{ltb-true, ltb-false}
-use Rattle.search_labels.proofs.frontier.nearest.Statement.{statement}
-use Rattle.search_labels.proofs.frontier.nearest.Tie as tie
+use Rattle.search_frontier.proofs.frontier.nearest.Statement.{statement}
+use Rattle.search_frontier.proofs.frontier.nearest.Tie as tie
 
 abbrev Inv-loop : tie.InvT-loop
 Inv-loop keys size least₀ i₀ least i = (i ≤ size) × Least keys i least

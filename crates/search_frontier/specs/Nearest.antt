@@ -9,8 +9,8 @@ use native.Mathlib.Omega.{arith}
 use lib.ListN.{getD}
 use Rattle.theory_paths.specs.Labels.{label}
 use Rattle.network.specs.Limits.{mostNodes}
-use Rattle.search_labels.specs.Settle.{Nearest}
-use Rattle.search_labels.specs.Frontier.{nodeOf, nodeAt, Held, Frontier}
+use Rattle.search_frontier.specs.Settle.{Nearest}
+use Rattle.search_frontier.specs.Frontier.{nodeOf, nodeAt, Held, Frontier}
 
 -- The first n keys are in the same order as signed numbers.
 pub record Small (Q : List ℕ) (n : ℕ) : Type 0 where

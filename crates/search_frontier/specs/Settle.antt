@@ -16,7 +16,7 @@ use Rattle.theory_paths.specs.Drive.{arc-takes, arc-ends, arrival-start, arriva
 use Rattle.theory_paths.specs.Simple.{arrive-bound}
 use Rattle.theory_paths.specs.Earliest.{never, Exact, closed-exact}
 use Rattle.theory_paths.specs.Labels.{label}
-use Rattle.search_labels.specs.Relax.{Relaxed}
+use Rattle.search_frontier.specs.Relax.{Relaxed}
 
 -- u is settled: it has a label, and is not in the frontier.
 abbrev pub Settled : List ℕ → (ℕ → Type 0) → ℕ → Type 0

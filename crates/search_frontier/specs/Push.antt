@@ -11,7 +11,7 @@ use lib.Seq.{getD-set-same, getD-set-other, set-getD}
 use Rattle.theory_paths.specs.Earliest.{never}
 use Rattle.theory_paths.specs.Labels.{label, label-at}
 use Rattle.network.specs.Limits.{mostNodes}
-use Rattle.search_labels.specs.Frontier.{
+use Rattle.search_frontier.specs.Frontier.{
   keyOf,
   nodeOf,
   nodeAt,

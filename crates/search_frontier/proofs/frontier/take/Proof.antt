@@ -1,8 +1,8 @@
 -- `search_labels::frontier::take` meets its contract: its two writes are the two equations of `Taken`.
-use Rattle.search_labels.specs.Take.{taken}
+use Rattle.search_frontier.specs.Take.{taken}
 use borrow.Author.Needs.{needs}
-use Rattle.search_labels.proofs.frontier.take.Statement.{statement}
-use Rattle.search_labels.proofs.frontier.take.Tie as tie
+use Rattle.search_frontier.proofs.frontier.take.Statement.{statement}
+use Rattle.search_frontier.proofs.frontier.take.Tie as tie
 
 mul-at : tie.Need-mul-at
 mul-at c = search needs

@@ -8,9 +8,9 @@ ghost use mathlib.Core.Path.{_≡_};
 ghost use Prim.Native.Nat.{_-_, _^_, _≤_, _<_};
 ghost use lib.ListN.{getD, set};
 ghost use Rattle.network.specs.Limits.{mostNodes};
-ghost use Rattle.search_labels.specs.Frontier.{keyOf, nodeOf, lastEnd};
-ghost use Rattle.search_labels.specs.Take.{Taken};
-ghost use Rattle.search_labels.specs.Nearest.{Small, Least};
+ghost use Rattle.search_frontier.specs.Frontier.{keyOf, nodeOf, lastEnd};
+ghost use Rattle.search_frontier.specs.Take.{Taken};
+ghost use Rattle.search_frontier.specs.Nearest.{Small, Least};
 
 const NODES: u32 = MOST_NODES as u32;
 
