@@ -36,7 +36,7 @@ use Rattle.trip.specs.Plain.{plainBegin}
 use Rattle.trip.specs.Flagged.{flaggedBegin, flaggedArcs}
 use Rattle.day_sheet.specs.Sheet as sheet
 use Rattle.day_sheet.specs.Sheet.{sheetBegin, listing, dayArrivals}
-use Rattle.c_replies.specs.Reply.{tripSize, tripBytes}
+use Rattle.c_trip.specs.Reply.{tripSize, tripBytes}
 use Rattle.varnwalnut.specs.Room.{roomed, kept}
 
 -- the tablet's answer to a trip whose chosen path this is

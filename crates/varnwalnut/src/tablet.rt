@@ -1,6 +1,6 @@
 // The tablet's two trips: numbers and byte lists in, an answer in lent bytes. Where these are fewer than the
 // longest answer takes, 1,032, the answer is 31 and nothing is written.
-use c_replies::trip::write_trip;
+use c_trip::trip::write_trip;
 use file_refusals::number::ANSWER_SHORT;
 use network::limits::MOST_NODES;
 use network::limits::MOST_ROADS;

@@ -1,15 +1,15 @@
 -- `c_replies::trip::write_roads` meets its contract.
 use native.Mathlib.Omega.{arith}
 use lib.ListN.{length}
-use Rattle.c_replies.specs.Writing.{roads-none, roads-next, roads-end}
-use Rattle.c_replies.specs.Reply.{roadBytes}
+use Rattle.c_trip.specs.Writing.{roads-none, roads-next, roads-end}
+use Rattle.c_trip.specs.Reply.{roadBytes}
 use lib.Seq.{sets}
 use lib.ListN.{take}
 use Prim.Native.Nat.{_-_, _≤_}
 use mathlib.Core.Path.{_≡_}
 use borrow.Author.Needs.{needs}
-use Rattle.c_replies.proofs.trip.write_roads.Statement.{statement}
-use Rattle.c_replies.proofs.trip.write_roads.Tie as tie
+use Rattle.c_trip.proofs.trip.write_roads.Statement.{statement}
+use Rattle.c_trip.proofs.trip.write_roads.Tie as tie
 
 abbrev Inv-loop : tie.InvT-loop
 Inv-loop roads count answer₀ i₀ answer i =

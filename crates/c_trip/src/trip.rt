@@ -11,7 +11,7 @@ ghost use lib.Seq.{sets};
 ghost use Rattle.search_path.specs.declared.answer.Answer.the-variants as answered;
 ghost use Rattle.search_path.specs.Says.{tripSays, tripCount};
 ghost use Rattle.network.specs.Limits.{mostRoads};
-ghost use Rattle.c_replies.specs.Reply.{tripSize, bytes, roadBytes, tripBytes};
+ghost use Rattle.c_trip.specs.Reply.{tripSize, bytes, roadBytes, tripBytes};
 
 // The first road numbers of a list.
 fn write_roads(roads: &[u16], count: usize, answer: &mut [u8])

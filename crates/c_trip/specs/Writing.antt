@@ -1,25 +1,21 @@
--- Laws for the code that writes an answer: one field after the other, and then the whole.
+-- Laws for the code that writes an answer in bytes: one field after the other, and then the whole.
 use mathlib.Core.Path.{_≡_, refl, sym, _∙_, ap}
 use mathlib.Core.List.{List, [], _∷_, _++_, append-assoc, append-nil}
 use Prim.Native.Nat.{ℕ, suc, _+_, _*_, _≤_, _<_}
 use native.Mathlib.Omega.{arith}
 use lib.ListN.{length, getD, take, length-append}
 use lib.Seq.{sets, take-suc, length-take-le}
-use Rattle.theory_loops.specs.Fill.{Filled, length-tab, tab-list, filled-list, overwritten}
+use Rattle.theory_loops.specs.Fill.{length-tab}
 use Rattle.theory_loops.specs.Stores.{stored-next}
 use Rattle.file_fields.specs.Fields.{byteOf}
 use Rattle.file_fields.specs.Put.{put, put-stores}
 use Rattle.file_refusals.specs.declared.Refusal.{Refusal}
-use Rattle.file_refusals.specs.Says.{Says, numbersOf}
 use Rattle.search_path.specs.declared.answer.Arrival.{Arrival}
 use Rattle.search_path.specs.declared.answer.Answer.{Answer}
 use Rattle.search_path.specs.declared.answer.Answer.the-variants.{Arrived, Refused}
 use Rattle.search_path.specs.Says.{tripSays, tripTick, tripCount}
-use Rattle.trip_call.specs.Visit.{visitSays}
 use Rattle.network.specs.Limits.{mostRoads}
-use Rattle.plan_check.specs.declared.answer.Checking.{Checking}
-use Rattle.plan_check.specs.Answer.{reportSays}
-use Rattle.c_replies.specs.Reply.{bytes, roadBytes, tripBytes}
+use Rattle.c_trip.specs.Reply.{bytes, roadBytes, tripBytes}
 
 -- THE ROADS
 pub roads-snoc : (xs : List ℕ) (a : ℕ) → roadBytes (xs ++ (a ∷ [])) ≡ roadBytes xs ++ bytes 2 a
@@ -115,38 +111,6 @@ module _ (roads s t : List ℕ) (trip : Answer) where
       → t ≡ sets s 0 (bytes 4 (r .number) ++ bytes 4 0 ++ bytes 2 0) → t ≡ sets s 0 (tripBytes trip roads)
   unfolding roadBytes
   refused-bytes r e f = rw (e, append-nil (bytes 4 (r .number) ++ bytes 4 0 ++ bytes 2 0)) f
-
--- AN ANSWER OF NUMBERS, copied
-pub copied : (numbers old new : List ℕ) (i : ℕ) → length numbers ≤ length old
-    → Filled 0 i (λ k. getD numbers k 0) old new → i ≤ length numbers → length numbers ≤ i
-    → new ≡ overwritten numbers old
-copied numbers old new i l f a b =
-    let q : i ≡ length numbers = omega arith in
-    filled-list _ (length numbers) old new l (rw q at f) ∙ rw (tab-list numbers)
-
--- AN ANSWER o THAT IS THE CASE k: the number that is returned, and the numbers that are written
-module _ {A : Type 0} (says : A → Says) (o k : A) (e : o ≡ k) where
-  pub case-number : says k .number ≡ says o .number
-  case-number = rw e
-
-  pub case-numbers : (old new : List ℕ) → new ≡ overwritten (numbersOf (says k)) old
-      → new ≡ overwritten (numbersOf (says o)) old
-  case-numbers old new f = f ∙ ap (λ (v : A). overwritten (numbersOf (says v)) old) (sym e)
-
--- and the check's, whose finds are the same in either case
-pub report-numbers : (finds : ℕ) (o k : Checking) → o ≡ k → (old new : List ℕ)
-    → new ≡ overwritten (numbersOf (reportSays k finds)) old
-    → new ≡ overwritten (numbersOf (reportSays o finds)) old
-report-numbers finds = case-numbers (λ v. reportSays v finds)
-
--- and a trip's, whose target's hours are the same in either case
-pub visit-numbers : (opens : ℕ) (o k : Answer) → o ≡ k → (old new : List ℕ)
-    → new ≡ overwritten (numbersOf (visitSays k opens)) old
-    → new ≡ overwritten (numbersOf (visitSays o opens)) old
-visit-numbers opens = case-numbers (λ v. visitSays v opens)
-
-pub visit-number : (opens : ℕ) (o k : Answer) → o ≡ k → visitSays k opens .number ≡ visitSays o opens .number
-visit-number opens = case-number (λ v. visitSays v opens)
 
 -- for `search replies` where a trip's answer is written
 pub ruleset replies = (arrived-bytes, arrived-count, arrived-room, refused-bytes)

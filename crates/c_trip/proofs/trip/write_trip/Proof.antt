@@ -1,8 +1,8 @@
 -- `c_replies::trip::write_trip` meets its contract.
-use Rattle.c_replies.specs.Writing.{replies}
+use Rattle.c_trip.specs.Writing.{replies}
 use borrow.Author.Needs.{needs}
-use Rattle.c_replies.proofs.trip.write_trip.Statement.{statement}
-use Rattle.c_replies.proofs.trip.write_trip.Tie as tie
+use Rattle.c_trip.proofs.trip.write_trip.Statement.{statement}
+use Rattle.c_trip.proofs.trip.write_trip.Tie as tie
 
 enum-known-trip : tie.Need-enum-known-trip
 enum-known-trip c = search needs

@@ -1,8 +1,8 @@
 -- `c_replies::trip::write_refused` meets its contract.
-use Rattle.c_replies.specs.Writing.{head-stored}
+use Rattle.c_trip.specs.Writing.{head-stored}
 use borrow.Author.Needs.{needs}
-use Rattle.c_replies.proofs.trip.write_refused.Statement.{statement}
-use Rattle.c_replies.proofs.trip.write_refused.Tie as tie
+use Rattle.c_trip.proofs.trip.write_refused.Statement.{statement}
+use Rattle.c_trip.proofs.trip.write_refused.Tie as tie
 
 put32-requires : tie.Need-put32-requires
 put32-requires c κs = search needs

@@ -1,8 +1,8 @@
 -- `c_replies::trip::write_arrived` meets its contract.
-use Rattle.c_replies.specs.Writing.{roads-stored}
+use Rattle.c_trip.specs.Writing.{roads-stored}
 use borrow.Author.Needs.{needs}
-use Rattle.c_replies.proofs.trip.write_arrived.Statement.{statement}
-use Rattle.c_replies.proofs.trip.write_arrived.Tie as tie
+use Rattle.c_trip.proofs.trip.write_arrived.Statement.{statement}
+use Rattle.c_trip.proofs.trip.write_arrived.Tie as tie
 
 put32-requires : tie.Need-put32-requires
 put32-requires c κs = search needs
