@@ -35,7 +35,7 @@ use Rattle.search_path.specs.declared.answer.Arrival.{Arrival}
 use Rattle.search_path.specs.declared.answer.Answer.{Answer}
 use Rattle.search_path.specs.declared.answer.Answer.the-variants.{Arrived}
 use Rattle.toward_node.specs.Turn.{modest}
-use Rattle.toward_node.specs.Work.{workSize, cleared, valid-town}
+use Rattle.toward_list.specs.Work.{workSize, cleared, valid-town}
 use Rattle.trip_call.specs.Drive.{drive-nodes, drive-period}
 use Rattle.trip.specs.Calls.{plainCall, plainPath, flaggedCall, flaggedPath}
 use Rattle.trip.specs.Plain.{PlainTrip}

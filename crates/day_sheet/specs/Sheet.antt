@@ -19,7 +19,7 @@ use Rattle.network.specs.Network.{Network}
 use Rattle.network.specs.Decode.{decode}
 use Rattle.network.specs.Town.{graphOf}
 use Rattle.network.specs.Validate.{unopened, validated}
-use Rattle.toward_node.specs.Work.{cleared}
+use Rattle.toward_list.specs.Work.{cleared}
 use Rattle.trip_call.specs.Trip.{andThen}
 
 -- the arrival at `to` of who leaves `from` at tick t: a full tick, which may lie past the day's end

@@ -32,9 +32,9 @@ use Rattle.network.specs.Town.{graphOf}
 use Rattle.network.specs.Validate.{unopened, validated}
 use Rattle.network.specs.Valid.{ValidFile, valid-exactly}
 use Rattle.search_arcs.specs.Town.{Town}
-use Rattle.toward_node.specs.Rows.{WorkedRow}
+use Rattle.toward_list.specs.Rows.{WorkedRow}
 use Rattle.toward_node.specs.Turn.{modest}
-use Rattle.toward_node.specs.Work.{size-is, work-cleared}
+use Rattle.toward_list.specs.Work.{size-is, work-cleared}
 use Rattle.trip_call.specs.Stage.{not-opened, one-header, then-passed}
 use Rattle.day_sheet.specs.Sheet.{arrivalAt, dayArrivals, sheetAsked, sheetBegin, listed, SheetCall}
 use Rattle.day_sheet.specs.Sheet.{DaySheet}

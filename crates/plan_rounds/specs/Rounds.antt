@@ -33,8 +33,8 @@ use Rattle.plan.specs.PlanMatch.{borders-few}
 use Rattle.plan_encode.specs.Places.{PlanRoom}
 use Rattle.plan_encode.specs.PlanWritten.{Entered}
 use Rattle.plan_encode.specs.PlanWritten as written
-use Rattle.toward_node.specs.Leasts.{Leasts}
-use Rattle.toward_node.specs.Rows.{Worked}
+use Rattle.toward_list.specs.Leasts.{Leasts}
+use Rattle.toward_list.specs.Rows.{Worked}
 use Rattle.toward_node.specs.Turn.{Ready, modest}
 use Rattle.toward_start.specs.Start.{known-row, known-small}
 use Rattle.plan_flags.specs.Words.{Flags, FlagsAfter}

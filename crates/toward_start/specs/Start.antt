@@ -30,7 +30,7 @@ use Rattle.search_arcs.specs.Town.{Town, lawful}
 use Rattle.toward_row.specs.Arcs.{Primed}
 use Rattle.toward_row.specs.Cut.{Cut}
 use Rattle.toward_row.specs.Lower.{entries, lowest, lowered, offer, Capped, Known}
-use Rattle.toward_node.specs.Rows.{Worked, row-long, row-entry}
+use Rattle.toward_list.specs.Rows.{Worked, row-long, row-entry}
 use Rattle.toward_node.specs.Turn.{modest}
 
 -- a row with one more at each tick
