@@ -38,7 +38,7 @@ use Rattle.toward_node.specs.Turn.{modest}
 use Rattle.toward_list.specs.Work.{workSize, cleared, valid-town}
 use Rattle.trip_call.specs.Drive.{drive-nodes, drive-period}
 use Rattle.trip.specs.Calls.{plainCall, plainPath, flaggedCall, flaggedPath}
-use Rattle.trip.specs.Plain.{PlainTrip}
+use Rattle.trip_plain.specs.Plain.{PlainTrip}
 use Rattle.trip.specs.Flagged.{FlaggedTrip}
 use Rattle.trip.specs.Promise.{AsGoodAsAny, Passed}
 use Rattle.trip.specs.PlainPromise.{plain-trip, plain-call}

@@ -6,7 +6,7 @@ use network::limits::MOST_NODES;
 use network::limits::MOST_ROADS;
 use network::limits::NEVER;
 use trip::flagged::flagged_trip;
-use trip::plain::plain_trip;
+use trip_plain::plain::plain_trip;
 ghost use Rattle.trip.specs.Calls.{plainCall, plainPath, flaggedCall, flaggedPath};
 ghost use Rattle.varnwalnut.specs.Replies.{TripReply};
 

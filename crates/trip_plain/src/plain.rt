@@ -10,7 +10,7 @@ use trip_call::visit::visit_over;
 ghost use mathlib.Core.Path.{_≡_};
 ghost use Rattle.network.specs.Decode.{decode};
 ghost use Rattle.trip_call.specs.Visit.{openTick};
-ghost use Rattle.trip.specs.Plain.{plainBegin, PlainTrip};
+ghost use Rattle.trip_plain.specs.Plain.{plainBegin, PlainTrip};
 
 // The refusals before the search: 1 to 10 and 37, then 25 to 27.
 fn begin_plain(network: &[u8], q: Query, room: usize) -> Opening

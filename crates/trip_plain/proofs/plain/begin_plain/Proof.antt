@@ -1,8 +1,8 @@
 -- `trip::plain::begin_plain` meets its contract.
 use Rattle.trip_call.specs.Trip.{then-refused, then-opened}
 use borrow.Author.Needs.{needs}
-use Rattle.trip.proofs.plain.begin_plain.Statement.{statement}
-use Rattle.trip.proofs.plain.begin_plain.Tie as tie
+use Rattle.trip_plain.proofs.plain.begin_plain.Statement.{statement}
+use Rattle.trip_plain.proofs.plain.begin_plain.Tie as tie
 
 validate-requires : tie.Need-validate-requires
 validate-requires c κs = search needs

@@ -1,10 +1,10 @@
 -- `trip::plain::plain_trip` meets its contract.
-use Rattle.trip.specs.Plain.{plains}
+use Rattle.trip_plain.specs.Plain.{plains}
 use Rattle.trip_call.specs.Stage.{stages}
 use Rattle.trip_call.specs.Visit.{visits}
 use borrow.Author.Needs.{needs}
-use Rattle.trip.proofs.plain.plain_trip.Statement.{statement}
-use Rattle.trip.proofs.plain.plain_trip.Tie as tie
+use Rattle.trip_plain.proofs.plain.plain_trip.Statement.{statement}
+use Rattle.trip_plain.proofs.plain.plain_trip.Tie as tie
 
 begin-plain-requires : tie.Need-begin-plain-requires
 begin-plain-requires c κs = search needs
