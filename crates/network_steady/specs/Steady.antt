@@ -1,0 +1,247 @@
+-- Whether all points keep the rules 9 and 10, yes or no: where the order of the points breaks off at no more
+-- points than there are arcs, and every arc's day closes, no point breaks a rule.
+use mathlib.Core.Path.{_≡_, refl, sym, _∙_}
+use mathlib.Core.Bool.{Bool, true, false, not, _||_}
+use mathlib.Core.List.{List}
+use Prim.Native.Nat.{ℕ, zero, suc, _+_, _-_, _≤_, _<_}
+use native.Mathlib.Nat.{le-of-lt, add-zero}
+use native.Mathlib.Decide.{decLt}
+use native.Mathlib.Numerals.{add-one}
+use native.Mathlib.Omega.{arith}
+use lib.Dec.{leb, ltb}
+use lib.ListN.{getD}
+use borrow.Author.Count.{below-more}
+use borrow.Author.Tests.{ltb-false, leb-false, lt-ltb, le-ltb, not-true, not-false}
+use Rattle.theory_loops.specs.Count as Count
+use Rattle.theory_loops.specs.First.{first, all-clear}
+use Rattle.theory_loops.specs.Pick.{or-passed}
+use Rattle.theory_loops.specs.Total.{total, total-none, total-more}
+use Rattle.theory_breaks.specs.Tally.{before, tally-all}
+use Rattle.theory_breaks.specs.Breaks.{Begun, only-first}
+use Rattle.theory_travel.specs.Day.{Day, closed-in, closed-end}
+use Rattle.theory_travel.specs.Points.{climbs}
+use Rattle.theory_travel.specs.Table.{entryAt, entry-first}
+use Rattle.theory_travel.specs.Ticks.{ticks-day}
+use Rattle.file_refusals.specs.declared.Judged.the-variants.{Sound}
+use Rattle.network.specs.declared.header.Layout.{Layout}
+use Rattle.network.specs.Limits.{mostPoints}
+use Rattle.network.specs.Network.{Network, arcs, points, count, start, tick, travel}
+use Rattle.network.specs.Decode.{decode, Laid, Sizes, Small, laid-sizes}
+use Rattle.network.specs.FirstPoint.{Counted, anyOf, points-in, none-first}
+use Rattle.network.specs.Rules.{badPoint, overtaken, badPointOf, overtakenOf, ticksOf, travelsOf}
+use Rattle.network.specs.Rules.{judgedPoints}
+use Rattle.network_steady.specs.Breaks.{breaks, Follows, follows, broken}
+
+-- a day whose first point has tick t and travel v, and whose last has tick u and travel w, does not close:
+-- the first tick is not 0, its travel is not 1 to the period, the last tick is not below the period, or its
+-- end is after that of the next day's first
+unfoldable pub unclosed : ℕ → ℕ → ℕ → ℕ → ℕ → Bool
+unclosed period t v u w = ltb 0 t || (ltb v 1 || (ltb period v || (leb period u || ltb (period + v) (u + w))))
+
+-- the day of m points closes
+pub record Closed (period : ℕ) (t v : ℕ → ℕ) (m : ℕ) : Type 0 where
+  pub start : t 0 ≡ 0
+  pub some : 1 ≤ v 0
+  pub most : v 0 ≤ period
+  pub below : t (m - 1) < period
+  pub wrap : t (m - 1) + v (m - 1) ≤ period + v 0
+
+-- and so do those of all arcs
+pub record AllClosed (n : Network) : Type 0 where
+  pub day : (a : ℕ) → a < arcs n → Closed (n .period) (ticksOf n a) (travelsOf n a) (count n a)
+
+-- ONE ARC: its day closes, and each point follows the one before it
+module _ (period : ℕ) (t v : ℕ → ℕ) (m : ℕ) (h : 0 < m) (c : Closed period t v m)
+    (on : (i : ℕ) → suc i < m → Follows period (t i) (v i) (t (suc i)) (v (suc i))) where
+  some : (i : ℕ) → i < m → 1 ≤ v i
+  some zero l = c .some
+  some (suc i) l = on i l .some
+
+  most : (i : ℕ) → i < m → v i ≤ period
+  most zero l = c .most
+  most (suc i) l = on i l .most
+
+  below : (i : ℕ) → i < m → t i < period
+  below i l =
+      omega (
+        arith,
+        climbs t (m - 1) (λ k o. le-of-lt (on k (omega arith) .rise)) i (m - 1) (omega arith) (omega arith),
+        c .below,
+      )
+
+  pub fine : (i : ℕ) → i < m → badPoint period t v i ≡ false
+  unfolding badPoint
+  fine i l =
+      let day : Day t m period =
+      record { some = h; start = c .start; rise = λ k o. on k o .rise; below = below } in
+      rw (ticks-day period t m h .1 day i l, le-ltb _ _ (some i l), le-ltb _ _ (most i l))
+
+  pub in-turn : (i : ℕ) → i < m → overtaken period t v m i ≡ false
+  unfolding overtaken
+  in-turn i l = elim (decLt (suc i) m) [
+    | yes k ↦ rw (closed-in m t period (suc i) k, closed-in m v (v 0) (suc i) k) (le-ltb _ _ (on i k .kept))
+    | no k ↦ let e : m - 1 ≡ i = omega arith in
+        rw (closed-end m t period (suc i) (omega arith), closed-end m v (v 0) (suc i) (omega arith))
+        (le-ltb _ _ (rw e at (c .wrap)))
+  ]
+
+-- ALL ARCS
+module _ (n : Network) (c : Counted n) (d : AllClosed n)
+    (few : Count.count (points n) (broken (n .period) (tick n) (travel n)) ≡ arcs n) where
+  next : (a : ℕ) → start n (suc a) ≡ start n a + count n a
+  unfolding start
+  next a = rw (← add-one a) (sym (total-more (count n) (total a (count n)) (count n a) a refl refl))
+
+  -- each arc's first point is a break
+  begun : Begun (broken (n .period) (tick n) (travel n)) (λ _. true) (start n) (arcs n)
+  unfolding broken breaks
+  begun = record {
+    grows = λ a l. omega (arith, next a);
+    some = λ a l _. omega (arith, next a, c .some a l);
+    first = λ a l _.
+        let z : tick n (start n a) ≡ 0 = entry-first (n .ticks) (start n a) ∙ d .day a l .start in
+        rw (z, lt-ltb 0 (before (tick n) (start n a) + 1) (omega arith));
+  }
+
+  module _ (a : ℕ) (l : a < arcs n) where
+    -- and no other
+    inside : (i : ℕ) → suc i < count n a
+        → breaks (n .period) (ticksOf n a i) (travelsOf n a i) (ticksOf n a (suc i)) (travelsOf n a (suc i))
+        ≡ false
+    unfolding entryAt broken before
+    inside i k =
+        let z : start n a + suc i ≡ suc (start n a + i) = omega arith in
+        let o : Count.count (start n (arcs n)) (broken (n .period) (tick n) (travel n))
+        ≤ Count.count (arcs n) (λ _. true) =
+        rw (c .sum, few, tally-all (arcs n)) (omega arith) in
+        rw z
+        (only-first _ _ (start n) (arcs n) begun o a (suc (start n a + i)) l (omega arith)
+        (omega (arith, next a)))
+
+    on : (i : ℕ) → suc i < count n a
+        → Follows (n .period) (ticksOf n a i) (travelsOf n a i) (ticksOf n a (suc i)) (travelsOf n a (suc i))
+    on i k = follows _ _ _ _ _ (inside i k)
+
+    arc-fine : anyOf n (badPointOf n) a ≡ false
+    arc-fine =
+        let f = all-clear (badPointOf n a) (count n a) (fine _ _ _ _ (c .some a l) (d .day a l) on) in
+        le-ltb (first (count n a) (badPointOf n a)) (count n a) (omega arith)
+
+    arc-in-turn : anyOf n (overtakenOf n) a ≡ false
+    arc-in-turn =
+        let f = all-clear (overtakenOf n a) (count n a) (in-turn _ _ _ _ (c .some a l) (d .day a l) on) in
+        le-ltb (first (count n a) (overtakenOf n a)) (count n a) (omega arith)
+
+  -- THE LAW
+  pub steady-sound : Sound ≡ judgedPoints n
+  unfolding judgedPoints
+  steady-sound =
+      rw (
+        none-first n (badPointOf n) (arcs n) (all-clear _ (arcs n) arc-fine),
+        none-first n (overtakenOf n) (arcs n) (all-clear _ (arcs n) arc-in-turn),
+        le-ltb (points n) (points n) (omega arith),
+      )
+
+-- FOR CODE that has read the ends of an arc's day
+pub closed-answer : (ticks travels : List ℕ) (period from m t v u w : ℕ) (b : Bool)
+    → t ≡ getD ticks from 0 → v ≡ getD travels from 0
+    → u ≡ getD ticks (from + (m - 1)) 0 → w ≡ getD travels (from + (m - 1)) 0
+    → b ≡ unclosed period t v u w → not b ≡ true → Closed period (entryAt ticks from) (entryAt travels from) m
+unfolding unclosed entryAt
+closed-answer ticks travels period from m t v u w b e f g h k y =
+    let (b₀, b₁) = or-passed _ _ (sym k ∙ not-true b y) in
+    let (b₂, b₃) = or-passed _ _ b₁ in
+    let (b₄, b₅) = or-passed _ _ b₃ in
+    let (b₆, b₇) = or-passed _ _ b₅ in
+    let x₀ : t ≤ 0 = ltb-false _ _ b₀ in
+    let x₁ : 1 ≤ v = ltb-false _ _ b₂ in
+    let x₂ : v ≤ period = ltb-false _ _ b₄ in
+    let x₃ : u < period = leb-false _ _ b₆ in
+    let x₄ : u + w ≤ period + v = ltb-false _ _ b₇ in
+    let o : t ≡ getD ticks (from + 0) 0 = rw add-zero e in
+    let p : v ≡ getD travels (from + 0) 0 = rw add-zero f in
+    record {
+      start = omega arith;
+      some = omega arith;
+      most = omega arith;
+      below = omega arith;
+      wrap = omega arith;
+    }
+
+-- THE LOOP over the arcs, before arc a, whose points start at `from`
+pub record Closing (n : Network) (l : Layout) (a from : ℕ) : Type 0 where
+  pub counted : Counted n
+  pub sizes : Sizes n l
+  pub small : Small l
+  pub within : a ≤ l .arcs
+  pub from-is : from ≡ start n a
+  pub closed : (k : ℕ) → k < a → Closed (n .period) (ticksOf n k) (travelsOf n k) (count n k)
+
+module _ (n : Network) (l : Layout) where
+  pub closing-none : Counted n → Sizes n l → Small l → Closing n l 0 0
+  unfolding start
+  closing-none c s w = record {
+    counted = c;
+    sizes = s;
+    small = w;
+    within = omega arith;
+    from-is = total-none (count n);
+    closed = λ k o. absurd (omega arith);
+  }
+
+  module _ (a from m : ℕ) (i : Closing n l a from) (h : a < l .arcs) (e : m ≡ count n a) where
+    arc-in : a < arcs n
+    arc-in = omega (arith, i .sizes .arcs)
+
+    pub closing-room : from + m ≤ l .points
+    closing-room = omega (arith, i .from-is, e, i .sizes .points, points-in (i .counted) a arc-in)
+
+    pub closing-some : 0 < m
+    closing-some = omega (arith, e, i .counted .some a arc-in)
+
+    pub closing-few : from + m ≤ mostPoints
+    closing-few = omega (arith, closing-room, i .small .points-most)
+
+    pub closing-more : (b : Bool)
+        → (b ≡ true → Closed (l .period) (entryAt (n .ticks) from) (entryAt (n .travels) from) m)
+        → not b ≡ false → Closing n l (a + 1) (from + m)
+    unfolding start
+    closing-more b f g =
+        let d : Closed (n .period) (ticksOf n a) (travelsOf n a) (count n a) =
+        rw (i .sizes .period, i .from-is, e) at (f (not-false b g)) in
+        record {
+          counted = i .counted;
+          sizes = i .sizes;
+          small = i .small;
+          within = omega arith;
+          from-is = total-more (count n) from m a (i .from-is) e;
+          closed = λ k o. below-more
+              (λ k. Closed (n .period) (ticksOf n k) (travelsOf n k) (count n k)) a (i .closed) d k
+              (omega arith);
+        }
+
+  pub closing-stop : false ≡ true → AllClosed n
+  closing-stop e = let z : _≡_ {A = ℕ} 0 1 = cc in absurd (omega arith)
+
+  pub closing-end : (a from : ℕ) → Closing n l a from → l .arcs ≤ a → true ≡ true → AllClosed n
+  closing-end a from i h _ = record { day = λ k o. i .closed k (omega (arith, i .sizes .arcs)) }
+
+-- for `search closings` at the needs of that loop
+pub ruleset closings = (closing-none, closing-room, closing-some, closing-stop, closing-more, closing-end)
+
+-- FOR CODE that has counted the breaks of a file's points, and asked whether all days close
+module _ {file : List ℕ} {l : Layout} (s : Laid file l) where
+  pub steady-no : false ≡ true → Sound ≡ judgedPoints (decode file)
+  steady-no e = let z : _≡_ {A = ℕ} 0 1 = cc in absurd (omega arith)
+
+  pub steady-yes : (breaks : ℕ) (b : Bool) → Counted (decode file)
+      → breaks ≡ Count.count (points (decode file))
+      (broken (l .period) (tick (decode file)) (travel (decode file)))
+      → breaks ≡ l .arcs → (b ≡ true → AllClosed (decode file)) → b ≡ true
+      → Sound ≡ judgedPoints (decode file)
+  steady-yes k b c e f g h =
+      let w = laid-sizes s in
+      steady-sound (decode file) c (g h) (sym (rw (w .period) at e) ∙ f ∙ w .arcs)
+
+-- for `search steadies` where the code answers
+pub ruleset steadies = (steady-no, steady-yes)
