@@ -1,4 +1,4 @@
--- Whether all points keep the rules 9 and 10: where their order breaks off (Breaks), and why no more breaks
--- than arcs, with every day closed, is enough (Steady).
-pub mod Breaks
+-- Whether all points keep the rules 9 and 10: where the order of points goes on (Joins), and why it is enough
+-- that it does so at all but one point for each arc, and that every day closes (Steady).
+pub mod Joins
 pub mod Steady

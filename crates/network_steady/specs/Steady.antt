@@ -1,9 +1,9 @@
--- Whether all points keep the rules 9 and 10, yes or no: where the order of the points breaks off at no more
--- points than there are arcs, and every arc's day closes, no point breaks a rule.
+-- Whether all points keep the rules 9 and 10, yes or no: where the order of the points goes on at all but as
+-- many points as there are arcs, and every arc's day closes, no point breaks a rule.
 use mathlib.Core.Path.{_≡_, refl, sym, _∙_}
 use mathlib.Core.Bool.{Bool, true, false, not, _||_}
 use mathlib.Core.List.{List}
-use Prim.Native.Nat.{ℕ, zero, suc, _+_, _-_, _≤_, _<_}
+use Prim.Native.Nat.{ℕ, zero, suc, _+_, _-_, _^_, _≤_, _<_}
 use native.Mathlib.Nat.{le-of-lt, add-zero}
 use native.Mathlib.Decide.{decLt}
 use native.Mathlib.Numerals.{add-one}
@@ -11,7 +11,7 @@ use native.Mathlib.Omega.{arith}
 use lib.Dec.{leb, ltb}
 use lib.ListN.{getD}
 use borrow.Author.Count.{below-more}
-use borrow.Author.Tests.{ltb-false, leb-false, lt-ltb, le-ltb, not-true, not-false}
+use borrow.Author.Tests.{ltb-false, leb-false, le-ltb, not-true, not-false}
 use Rattle.theory_loops.specs.Count as Count
 use Rattle.theory_loops.specs.First.{first, all-clear}
 use Rattle.theory_loops.specs.Pick.{or-passed}
@@ -24,13 +24,14 @@ use Rattle.theory_travel.specs.Table.{entryAt, entry-first}
 use Rattle.theory_travel.specs.Ticks.{ticks-day}
 use Rattle.file_refusals.specs.declared.Judged.the-variants.{Sound}
 use Rattle.network.specs.declared.header.Layout.{Layout}
-use Rattle.network.specs.Limits.{mostPoints}
+use Rattle.network.specs.Limits.{mostPeriod, mostPoints}
 use Rattle.network.specs.Network.{Network, arcs, points, count, start, tick, travel}
-use Rattle.network.specs.Decode.{decode, Laid, Sizes, Small, laid-sizes}
+use Rattle.network.specs.Decode.{decode, Laid, Sizes, Small, laid-sizes, laid-small}
 use Rattle.network.specs.FirstPoint.{Counted, anyOf, points-in, none-first}
 use Rattle.network.specs.Rules.{badPoint, overtaken, badPointOf, overtakenOf, ticksOf, travelsOf}
 use Rattle.network.specs.Rules.{judgedPoints}
-use Rattle.network_steady.specs.Breaks.{breaks, Follows, follows, broken}
+use Rattle.network_steady.specs.Joins.{joins, Follows, joined, joins-low, joins-rise, joins-most}
+use Rattle.network_steady.specs.Joins.{follows}
 
 -- a day whose first point has tick t and travel v, and whose last has tick u and travel w, does not close:
 -- the first tick is not 0, its travel is not 1 to the period, the last tick is not below the period, or its
@@ -85,42 +86,85 @@ module _ (period : ℕ) (t v : ℕ → ℕ) (m : ℕ) (h : 0 < m) (c : Closed pe
         (le-ltb _ _ (rw e at (c .wrap)))
   ]
 
+not-yes : (b : Bool) → (b ≡ true → ⊥) → not b ≡ true
+not-yes true h = absurd (h refl)
+not-yes false h = refl
+
+-- a test holds at an index, or does not
+count-rest : (p : ℕ → Bool) (n : ℕ) → Count.count n p + Count.count n (λ k. not (p k)) ≡ n
+count-rest p zero = omega (arith, Count.count-none p, Count.count-none (λ k. not (p k)))
+count-rest p (suc n) = go (p n) refl (count-rest p n)
+  where
+    rest : ℕ → Bool
+    rest k = not (p k)
+
+    go : (b : Bool) → p n ≡ b → Count.count n p + Count.count n rest ≡ n
+        → Count.count (suc n) p + Count.count (suc n) rest ≡ suc n
+    go true e r =
+        let y = rw (add-one n) at (Count.count-yes p _ n refl e) in
+        let z = rw (add-one n) at (Count.count-no rest _ n refl (rw e)) in
+        omega arith
+    go false e r =
+        let y = rw (add-one n) at (Count.count-no p _ n refl e) in
+        let z = rw (add-one n) at (Count.count-yes rest _ n refl (rw e)) in
+        omega arith
+
 -- ALL ARCS
-module _ (n : Network) (c : Counted n) (d : AllClosed n)
-    (few : Count.count (points n) (broken (n .period) (tick n) (travel n)) ≡ arcs n) where
+module _ (n : Network) (small : n .period ≤ mostPeriod) (c : Counted n) (d : AllClosed n)
+    (few : Count.count (points n) (joined (n .period) (tick n) (travel n)) + arcs n ≡ points n) where
+  abbrev breaks : ℕ → Bool
+  breaks k = not (joined (n .period) (tick n) (travel n) k)
+
   next : (a : ℕ) → start n (suc a) ≡ start n a + count n a
   unfolding start
   next a = rw (← add-one a) (sym (total-more (count n) (total a (count n)) (count n a) a refl refl))
 
+  -- the tick before an arc's first point is that of the arc's before
+  before-low : (a : ℕ) → a < arcs n → before (tick n) (start n a) < 2 ^ 15
+  unfolding before start entryAt
+  before-low zero l = rw (sym (total-none (count n))) (omega arith)
+  before-low (suc a) l =
+      let h : a < arcs n = omega arith in
+      let z : start n (suc a) ≡ suc (start n a + (count n a - 1)) = omega (arith, next a, c .some a h) in
+      rw z (omega (arith, d .day a h .below))
+
   -- each arc's first point is a break
-  begun : Begun (broken (n .period) (tick n) (travel n)) (λ _. true) (start n) (arcs n)
-  unfolding broken breaks
+  begun : Begun breaks (λ _. true) (start n) (arcs n)
+  unfolding joined
   begun = record {
     grows = λ a l. omega (arith, next a);
     some = λ a l _. omega (arith, next a, c .some a l);
     first = λ a l _.
         let z : tick n (start n a) ≡ 0 = entry-first (n .ticks) (start n a) ∙ d .day a l .start in
-        rw (z, lt-ltb 0 (before (tick n) (start n a) + 1) (omega arith));
+        not-yes (joined (n .period) (tick n) (travel n) (start n a))
+        (λ j. omega (arith, joins-rise (n .period) _ _ _ _ (before-low a l) j));
   }
 
   module _ (a : ℕ) (l : a < arcs n) where
     -- and no other
     inside : (i : ℕ) → suc i < count n a
-        → breaks (n .period) (ticksOf n a i) (travelsOf n a i) (ticksOf n a (suc i)) (travelsOf n a (suc i))
-        ≡ false
-    unfolding entryAt broken before
+        → joins (n .period) (ticksOf n a i) (travelsOf n a i) (ticksOf n a (suc i)) (travelsOf n a (suc i))
+        ≡ true
+    unfolding entryAt joined before
     inside i k =
         let z : start n a + suc i ≡ suc (start n a + i) = omega arith in
-        let o : Count.count (start n (arcs n)) (broken (n .period) (tick n) (travel n))
-        ≤ Count.count (arcs n) (λ _. true) =
-        rw (c .sum, few, tally-all (arcs n)) (omega arith) in
+        let o : Count.count (start n (arcs n)) breaks ≤ Count.count (arcs n) (λ _. true) =
+        rw (c .sum, tally-all (arcs n))
+        (omega (arith, count-rest (joined (n .period) (tick n) (travel n)) (points n))) in
         rw z
-        (only-first _ _ (start n) (arcs n) begun o a (suc (start n a + i)) l (omega arith)
-        (omega (arith, next a)))
+        (not-false _ (only-first _ _ (start n) (arcs n) begun o a (suc (start n a + i)) l (omega arith)
+        (omega (arith, next a))))
+
+    -- so each point is in range, and follows on the one before
+    ranged : (i : ℕ) → i < count n a → (ticksOf n a i < 2 ^ 15) × (travelsOf n a i ≤ n .period)
+    ranged zero h = (omega (arith, d .day a l .start), d .day a l .most)
+    ranged (suc i) h =
+        let (s, w) = ranged i (omega arith) in
+        (joins-low _ _ _ _ _ s (inside i h), joins-most _ _ _ _ _ s (inside i h) small)
 
     on : (i : ℕ) → suc i < count n a
         → Follows (n .period) (ticksOf n a i) (travelsOf n a i) (ticksOf n a (suc i)) (travelsOf n a (suc i))
-    on i k = follows _ _ _ _ _ (inside i k)
+    on i h = let (s, w) = ranged i (omega arith) in follows _ _ _ _ _ s (inside i h) small w
 
     arc-fine : anyOf n (badPointOf n) a ≡ false
     arc-fine =
@@ -234,14 +278,16 @@ module _ {file : List ℕ} {l : Layout} (s : Laid file l) where
   pub steady-no : false ≡ true → Sound ≡ judgedPoints (decode file)
   steady-no e = let z : _≡_ {A = ℕ} 0 1 = cc in absurd (omega arith)
 
-  pub steady-yes : (breaks : ℕ) (b : Bool) → Counted (decode file)
-      → breaks ≡ Count.count (points (decode file))
-      (broken (l .period) (tick (decode file)) (travel (decode file)))
-      → breaks ≡ l .arcs → (b ≡ true → AllClosed (decode file)) → b ≡ true
+  pub steady-yes : (k : ℕ) (b : Bool) → Counted (decode file)
+      → k ≡ Count.count (points (decode file))
+      (joined (l .period) (tick (decode file)) (travel (decode file)))
+      → k + l .arcs ≡ l .points → (b ≡ true → AllClosed (decode file)) → b ≡ true
       → Sound ≡ judgedPoints (decode file)
   steady-yes k b c e f g h =
       let w = laid-sizes s in
-      steady-sound (decode file) c (g h) (sym (rw (w .period) at e) ∙ f ∙ w .arcs)
+      let q = rw (w .period) at e in
+      steady-sound (decode file) (rw (w .period) at (laid-small s .period-most)) c (g h)
+      (rw (q, w .arcs, w .points) at f)
 
 -- for `search steadies` where the code answers
 pub ruleset steadies = (steady-no, steady-yes)

@@ -1,6 +1,6 @@
 // Whether all points keep the rules 9 and 10, yes or no: what a good file is asked. It looks at the points of
-// all arcs as one row, block by block and without a jump, and counts where their order breaks off. Each arc
-// begins at tick 0, so its first point is such a break; where there are no others, every arc keeps the rules
+// all arcs as one row, block by block and without a jump, and counts where their order goes on. Each arc
+// begins at tick 0, so at its first point it does not; where it does at all others, every arc keeps the rules
 // but for its day's close, which is asked arc by arc. Where the answer is no, a scan finds rule and point.
 use file_blocks::kind;
 use file_blocks::place::blocks;
@@ -12,8 +12,7 @@ use network::header::Layout;
 use network::read;
 ghost use mathlib.Core.Path.{_≡_};
 ghost use mathlib.Core.Bool.{true};
-ghost use Prim.Native.Nat.{_+_, _*_, _/_, _^_, _≤_, _<_};
-ghost use lib.Dec.{ltb};
+ghost use Prim.Native.Nat.{_+_, _*_, _≤_, _<_};
 ghost use lib.ListN.{length};
 ghost use Rattle.theory_loops.specs.Count;
 ghost use Rattle.theory_breaks.specs.Tally.{flag};
@@ -25,34 +24,34 @@ ghost use Rattle.network.specs.Network.{points, tick, travel};
 ghost use Rattle.network.specs.Decode.{decode, Laid};
 ghost use Rattle.network.specs.FirstPoint.{Counted};
 ghost use Rattle.network.specs.Rules.{judgedPoints};
-ghost use Rattle.network_steady.specs.Breaks.{PointAt, breakOf, breakAt, broken};
+ghost use Rattle.network_steady.specs.Joins;
+ghost use Rattle.network_steady.specs.Joins.{PointAt, joinOf, joinAt, joined};
 ghost use Rattle.network_steady.specs.Steady.{unclosed, Closed, AllClosed};
 
-// The numbers of a field of 16 bits, and those of 31 bits.
+// The numbers of a field of 16 bits, half of them, and the bits 15 and 31: the top bits of two fields.
 const FIELD: u32 = 65536;
 
-const TOP: u32 = 2147483648;
+const HALF: u32 = 32768;
 
-// A number whose top bit says whether a is below b.
-fn behind(a: u32, b: u32) -> u32
-    requires { ⌜ (a < 2 ^ 31) × (b < 2 ^ 31) ⌝ }
-    ensures { λ r. ⌜ r / 2 ^ 31 ≡ flag (ltb a b) ⌝ }
+const SIGNS: u32 = 2147516416;
+
+// a - b, which wraps below 0.
+fn minus(a: u32, b: u32) -> u32
+    ensures { λ r. ⌜ r ≡ Joins.minus a b ⌝ }
 {
     std::num::wrapping_sub_u32(a, b)
 }
 
-// 1 where the order breaks off from one point to the next, 0 where it does not. The top bits of four
-// differences are put together, so that a processor judges some pairs at once.
-fn is_break(period: u32, last: u32, next: u32) -> u32
+// 1 where the order goes on from one point to the next, 0 where it breaks off. Each of three differences has
+// to go below 0 in both of its fields, so that a processor judges some pairs at once.
+fn joins(period: u32, last: u32, next: u32) -> u32
     requires { ⌜ period ≤ mostPeriod ⌝ }
-    ensures { λ r. ⌜ r ≡ flag (breakOf period last next) ⌝ }
+    ensures { λ r. ⌜ r ≡ flag (joinOf period last next) ⌝ }
 {
-    let before = last % FIELD;
-    let tick = next % FIELD;
-    let travel = next / FIELD;
-    let order = behind(tick, before + 1) | behind(tick + travel, before + last / FIELD);
-    let range = behind(travel, 1) | behind(period, travel);
-    (order | range) / TOP
+    let back = minus(last, next);
+    let order = std::num::wrapping_add_u32(back, back % FIELD * FIELD);
+    let range = minus(FIELD - 1, next) & minus(next, FIELD * period + HALF);
+    if order & range & SIGNS == SIGNS { 1 } else { 0 }
 }
 
 // The point at byte o as one number: its tick below its travel.
@@ -63,40 +62,40 @@ fn point_at(file: &[u8], o: usize) -> u32
     le16(file, o) as u32 + FIELD * (le16(file, o + 2) as u32)
 }
 
-// The breaks of m points, each after the one before it, behind a point at byte `base`, side by side with it.
-fn breaks_beside(file: &[u8], base: usize, m: usize, period: u32) -> u32
+// How many of m points go on from the one before, behind a point at byte `base`, side by side with it.
+fn joins_beside(file: &[u8], base: usize, m: usize, period: u32) -> u32
     requires { ⌜ (base + pointSize * (m + 1) ≤ length (now file)) × (m < pointPer) × (period ≤ mostPeriod) ⌝ }
-    ensures { λ r. ⌜ r ≡ Count.count m (breakAt period (now (file .entry)) base) ⌝ }
+    ensures { λ r. ⌜ r ≡ Count.count m (joinAt period (now (file .entry)) base) ⌝ }
 {
-    let mut breaks = 0;
+    let mut count = 0;
     for e in 0..m {
         let last = point_at(file, base + kind::POINT_SIZE * e);
         let next = point_at(file, base + kind::POINT_SIZE * e + kind::POINT_SIZE);
-        breaks += is_break(period, last, next);
+        count += joins(period, last, next);
     }
-    breaks
+    count
 }
 
-// The breaks of all points.
-fn count_breaks(file: &[u8], l: Layout) -> u32
+// How many of all points go on from the one before.
+fn count_joins(file: &[u8], l: Layout) -> u32
     requires { ⌜ Laid (now file) l ⌝ }
     ensures { λ r. ⌜ r ≡ Count.count (points (decode (now (file .entry))))
-        (broken (l .period) (tick (decode (now (file .entry)))) (travel (decode (now (file .entry))))) ⌝ }
+        (joined (l .period) (tick (decode (now (file .entry)))) (travel (decode (now (file .entry))))) ⌝ }
 {
     let period = l.period as u32;
     let points = l.points;
     let runs = blocks(kind::POINT_PER, points);
     let mut last = 0;
-    let mut breaks = 0;
+    let mut count = 0;
     for j in 0..runs {
         let m = entries_in(kind::POINT_PER, points, j) - 1;
         let base = BLOCK * (l.pointblock + j) + HEAD;
         let next = point_at(file, base);
-        breaks += is_break(period, last, next);
-        breaks += breaks_beside(file, base, m, period);
+        count += joins(period, last, next);
+        count += joins_beside(file, base, m, period);
         last = point_at(file, base + kind::POINT_SIZE * m);
     }
-    breaks
+    count
 }
 
 // Does a day whose first point has tick t and travel v, and whose last has tick u and travel w, not close?
@@ -158,8 +157,8 @@ pub fn is_steady(file: &[u8], l: Layout) -> bool
     requires { ⌜ Counted (decode (now file)) ⌝ }
     ensures { λ r. ⌜ (r ≡ true → Sound ≡ judgedPoints (decode (now (file .entry)))) ⌝ }
 {
-    let breaks = count_breaks(file, l) as usize;
-    if breaks != l.arcs {
+    let joined = count_joins(file, l) as usize;
+    if joined + l.arcs != l.points {
         return false;
     }
     are_closed(file, l)

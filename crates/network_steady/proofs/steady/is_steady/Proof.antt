@@ -1,14 +1,19 @@
 -- `network_steady::steady::is_steady` meets its contract.
+use native.Mathlib.Omega.{arith}
+use Rattle.network.specs.Decode.{laid-small}
 use borrow.Author.Needs.{needs}
 use Rattle.network_steady.specs.Steady.{steadies}
 use Rattle.network_steady.proofs.steady.is_steady.Statement.{statement}
 use Rattle.network_steady.proofs.steady.is_steady.Tie as tie
 
-count-breaks-requires : tie.Need-count-breaks-requires
-count-breaks-requires c κs = search needs
+count-joins-requires : tie.Need-count-joins-requires
+count-joins-requires c κs = search needs
 
-cast-breaks : tie.Need-cast-breaks
-cast-breaks c = search needs
+cast-joined : tie.Need-cast-joined
+cast-joined c = search needs
+
+add-if1 : tie.Need-add-if1
+add-if1 c = omega (arith, laid-small (c .before .before .before .pre .0))
 
 returns : tie.Need-returns
 returns c = search steadies
@@ -21,4 +26,4 @@ returns-2 c = search steadies
 
 pub is-steady-spec : {M : Type 1} → statement M
 is-steady-spec =
-    tie.close (tie.spec count-breaks-requires cast-breaks returns are-closed-requires returns-2)
+    tie.close (tie.spec count-joins-requires cast-joined add-if1 returns are-closed-requires returns-2)

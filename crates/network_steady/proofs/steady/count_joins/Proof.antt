@@ -1,21 +1,21 @@
--- `network_steady::steady::count_breaks` meets its contract: `Counting` holds before each block.
+-- `network_steady::steady::count_joins` meets its contract: `Counting` holds before each block.
 use mathlib.Core.Path.{refl}
 use Prim.Native.Nat.{_-_}
 use native.Mathlib.Omega.{arith}
 use denote.Ref.{now}
 use Rattle.network.specs.Decode.{decode, laid-small}
-use Rattle.network_steady.specs.Breaks.{Counting, BlockAt, block-at, counting-few, counting-more}
-use Rattle.network_steady.specs.Breaks.{countings}
+use Rattle.network_steady.specs.Joins.{Counting, BlockAt, block-at, counting-few, counting-more}
+use Rattle.network_steady.specs.Joins.{countings}
 use borrow.Author.Needs.{needs}
-use Rattle.network_steady.proofs.steady.count_breaks.Statement.{statement}
-use Rattle.network_steady.proofs.steady.count_breaks.Tie as tie
+use Rattle.network_steady.proofs.steady.count_joins.Statement.{statement}
+use Rattle.network_steady.proofs.steady.count_joins.Tie as tie
 
 abbrev Inv-loop : tie.InvT-loop
-Inv-loop file l period points runs last₀ breaks₀ j₀ last breaks j =
-    Counting (decode file) l runs j last breaks
+Inv-loop file l period points runs last₀ count₀ j₀ last count j =
+    Counting (decode file) l runs j last count
 
 abbrev μ-loop : tie.MeasureT-loop
-μ-loop file l period points runs last₀ breaks₀ j₀ last breaks j = runs - j
+μ-loop file l period points runs last₀ count₀ j₀ last count j = runs - j
 
 abbrev start : tie.In-loop Inv-loop μ-loop → tie.Start Inv-loop μ-loop
 start c = c .before .before .before .before .before
@@ -55,28 +55,28 @@ add-base-2 c = omega (arith, here (c .before))
 point-at-requires : tie.Need-point-at-requires Inv-loop μ-loop
 point-at-requires c κs = omega (arith, here (c .before))
 
-is-break-requires : tie.Need-is-break-requires Inv-loop μ-loop
-is-break-requires c κs = omega (arith, laid-small (start (c .before .before .before) .pre))
+joins-requires : tie.Need-joins-requires Inv-loop μ-loop
+joins-requires c κs = omega (arith, laid-small (start (c .before .before .before) .pre))
 
-add-breaks : tie.Need-add-breaks Inv-loop μ-loop
-add-breaks c = let d = c .before .before .before .before in
+add-count : tie.Need-add-count Inv-loop μ-loop
+add-count c = let d = c .before .before .before .before in
     omega (
       arith,
       counting-few (start d .pre) _ _ _ _ (d .before .loop .inv) (d .loop-test .taken) _
-          (c .before .before .before .entries-in .ensures) _ _ _ (c .is-break .ensures) refl,
+          (c .before .before .before .entries-in .ensures) _ _ _ (c .joins .ensures) refl,
     )
 
-breaks-beside-requires : tie.Need-breaks-beside-requires Inv-loop μ-loop
-breaks-beside-requires c κs = let b = here (c .before .before .before) in
+joins-beside-requires : tie.Need-joins-beside-requires Inv-loop μ-loop
+joins-beside-requires c κs = let b = here (c .before .before .before) in
     (omega arith, omega arith, omega (arith, laid-small (start (c .before .before .before .before) .pre)))
 
-add-breaks-2 : tie.Need-add-breaks-2 Inv-loop μ-loop
-add-breaks-2 c = let d = c .before .before .before .before .before in
+add-count-2 : tie.Need-add-count-2 Inv-loop μ-loop
+add-count-2 c = let d = c .before .before .before .before .before in
     omega (
       arith,
       counting-few (start d .pre) _ _ _ _ (d .before .loop .inv) (d .loop-test .taken) _
-          (c .before .before .before .before .entries-in .ensures) _ _ _ (c .before .is-break .ensures)
-          (c .breaks-beside .ensures),
+          (c .before .before .before .before .entries-in .ensures) _ _ _ (c .before .joins .ensures)
+          (c .joins-beside .ensures),
     )
 
 mul-point-at : tie.Need-mul-point-at Inv-loop μ-loop
@@ -98,14 +98,14 @@ loop-again : tie.Need-loop-again Inv-loop μ-loop
 loop-again c = let d = c .before .before .before .before .before .before in
     counting-more (start d .pre) _ _ _ _ (d .before .loop .inv) (d .loop-test .taken) _
     (c .before .before .before .before .before .entries-in .ensures) _ _ _ _
-    (c .before .before .before .point-at .ensures) (c .before .before .is-break .ensures)
-    (c .before .breaks-beside .ensures) (c .point-at2 .ensures)
+    (c .before .before .before .point-at .ensures) (c .before .before .joins .ensures)
+    (c .before .joins-beside .ensures) (c .point-at2 .ensures)
 
 returns : tie.Need-returns Inv-loop μ-loop
 returns c = search countings
 
-pub count-breaks-spec : {M : Type 1} → statement M
-count-breaks-spec =
+pub count-joins-spec : {M : Type 1} → statement M
+count-joins-spec =
     tie.close
     (tie.spec
     Inv-loop
@@ -119,10 +119,10 @@ count-breaks-spec =
     mul-base
     add-base-2
     point-at-requires
-    is-break-requires
-    add-breaks
-    breaks-beside-requires
-    add-breaks-2
+    joins-requires
+    add-count
+    joins-beside-requires
+    add-count-2
     mul-point-at
     add-point-at
     point-at-requires-2

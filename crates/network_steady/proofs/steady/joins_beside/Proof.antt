@@ -1,19 +1,19 @@
--- `network_steady::steady::breaks_beside` meets its contract: the breaks of the first e points are counted.
+-- `network_steady::steady::joins_beside` meets its contract: the test is counted at the first e points.
 use mathlib.Core.Path.{_≡_}
 use Prim.Native.Nat.{_-_, _≤_}
 use native.Mathlib.Omega.{arith}
-use Rattle.theory_loops.specs.Count.{count}
-use Rattle.network_steady.specs.Breaks.{breakAt, beside-few, besides}
+use Rattle.theory_loops.specs.Count as Count
+use Rattle.network_steady.specs.Joins.{joinAt, beside-few, besides}
 use borrow.Author.Needs.{needs}
-use Rattle.network_steady.proofs.steady.breaks_beside.Statement.{statement}
-use Rattle.network_steady.proofs.steady.breaks_beside.Tie as tie
+use Rattle.network_steady.proofs.steady.joins_beside.Statement.{statement}
+use Rattle.network_steady.proofs.steady.joins_beside.Tie as tie
 
 abbrev Inv-loop : tie.InvT-loop
-Inv-loop file base m period breaks₀ e₀ breaks e =
-    (e ≤ m) × (breaks ≡ count e (breakAt period file base))
+Inv-loop file base m period count₀ e₀ count e =
+    (e ≤ m) × (count ≡ Count.count e (joinAt period file base))
 
 abbrev μ-loop : tie.MeasureT-loop
-μ-loop file base m period breaks₀ e₀ breaks e = m - e
+μ-loop file base m period count₀ e₀ count e = m - e
 
 loop-holds : tie.Need-loop-holds Inv-loop μ-loop
 loop-holds c = (search needs, search besides)
@@ -39,14 +39,14 @@ add-point-at-3 c = search needs
 point-at-requires-2 : tie.Need-point-at-requires-2 Inv-loop μ-loop
 point-at-requires-2 c κs = search needs
 
-is-break-requires : tie.Need-is-break-requires Inv-loop μ-loop
-is-break-requires c κs = search needs
+joins-requires : tie.Need-joins-requires Inv-loop μ-loop
+joins-requires c κs = search needs
 
-add-breaks : tie.Need-add-breaks Inv-loop μ-loop
-add-breaks c =
+add-count : tie.Need-add-count Inv-loop μ-loop
+add-count c =
     omega (
       arith,
-      beside-few _ _ _ _ _ _ _ _ (c .before .before .before .before .loop .inv .1) (c .is-break .ensures),
+      beside-few _ _ _ _ _ _ _ _ (c .before .before .before .before .loop .inv .1) (c .joins .ensures),
     )
 
 add-e : tie.Need-add-e Inv-loop μ-loop
@@ -61,8 +61,8 @@ loop-again c = (search needs, search besides)
 returns : tie.Need-returns Inv-loop μ-loop
 returns c = search besides
 
-pub breaks-beside-spec : {M : Type 1} → statement M
-breaks-beside-spec =
+pub joins-beside-spec : {M : Type 1} → statement M
+joins-beside-spec =
     tie.close
     (tie.spec
     Inv-loop
@@ -75,8 +75,8 @@ breaks-beside-spec =
     add-point-at-2
     add-point-at-3
     point-at-requires-2
-    is-break-requires
-    add-breaks
+    joins-requires
+    add-count
     add-e
     loop-less
     loop-again
