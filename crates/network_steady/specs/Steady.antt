@@ -1,20 +1,16 @@
 -- Whether all points keep the rules 9 and 10, yes or no: where the order of the points goes on at all but as
 -- many points as there are arcs, and every arc's day closes, no point breaks a rule.
 use mathlib.Core.Path.{_≡_, refl, sym, _∙_}
-use mathlib.Core.Bool.{Bool, true, false, not, _||_}
+use mathlib.Core.Bool.{Bool, true, false, not}
 use mathlib.Core.List.{List}
 use Prim.Native.Nat.{ℕ, zero, suc, _+_, _-_, _^_, _≤_, _<_}
-use native.Mathlib.Nat.{le-of-lt, add-zero}
+use native.Mathlib.Nat.{le-of-lt}
 use native.Mathlib.Decide.{decLt}
 use native.Mathlib.Numerals.{add-one}
 use native.Mathlib.Omega.{arith}
-use lib.Dec.{leb, ltb}
-use lib.ListN.{getD}
-use borrow.Author.Count.{below-more}
-use borrow.Author.Tests.{ltb-false, leb-false, le-ltb, not-true, not-false}
+use borrow.Author.Tests.{le-ltb, not-false}
 use Rattle.theory_loops.specs.Count as Count
 use Rattle.theory_loops.specs.First.{first, all-clear}
-use Rattle.theory_loops.specs.Pick.{or-passed}
 use Rattle.theory_loops.specs.Total.{total, total-none, total-more}
 use Rattle.theory_breaks.specs.Tally.{before, tally-all}
 use Rattle.theory_breaks.specs.Breaks.{Begun, only-first}
@@ -24,20 +20,14 @@ use Rattle.theory_travel.specs.Table.{entryAt, entry-first}
 use Rattle.theory_travel.specs.Ticks.{ticks-day}
 use Rattle.file_refusals.specs.declared.Judged.the-variants.{Sound}
 use Rattle.network.specs.declared.header.Layout.{Layout}
-use Rattle.network.specs.Limits.{mostPeriod, mostPoints}
+use Rattle.network.specs.Limits.{mostPeriod}
 use Rattle.network.specs.Network.{Network, arcs, points, count, start, tick, travel}
-use Rattle.network.specs.Decode.{decode, Laid, Sizes, Small, laid-sizes, laid-small}
-use Rattle.network.specs.FirstPoint.{Counted, anyOf, points-in, none-first}
+use Rattle.network.specs.Decode.{decode, Laid, laid-sizes, laid-small}
+use Rattle.network.specs.FirstPoint.{Counted, anyOf, none-first}
 use Rattle.network.specs.Rules.{badPoint, overtaken, badPointOf, overtakenOf, ticksOf, travelsOf}
 use Rattle.network.specs.Rules.{judgedPoints}
 use Rattle.network_steady.specs.Joins.{joins, Follows, joined, joins-low, joins-rise, joins-most}
 use Rattle.network_steady.specs.Joins.{follows}
-
--- a day whose first point has tick t and travel v, and whose last has tick u and travel w, does not close:
--- the first tick is not 0, its travel is not 1 to the period, the last tick is not below the period, or its
--- end is after that of the next day's first
-unfoldable pub unclosed : ℕ → ℕ → ℕ → ℕ → ℕ → Bool
-unclosed period t v u w = ltb 0 t || (ltb v 1 || (ltb period v || (leb period u || ltb (period + v) (u + w))))
 
 -- the day of m points closes
 pub record Closed (period : ℕ) (t v : ℕ → ℕ) (m : ℕ) : Type 0 where
@@ -186,94 +176,7 @@ module _ (n : Network) (small : n .period ≤ mostPeriod) (c : Counted n) (d : A
         le-ltb (points n) (points n) (omega arith),
       )
 
--- FOR CODE that has read the ends of an arc's day
-pub closed-answer : (ticks travels : List ℕ) (period from m t v u w : ℕ) (b : Bool)
-    → t ≡ getD ticks from 0 → v ≡ getD travels from 0
-    → u ≡ getD ticks (from + (m - 1)) 0 → w ≡ getD travels (from + (m - 1)) 0
-    → b ≡ unclosed period t v u w → not b ≡ true → Closed period (entryAt ticks from) (entryAt travels from) m
-unfolding unclosed entryAt
-closed-answer ticks travels period from m t v u w b e f g h k y =
-    let (b₀, b₁) = or-passed _ _ (sym k ∙ not-true b y) in
-    let (b₂, b₃) = or-passed _ _ b₁ in
-    let (b₄, b₅) = or-passed _ _ b₃ in
-    let (b₆, b₇) = or-passed _ _ b₅ in
-    let x₀ : t ≤ 0 = ltb-false _ _ b₀ in
-    let x₁ : 1 ≤ v = ltb-false _ _ b₂ in
-    let x₂ : v ≤ period = ltb-false _ _ b₄ in
-    let x₃ : u < period = leb-false _ _ b₆ in
-    let x₄ : u + w ≤ period + v = ltb-false _ _ b₇ in
-    let o : t ≡ getD ticks (from + 0) 0 = rw add-zero e in
-    let p : v ≡ getD travels (from + 0) 0 = rw add-zero f in
-    record {
-      start = omega arith;
-      some = omega arith;
-      most = omega arith;
-      below = omega arith;
-      wrap = omega arith;
-    }
-
--- THE LOOP over the arcs, before arc a, whose points start at `from`
-pub record Closing (n : Network) (l : Layout) (a from : ℕ) : Type 0 where
-  pub counted : Counted n
-  pub sizes : Sizes n l
-  pub small : Small l
-  pub within : a ≤ l .arcs
-  pub from-is : from ≡ start n a
-  pub closed : (k : ℕ) → k < a → Closed (n .period) (ticksOf n k) (travelsOf n k) (count n k)
-
-module _ (n : Network) (l : Layout) where
-  pub closing-none : Counted n → Sizes n l → Small l → Closing n l 0 0
-  unfolding start
-  closing-none c s w = record {
-    counted = c;
-    sizes = s;
-    small = w;
-    within = omega arith;
-    from-is = total-none (count n);
-    closed = λ k o. absurd (omega arith);
-  }
-
-  module _ (a from m : ℕ) (i : Closing n l a from) (h : a < l .arcs) (e : m ≡ count n a) where
-    arc-in : a < arcs n
-    arc-in = omega (arith, i .sizes .arcs)
-
-    pub closing-room : from + m ≤ l .points
-    closing-room = omega (arith, i .from-is, e, i .sizes .points, points-in (i .counted) a arc-in)
-
-    pub closing-some : 0 < m
-    closing-some = omega (arith, e, i .counted .some a arc-in)
-
-    pub closing-few : from + m ≤ mostPoints
-    closing-few = omega (arith, closing-room, i .small .points-most)
-
-    pub closing-more : (b : Bool)
-        → (b ≡ true → Closed (l .period) (entryAt (n .ticks) from) (entryAt (n .travels) from) m)
-        → not b ≡ false → Closing n l (a + 1) (from + m)
-    unfolding start
-    closing-more b f g =
-        let d : Closed (n .period) (ticksOf n a) (travelsOf n a) (count n a) =
-        rw (i .sizes .period, i .from-is, e) at (f (not-false b g)) in
-        record {
-          counted = i .counted;
-          sizes = i .sizes;
-          small = i .small;
-          within = omega arith;
-          from-is = total-more (count n) from m a (i .from-is) e;
-          closed = λ k o. below-more
-              (λ k. Closed (n .period) (ticksOf n k) (travelsOf n k) (count n k)) a (i .closed) d k
-              (omega arith);
-        }
-
-  pub closing-stop : false ≡ true → AllClosed n
-  closing-stop e = let z : _≡_ {A = ℕ} 0 1 = cc in absurd (omega arith)
-
-  pub closing-end : (a from : ℕ) → Closing n l a from → l .arcs ≤ a → true ≡ true → AllClosed n
-  closing-end a from i h _ = record { day = λ k o. i .closed k (omega (arith, i .sizes .arcs)) }
-
--- for `search closings` at the needs of that loop
-pub ruleset closings = (closing-none, closing-room, closing-some, closing-stop, closing-more, closing-end)
-
--- FOR CODE that has counted the breaks of a file's points, and asked whether all days close
+-- FOR CODE that has counted where the order of a file's points goes on, and asked whether all days close
 module _ {file : List ℕ} {l : Layout} (s : Laid file l) where
   pub steady-no : false ≡ true → Sound ≡ judgedPoints (decode file)
   steady-no e = let z : _≡_ {A = ℕ} 0 1 = cc in absurd (omega arith)

@@ -1,9 +1,9 @@
--- `network_steady::steady::is_unclosed` meets its contract.
+-- `network_steady::closes::is_unclosed` meets its contract.
 use Rattle.theory_loops.specs.Pick.{picks}
-use Rattle.network_steady.specs.Steady.{unclosed}
+use Rattle.network_steady.specs.Closes.{unclosed}
 use borrow.Author.Needs.{needs}
-use Rattle.network_steady.proofs.steady.is_unclosed.Statement.{statement}
-use Rattle.network_steady.proofs.steady.is_unclosed.Tie as tie
+use Rattle.network_steady.proofs.closes.is_unclosed.Statement.{statement}
+use Rattle.network_steady.proofs.closes.is_unclosed.Tie as tie
 
 returns : tie.Need-returns
 unfolding unclosed

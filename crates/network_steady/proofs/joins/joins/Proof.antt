@@ -1,8 +1,8 @@
--- `network_steady::steady::joins` meets its contract.
+-- `network_steady::joins::joins` meets its contract.
 use Rattle.network_steady.specs.Joins.{join-yes, join-no}
 use borrow.Author.Needs.{needs}
-use Rattle.network_steady.proofs.steady.joins.Statement.{statement}
-use Rattle.network_steady.proofs.steady.joins.Tie as tie
+use Rattle.network_steady.proofs.joins.joins.Statement.{statement}
+use Rattle.network_steady.proofs.joins.joins.Tie as tie
 
 minus-requires : tie.Need-minus-requires
 minus-requires c κs = search needs

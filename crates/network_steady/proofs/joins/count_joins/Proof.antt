@@ -1,4 +1,4 @@
--- `network_steady::steady::count_joins` meets its contract: `Counting` holds before each block.
+-- `network_steady::joins::count_joins` meets its contract: `Counting` holds before each block.
 use mathlib.Core.Path.{refl}
 use Prim.Native.Nat.{_-_}
 use native.Mathlib.Omega.{arith}
@@ -7,8 +7,8 @@ use Rattle.network.specs.Decode.{decode, laid-small}
 use Rattle.network_steady.specs.Joins.{Counting, BlockAt, block-at, counting-few, counting-more}
 use Rattle.network_steady.specs.Joins.{countings}
 use borrow.Author.Needs.{needs}
-use Rattle.network_steady.proofs.steady.count_joins.Statement.{statement}
-use Rattle.network_steady.proofs.steady.count_joins.Tie as tie
+use Rattle.network_steady.proofs.joins.count_joins.Statement.{statement}
+use Rattle.network_steady.proofs.joins.count_joins.Tie as tie
 
 abbrev Inv-loop : tie.InvT-loop
 Inv-loop file l period points runs last₀ count₀ j₀ last count j =

@@ -1,8 +1,8 @@
--- `network_steady::steady::minus` meets its contract.
+-- `network_steady::joins::minus` meets its contract.
 use Rattle.network_steady.specs.Joins.{minus-is}
 use borrow.Author.Needs.{needs}
-use Rattle.network_steady.proofs.steady.minus.Statement.{statement}
-use Rattle.network_steady.proofs.steady.minus.Tie as tie
+use Rattle.network_steady.proofs.joins.minus.Statement.{statement}
+use Rattle.network_steady.proofs.joins.minus.Tie as tie
 
 wrapping-sub-u32-requires : tie.Need-wrapping-sub-u32-requires
 wrapping-sub-u32-requires c κs = search needs

@@ -1,12 +1,12 @@
--- `network_steady::steady::joins_beside` meets its contract: the test is counted at the first e points.
+-- `network_steady::joins::joins_beside` meets its contract: the test is counted at the first e points.
 use mathlib.Core.Path.{_≡_}
 use Prim.Native.Nat.{_-_, _≤_}
 use native.Mathlib.Omega.{arith}
 use Rattle.theory_loops.specs.Count as Count
 use Rattle.network_steady.specs.Joins.{joinAt, beside-few, besides}
 use borrow.Author.Needs.{needs}
-use Rattle.network_steady.proofs.steady.joins_beside.Statement.{statement}
-use Rattle.network_steady.proofs.steady.joins_beside.Tie as tie
+use Rattle.network_steady.proofs.joins.joins_beside.Statement.{statement}
+use Rattle.network_steady.proofs.joins.joins_beside.Tie as tie
 
 abbrev Inv-loop : tie.InvT-loop
 Inv-loop file base m period count₀ e₀ count e =
