@@ -109,7 +109,7 @@ module _ (n : Network) (small : n .period ≤ mostPeriod) (c : Counted n) (d : A
   unfolding start
   next a = rw (← add-one a) (sym (total-more (count n) (total a (count n)) (count n a) a refl refl))
 
-  -- the tick before an arc's first point is that of the arc's before
+  -- the point before an arc's first is the last of the arc before it, whose day closes
   before-low : (a : ℕ) → a < arcs n → before (tick n) (start n a) < 2 ^ 15
   unfolding before start entryAt
   before-low zero l = rw (sym (total-none (count n))) (omega arith)

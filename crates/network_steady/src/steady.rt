@@ -1,6 +1,6 @@
-// Whether all points keep the rules 9 and 10, yes or no: what a good file is asked. Each arc begins at tick 0,
-// so at its first point the order does not go on; where it does at all others, every arc keeps the rules but
-// for its day's close. Where the answer is no, a scan finds rule and point.
+// Whether all points keep the rules 9 and 10, yes or no: what a good file is asked. Each arc begins at tick
+// 0, so at its first point the order does not go on; where it does at all others, every arc keeps the rules
+// but for its day's close. Where the answer is no, a scan finds rule and point.
 use crate::closes::are_closed;
 use crate::joins::count_joins;
 use network::header::Layout;
