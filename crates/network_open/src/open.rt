@@ -1,5 +1,4 @@
 // Open: the tables of a network file, written into lent tables once nothing is refused.
-use crate::validate::validate;
 use file_blocks::kind;
 use file_blocks::place::decode16;
 use file_refusals::number;
@@ -9,6 +8,7 @@ use network::header::Header;
 use network::header::Layout;
 use network::node::node_per;
 use network::node::node_size;
+use network_validate::validate::validate;
 ghost use mathlib.Core.Path.{_≡_};
 ghost use Prim.Native.Nat.{_≤_};
 ghost use lib.ListN.{length};

@@ -3,8 +3,8 @@
 // written where something is refused, and a second one writes.
 //   rounds   the two rounds over the borders
 //   make     refusals 34, 33 and 31, or the plan written; the lent list ends as zero
-// It may call `network_open` to validate the file, `search_arcs` and `plan` for tables of arcs and borders,
-// `toward_node` for least travels, `plan_rows` and `plan_flags` for points and flags, and `plan_encode` to
-// write; it cites `plan_made` for what the plan is.
+// It may call `network_validate` to validate the file, `search_arcs` and `plan` for tables of arcs and
+// borders, `toward_node` for least travels, `plan_rows` and `plan_flags` for points and flags, and
+// `plan_encode` to write; it cites `plan_made` for what the plan is.
 pub mod make;
 pub mod rounds;
