@@ -5,7 +5,7 @@ use file_refusals::number::WORK_SHORT;
 use network::answer::Opening;
 use network::answer::refused;
 use network::header::Header;
-use network_open::validate::validate;
+use network_validate::validate::validate;
 ghost use mathlib.Core.Path.{_≡_};
 ghost use Rattle.day_sheet.specs.Sheet.{sheetAsked, sheetBegin};
 

@@ -4,7 +4,7 @@
 // (specs/Promise.antt).
 //   begin    the refusals before the work: 1 to 10 with 37, 25, 34 and 31
 //   sheet    refusal 28, or the day's arrivals listed; the work list ends as zero
-// It may call `network_open` to validate the file, `search_arcs` for tables of arcs, and `toward_node` for
-// least travels; its promises cite `trip` and `plan_check`.
+// It may call `network_validate` to validate the file, `search_arcs` for tables of arcs, and `toward_node`
+// for least travels; its promises cite `trip` and `plan_check`.
 pub mod begin;
 pub mod sheet;

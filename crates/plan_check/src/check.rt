@@ -9,7 +9,7 @@ use network::answer::Opening;
 use network::header::Header;
 use network::limits::MOST_ARCS;
 use network::limits::MOST_NODES;
-use network_open::validate::validate;
+use network_validate::validate::validate;
 use node_verdict::NONE;
 use plan::answer::Planning;
 use plan::borders::list_borders;

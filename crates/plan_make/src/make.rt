@@ -10,7 +10,7 @@ use network::header::Header;
 use network::header::Layout;
 use network::limits::MOST_ARCS;
 use network::limits::MOST_NODES;
-use network_open::validate::validate;
+use network_validate::validate::validate;
 use plan::borders::list_borders;
 use plan::header::PlanHeader;
 use plan::header::PlanLayout;

@@ -69,7 +69,7 @@ module _ (end : ℕ → ℕ) (nodes arcs : ℕ) where
   }
 
   -- arc i at node v, before the others
-  chain-more : (i v : ℕ) (first next : List ℕ) → Chained end nodes arcs (i + 1) first next → i < arcs
+  pub chain-more : (i v : ℕ) (first next : List ℕ) → Chained end nodes arcs (i + 1) first next → i < arcs
       → arcs ≤ mostArcs → v ≡ end i → v < nodes
       → Chained end nodes arcs i (set first v i) (set next i (getD first v 0))
   chain-more i v first next c l few e h = record {

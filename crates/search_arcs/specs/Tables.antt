@@ -1,5 +1,5 @@
 -- The tables that a search reads of the arcs: each arc's head and its first point. They are filled from the
--- last arc to the first, as the chains are, with the number of points before the arcs passed carried along.
+-- last arc to the first, with the chains, and the number of points before the arcs done is carried along.
 use mathlib.Core.Path.{_≡_, refl}
 use mathlib.Core.List.{List}
 use Prim.Native.Nat.{ℕ, _+_, _-_, _≤_, _<_}
@@ -9,9 +9,13 @@ use lib.ListN.{length, getD, set, length-set}
 use lib.Seq.{getD-set-same, getD-set-other}
 use Rattle.theory_loops.specs.Total.{total-more}
 use Rattle.network.specs.declared.header.Layout.{Layout}
-use Rattle.network.specs.Network.{Network, head, count, start}
+use Rattle.network.specs.declared.arcs.Entry.{Entry}
+use Rattle.network.specs.Limits.{mostArcs}
+use Rattle.network.specs.Network.{Network, tail, head, count, start}
+use Rattle.network.specs.Arcs.{EntryOf}
 use Rattle.network.specs.Decode.{decode}
-use Rattle.search_arcs.specs.Town.{Town}
+use Rattle.search_arcs.specs.Chain.{Chained, Unchained, chain-none, chain-more}
+use Rattle.search_arcs.specs.Town.{Town, tail-node}
 
 -- Both tables are as they should be for the arcs from i on.
 pub record Tabled (n : Network) (arcs i : ℕ) (heads starts : List ℕ) : Type 0 where
@@ -20,57 +24,80 @@ pub record Tabled (n : Network) (arcs i : ℕ) (heads starts : List ℕ) : Type 
   pub head-at : (a : ℕ) → i ≤ a → a < arcs → getD heads a 0 ≡ head n a
   pub start-at : (a : ℕ) → i ≤ a → a < arcs → getD starts a 0 ≡ start n a
 
--- FOR THE BACKWARD PASS, which has passed k arcs
-module _ (n : Network) (arcs : ℕ) where
-  pub tabled-none : (heads starts : List ℕ) → arcs ≤ length heads → arcs ≤ length starts
-      → Tabled n arcs (arcs - 0) heads starts
-  tabled-none heads starts l m = record {
-    heads-long = l;
-    starts-long = m;
-    head-at = λ a b d. absurd (omega arith);
-    start-at = λ a b d. absurd (omega arith);
-  }
+-- THE PASS from the last arc to the first has done the arcs from i on: all four tables are as they should be
+-- for those, and `sum` is the points of the arcs before them.
+pub record Filling (file : List ℕ) (l : Layout) (i sum : ℕ) (heads starts first next : List ℕ) : Type 0 where
+  pub few : l .arcs ≤ mostArcs
+  pub small : sum < 65536
+  pub before : sum ≡ start (decode file) i
+  pub chained : Chained (tail (decode file)) (l .nodes) (l .arcs) i first next
+  pub tabled : Tabled (decode file) (l .arcs) i heads starts
 
-  pub tabled-down : (k v s : ℕ) (heads starts : List ℕ) → Tabled n arcs (arcs - k) heads starts → k < arcs
-      → v ≡ head n (arcs - 1 - k) → s ≡ start n (arcs - 1 - k)
-      → Tabled n arcs (arcs - (k + 1)) (set heads (arcs - 1 - k) v) (set starts (arcs - 1 - k) s)
-  tabled-down k v s heads starts t l e f = record {
-    heads-long = simp length-set (t .heads-long);
-    starts-long = simp length-set (t .starts-long);
-    head-at = λ a b d. elim (ℕ-discrete a (arcs - 1 - k)) [
-      | yes q ↦ rw (q, getD-set-same heads (arcs - 1 - k) v 0 (omega (arith, t .heads-long))) e
-      | no q ↦ rw (getD-set-other heads (arcs - 1 - k) a v 0 q) (t .head-at a (omega arith) d)
-    ];
-    start-at = λ a b d. elim (ℕ-discrete a (arcs - 1 - k)) [
-      | yes q ↦ rw (q, getD-set-same starts (arcs - 1 - k) s 0 (omega (arith, t .starts-long))) f
-      | no q ↦ rw (getD-set-other starts (arcs - 1 - k) a s 0 q) (t .start-at a (omega arith) d)
-    ];
-  }
+-- the same arcs, counted otherwise
+pub filling-at : {file : List ℕ} {l : Layout} {i sum : ℕ} {heads starts first next : List ℕ}
+    → Filling file l i sum heads starts first next → (k : ℕ) → i ≡ k
+    → Filling file l k sum heads starts first next
+filling-at f k e = rw e at f
 
-  pub tabled-end : (k : ℕ) (heads starts : List ℕ) → Tabled n arcs (arcs - k) heads starts → arcs ≤ k
-      → Tabled n arcs 0 heads starts
-  tabled-end k heads starts t l = let e : arcs - k ≡ 0 = omega arith in rw e at t
+-- one arc more of the two tables
+tabled-more : (n : Network) (arcs i s v : ℕ) (heads starts : List ℕ)
+    → Tabled n arcs (i + 1) heads starts → i < arcs → v ≡ head n i → s ≡ start n i
+    → Tabled n arcs i (set heads i v) (set starts i s)
+tabled-more n arcs i s v heads starts t l e f = record {
+  heads-long = simp length-set (t .heads-long);
+  starts-long = simp length-set (t .starts-long);
+  head-at = λ a b d. elim (ℕ-discrete a i) [
+    | yes q ↦ rw (q, getD-set-same heads i v 0 (omega (arith, t .heads-long))) e
+    | no q ↦ rw (getD-set-other heads i a v 0 q) (t .head-at a (omega arith) d)
+  ];
+  start-at = λ a b d. elim (ℕ-discrete a i) [
+    | yes q ↦ rw (q, getD-set-same starts i s 0 (omega (arith, t .starts-long))) f
+    | no q ↦ rw (getD-set-other starts i a s 0 q) (t .start-at a (omega arith) d)
+  ];
+}
 
-  -- the points before the arcs passed, and before one arc more, which has c of them
-  module _ (k s c : ℕ) (e : s ≡ start n (arcs - k)) (l : k < arcs) (f : c ≡ count n (arcs - 1 - k)) where
-    held : start n (arcs - 1 - k) + c ≡ s
+module _ {file : List ℕ} {l : Layout} (t : Town file l) {heads starts first next : List ℕ} where
+  -- no arc is done: all points stand before the end
+  pub filling-none : Unchained (l .nodes) (l .arcs) first next → l .arcs ≤ length heads
+      → l .arcs ≤ length starts → Filling file l (l .arcs) (l .points) heads starts first next
+  filling-none u h k =
+      let z : l .arcs - 0 ≡ l .arcs = omega arith in
+      record {
+        few = u .few;
+        small = omega (arith, t .small .points-most);
+        before = rw (t .sizes .arcs) (omega (arith, t .sound .sum, t .sizes .points));
+        chained = rw z at (chain-none (tail (decode file)) (l .nodes) (l .arcs) first next u);
+        tabled = record {
+          heads-long = h;
+          starts-long = k;
+          head-at = λ a b d. absurd (omega arith);
+          start-at = λ a b d. absurd (omega arith);
+        };
+      }
+
+  -- one arc more, by its entry
+  module _ (i sum : ℕ) (arc : Entry) (f : Filling file l (i + 1) sum heads starts first next)
+      (k : i < l .arcs) (e : EntryOf (decode file) i arc) where
+    held : start (decode file) i + arc .count ≡ sum
     unfolding start
-    held =
-        let p : arcs - k ≡ arcs - 1 - k + 1 = omega arith in
-        let q = rw p at e in
-        omega (arith, q, total-more (count n) (start n (arcs - 1 - k)) c (arcs - 1 - k) refl f)
+    held = omega (
+      arith,
+      f .before,
+      total-more (count (decode file)) (start (decode file) i) (arc .count) i refl (e .count),
+    )
 
-    pub sum-holds : c ≤ s
-    sum-holds = omega (arith, held)
+    pub count-held : arc .count ≤ sum
+    count-held = omega (arith, held)
 
-    pub sum-down : s - c ≡ start n (arcs - 1 - k)
-    sum-down = omega (arith, held)
-
-    pub sum-next : s - c ≡ start n (arcs - (k + 1))
-    sum-next = let p : arcs - (k + 1) ≡ arcs - 1 - k = omega arith in rw p sum-down
-
--- all points stand before the end
-pub sum-all : {file : List ℕ} {l : Layout} → Town file l → l .points ≡ start (decode file) (l .arcs - 0)
-sum-all {file} {l} t =
-    let p : l .arcs - 0 ≡ length (decode file .tails) = omega (arith, t .sizes .arcs) in
-    rw p (omega (arith, t .sound .sum, t .sizes .points))
+    pub filling-more : Filling file l i (sum - arc .count) (set heads i (arc .head))
+        (set starts i (sum - arc .count)) (set first (arc .tail) i) (set next i (getD first (arc .tail) 0))
+    filling-more =
+        let b : sum - arc .count ≡ start (decode file) i = omega (arith, held) in
+        record {
+          few = f .few;
+          small = omega (arith, f .small);
+          before = b;
+          chained = chain-more _ _ _ i (arc .tail) first next (f .chained) k (f .few) (e .tail)
+              (tail-node t i (arc .tail) k (e .tail));
+          tabled = tabled-more (decode file) (l .arcs) i _ _ heads starts (f .tabled) k (e .head) b;
+        }

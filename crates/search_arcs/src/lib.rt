@@ -3,8 +3,8 @@
 //   chain   the chains by which the arcs out of a node, or into it, are walked
 //   tables  each arc's head and first point, and the chain out of each node, in one pass
 //   times   when an arc that is taken at a tick ends
-// It may call `network` for the entries of the file and `theory_travel` for the straight line, and cites
-// `theory_loops` and `theory_paths`.
+// It may call `network` and `file_blocks` for the entries of the file and `theory_travel` for the straight
+// line, and cites `theory_loops` and `theory_paths`.
 pub mod chain;
 pub mod tables;
 pub mod times;

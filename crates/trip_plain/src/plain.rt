@@ -1,7 +1,7 @@
 // The plain trip, over all arcs.
 use network::answer::Opening;
 use network::limits::MOST_ARCS;
-use network_open::validate::validate;
+use network_validate::validate::validate;
 use search_labels::query::Query;
 use trip_call::begin::ask;
 use trip_call::visit::Visit;

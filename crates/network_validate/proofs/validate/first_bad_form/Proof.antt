@@ -1,11 +1,11 @@
--- `network_open::validate::first_bad_form` meets its contract.
+-- `network_validate::validate::first_bad_form` meets its contract.
 use native.Mathlib.Omega.{arith}
 use Rattle.file_blocks.specs.Form.{run-taken, run-passed, run-last}
 use Rattle.network.specs.Decode.{laid-small}
 use Rattle.network.specs.Validate.{forms, nodes-end, arcs-end, points-end, unformed-told}
 use borrow.Author.Needs.{needs}
-use Rattle.network_open.proofs.validate.first_bad_form.Statement.{statement}
-use Rattle.network_open.proofs.validate.first_bad_form.Tie as tie
+use Rattle.network_validate.proofs.validate.first_bad_form.Statement.{statement}
+use Rattle.network_validate.proofs.validate.first_bad_form.Tie as tie
 
 first-bad-nodes-requires : tie.Need-first-bad-nodes-requires
 first-bad-nodes-requires c κs = search needs

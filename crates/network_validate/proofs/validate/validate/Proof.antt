@@ -1,11 +1,11 @@
--- `network_open::validate::validate` meets its contract.
+-- `network_validate::validate::validate` meets its contract.
 use Rattle.file_blocks.specs.Form.{length-fine}
 use native.Mathlib.Omega.{arith}
 use Rattle.network.specs.Validate.{validated}
 use Rattle.theory_loops.specs.Pick.{picks}
 use borrow.Author.Needs.{needs}
-use Rattle.network_open.proofs.validate.validate.Statement.{statement}
-use Rattle.network_open.proofs.validate.validate.Tie as tie
+use Rattle.network_validate.proofs.validate.validate.Statement.{statement}
+use Rattle.network_validate.proofs.validate.validate.Tie as tie
 
 is-bad-length-requires : tie.Need-is-bad-length-requires
 is-bad-length-requires c κs = search needs

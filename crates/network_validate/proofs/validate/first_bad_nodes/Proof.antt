@@ -1,9 +1,9 @@
--- `network_open::validate::first_bad_nodes` meets its contract.
+-- `network_validate::validate::first_bad_nodes` meets its contract.
 use native.Mathlib.Omega.{arith}
 use Rattle.network.specs.Decode.{nodes-stored-by, laid-small}
 use borrow.Author.Needs.{needs}
-use Rattle.network_open.proofs.validate.first_bad_nodes.Statement.{statement}
-use Rattle.network_open.proofs.validate.first_bad_nodes.Tie as tie
+use Rattle.network_validate.proofs.validate.first_bad_nodes.Statement.{statement}
+use Rattle.network_validate.proofs.validate.first_bad_nodes.Tie as tie
 
 node-kind-requires : tie.Need-node-kind-requires
 node-kind-requires c κs = search needs

@@ -1,9 +1,9 @@
--- `network_open::validate::validate_first` meets its contract.
+-- `network_validate::validate::validate_first` meets its contract.
 use Rattle.network.specs.Validate.{validatedFirst}
 use Rattle.theory_loops.specs.Pick.{picks}
 use borrow.Author.Needs.{needs}
-use Rattle.network_open.proofs.validate.validate_first.Statement.{statement}
-use Rattle.network_open.proofs.validate.validate_first.Tie as tie
+use Rattle.network_validate.proofs.validate.validate_first.Statement.{statement}
+use Rattle.network_validate.proofs.validate.validate_first.Tie as tie
 
 is-formed-requires : tie.Need-is-formed-requires
 is-formed-requires c κs = search needs

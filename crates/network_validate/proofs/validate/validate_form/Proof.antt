@@ -1,10 +1,10 @@
--- `network_open::validate::validate_form` meets its contract.
+-- `network_validate::validate::validate_form` meets its contract.
 use native.Mathlib.Omega.{arith}
 use Rattle.network.specs.Decode.{laid-few}
 use Rattle.network.specs.Validate.{form-taken, form-passed}
 use borrow.Author.Needs.{needs}
-use Rattle.network_open.proofs.validate.validate_form.Statement.{statement}
-use Rattle.network_open.proofs.validate.validate_form.Tie as tie
+use Rattle.network_validate.proofs.validate.validate_form.Statement.{statement}
+use Rattle.network_validate.proofs.validate.validate_form.Tie as tie
 
 first-bad-form-requires : tie.Need-first-bad-form-requires
 first-bad-form-requires c κs = search needs

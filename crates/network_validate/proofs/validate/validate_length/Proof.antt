@@ -1,10 +1,10 @@
--- `network_open::validate::validate_length` meets its contract.
+-- `network_validate::validate::validate_length` meets its contract.
 use Rattle.network.specs.Validate.{blocks-few}
 use native.Mathlib.Omega.{arith}
 use Rattle.network.specs.Validate.{length-taken, length-passed, now-laid}
 use borrow.Author.Needs.{needs}
-use Rattle.network_open.proofs.validate.validate_length.Statement.{statement}
-use Rattle.network_open.proofs.validate.validate_length.Tie as tie
+use Rattle.network_validate.proofs.validate.validate_length.Statement.{statement}
+use Rattle.network_validate.proofs.validate.validate_length.Tie as tie
 
 layout-requires : tie.Need-layout-requires
 layout-requires c κs = search needs

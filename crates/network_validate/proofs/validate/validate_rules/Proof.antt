@@ -1,8 +1,8 @@
--- `network_open::validate::validate_rules` meets its contract.
+-- `network_validate::validate::validate_rules` meets its contract.
 use Rattle.network.specs.Validate.{rules-sound, rules-faulty}
 use borrow.Author.Needs.{needs}
-use Rattle.network_open.proofs.validate.validate_rules.Statement.{statement}
-use Rattle.network_open.proofs.validate.validate_rules.Tie as tie
+use Rattle.network_validate.proofs.validate.validate_rules.Statement.{statement}
+use Rattle.network_validate.proofs.validate.validate_rules.Tie as tie
 
 judge-requires : tie.Need-judge-requires
 judge-requires c κs = search needs

@@ -1,8 +1,8 @@
--- `network_open::validate::validate_header` meets its contract.
+-- `network_validate::validate::validate_header` meets its contract.
 use Rattle.network.specs.Validate.{header-within, header-is, header-inside, header-outside}
 use borrow.Author.Needs.{needs}
-use Rattle.network_open.proofs.validate.validate_header.Statement.{statement}
-use Rattle.network_open.proofs.validate.validate_header.Tie as tie
+use Rattle.network_validate.proofs.validate.validate_header.Statement.{statement}
+use Rattle.network_validate.proofs.validate.validate_header.Tie as tie
 
 header-at-requires : tie.Need-header-at-requires
 header-at-requires c κs = search needs

@@ -1,7 +1,7 @@
--- `network_open::validate::header_at` meets its contract.
+-- `network_validate::validate::header_at` meets its contract.
 use borrow.Author.Needs.{needs}
-use Rattle.network_open.proofs.validate.header_at.Statement.{statement}
-use Rattle.network_open.proofs.validate.header_at.Tie as tie
+use Rattle.network_validate.proofs.validate.header_at.Statement.{statement}
+use Rattle.network_validate.proofs.validate.header_at.Tie as tie
 
 le32-requires : tie.Need-le32-requires
 le32-requires c κs = search needs
