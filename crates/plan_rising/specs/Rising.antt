@@ -2,7 +2,7 @@
 -- its points begin at tick 0 and end below the period, the counts add up, and the ticks fail to rise at no
 -- more points than there are profiles with points, no rule is broken.
 use mathlib.Core.Path.{_≡_, refl, sym, _∙_}
-use mathlib.Core.Bool.{Bool, true, false, not}
+use mathlib.Core.Bool.{Bool, true, false}
 use mathlib.Core.List.{List}
 use Prim.Native.Nat.{ℕ, suc, _+_, _-_, _*_, _≤_, _<_, min}
 use native.Mathlib.Nat.{le-of-lt, add-zero}
@@ -11,7 +11,6 @@ use native.Mathlib.Omega.{arith}
 use lib.Dec.{ltb, eqb}
 use borrow.Author.Count.{below-more}
 use borrow.Author.Tests.{ltb-true, leb-false, le-leb, le-ltb, eq-eqb, eqb-true}
-use borrow.Author.Tests.{not-false}
 use Rattle.theory_loops.specs.Count as Count
 use Rattle.theory_loops.specs.First.{first, all-clear}
 use Rattle.theory_loops.specs.Pick.{past-first}
@@ -35,7 +34,7 @@ use Rattle.plan.specs.PlanWalk.{countAt}
 use Rattle.plan.specs.PlanRules.{badCount, badProfile, firstBadPoint, judgedTicks, judgedSum, judgedCounts}
 use Rattle.plan_rising.specs.declared.progress.Progress.{Progress}
 use Rattle.plan_rising.specs.Breaks.{broken}
-use Rattle.plan_rising.specs.Progress.{WalkedTo}
+use Rattle.plan_rising.specs.Progress.{Walked, WalkedTo}
 
 -- m points from number `from` on, with these ticks: no more than the period has ticks, in the file, the first
 -- at tick 0 and the last below the period
@@ -187,14 +186,12 @@ module _ {file : List ℕ} {l : PlanLayout} (s : PlanLaid file l) where
 
   module _ (k from some : ℕ) (counts : Walk) (progress : Progress)
       (i : Holding file l k from some counts progress) where
-    pub holding-more : (m r : ℕ) (new : Walk) (next : Progress) → k < l .profiles → m ≡ pointCount plan k
-        → (next .good ≡ true
-        → WalkedTo file l (from + m) next × Kept l (entryAt (plan .ticks) from) from m)
-        → not (next .good) ≡ false → r ≡ flag (ltb 0 m) → new ≡ countAt (l .countblock) (k + 1)
+    pub holding-more : (m u r : ℕ) (new : Walk) (next : Progress) → k < l .profiles → m ≡ pointCount plan k
+        → Kept l (entryAt (plan .ticks) from) from m → u ≡ blocks profilePointPer (from + m)
+        → Walked file l next → next .done ≡ u → r ≡ flag (ltb 0 m) → new ≡ countAt (l .countblock) (k + 1)
         → Holding file l (k + 1) (from + m) (some + r) new next
     unfolding pointStart
-    holding-more m r new next h e f g q c =
-        let (w, d) = f (not-false (next .good) g) in
+    holding-more m u r new next h e d b w t q c =
         let here : Kept l (pointTicks plan k) (pointStart plan k) (pointCount plan k) =
         rw (i .from-is, e) at d in
         record {
@@ -205,7 +202,7 @@ module _ {file : List ℕ} {l : PlanLayout} (s : PlanLaid file l) where
           kept = λ j o. below-more
               (λ i. Kept l (pointTicks plan i) (pointStart plan i) (pointCount plan i)) k (i .kept) here j
               (omega arith);
-          walked = w;
+          walked = record { room = d .room; done-is = t ∙ b; walked = w };
         }
 
     -- no more have points than there are

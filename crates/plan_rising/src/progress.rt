@@ -19,24 +19,22 @@ ghost use Rattle.plan.specs.PlanDecode.{PlanLaid};
 ghost use Rattle.plan_rising.specs.Breaks.{TickMarks};
 ghost use Rattle.plan_rising.specs.Progress.{pointsSound, Walked};
 
-// So many blocks have been looked at, with this tick for their last and so many breaks, where the progress is
-// `good`; where it is not, something was found that a good plan has not.
+// So many blocks have been looked at, with this tick for their last and so many breaks. All three are numbers
+// of one width, so that a compiler keeps them at hand while a block is looked at.
 pub struct Progress {
     pub done: usize,
-    pub last: u16,
-    pub breaks: u32,
-    pub good: bool,
+    pub last: usize,
+    pub breaks: usize,
 }
 
-// The progress before the first block, and that of a walk which ends early.
-pub fn first_of(good: bool) -> Progress
-    ensures { λ r. ⌜ (r .done ≡ 0) × (r .last ≡ 0) × (r .breaks ≡ 0) × (r .good ≡ good) ⌝ }
+// The progress before the first block.
+pub fn start() -> Progress
+    ensures { λ r. ⌜ (r .done ≡ 0) × (r .last ≡ 0) × (r .breaks ≡ 0) ⌝ }
 {
     Progress {
         done: 0,
         last: 0,
         breaks: 0,
-        good,
     }
 }
 
@@ -52,17 +50,16 @@ fn step(plan: &[u8], l: PlanLayout, marks: &[u8; WORDS], progress: Progress) -> 
     let j = progress.done;
     let m = entries_in(kind::PROFILE_POINT_PER, l.points, j) - 1;
     let base = BLOCK * (l.pointblock + j) + HEAD;
-    let behind = is_break(le16(plan, base), progress.last) as u32;
-    let beside = breaks_beside(plan, base, m, marks) as u32;
+    let behind = is_break(le16(plan, base), progress.last as u16) as usize;
+    let beside = breaks_beside(plan, base, m, marks) as usize;
     Progress {
         done: j + 1,
-        last: le16(plan, base + kind::PROFILE_POINT_SIZE * m),
+        last: le16(plan, base + kind::PROFILE_POINT_SIZE * m) as usize,
         breaks: progress.breaks + behind + beside,
-        good: true,
     }
 }
 
-// The progress up to block `until`.
+// The progress up to block `until`, or up to the first block before it whose check or form is wrong.
 pub fn advance(
     plan: &[u8],
     l: PlanLayout,
@@ -74,7 +71,7 @@ pub fn advance(
     requires { ⌜ TickMarks (now marks) ⌝ }
     requires { ⌜ Walked (now plan) l progress ⌝ }
     requires { ⌜ (progress .done ≤ until) × (until ≤ blocks profilePointPer (l .points)) ⌝ }
-    ensures { λ r. ⌜ (r .good ≡ true → Walked (now (plan .entry)) l r × (r .done ≡ until)) ⌝ }
+    ensures { λ r. ⌜ Walked (now (plan .entry)) l r ⌝ }
 {
     let done = progress.done;
     let mut next = progress;
@@ -89,7 +86,7 @@ pub fn advance(
             j,
         );
         if !sound {
-            return first_of(false);
+            return next;
         }
         next = step(plan, l, marks, next);
     }

@@ -34,6 +34,9 @@ add-base-2 c = omega (arith, here (c .before))
 le16-requires : tie.Need-le16-requires
 le16-requires c κs = omega (arith, here (c .before))
 
+cast-is-break : tie.Need-cast-is-break
+cast-is-break c = search needs
+
 is-break-requires : tie.Need-is-break-requires
 is-break-requires c κs = search needs
 
@@ -41,8 +44,8 @@ cast-behind : tie.Need-cast-behind
 cast-behind c = search needs
 
 breaks-beside-requires : tie.Need-breaks-beside-requires
-breaks-beside-requires c κs = let b = here (c .before .before .before) in
-    ((omega arith, omega arith), c .before .before .before .before .before .pre .1 .0)
+breaks-beside-requires c κs = let b = here (c .before .before .before .before) in
+    ((omega arith, omega arith), c .before .before .before .before .before .before .pre .1 .0)
 
 cast-beside : tie.Need-cast-beside
 cast-beside c = search needs
@@ -54,14 +57,17 @@ mul-le16 : tie.Need-mul-le16
 mul-le16 c = search needs
 
 add-le16 : tie.Need-add-le16
-add-le16 c = omega (arith, here (c .before .before .before .before))
+add-le16 c = omega (arith, here (c .before .before .before .before .before))
 
 le16-requires-2 : tie.Need-le16-requires-2
-le16-requires-2 c κs = omega (arith, here (c .before .before .before .before))
+le16-requires-2 c κs = omega (arith, here (c .before .before .before .before .before))
+
+cast-t16 : tie.Need-cast-t16
+cast-t16 c = search needs
 
 -- the breaks of the block and those before it are small
-few : tie.Need-add-t16
-few c = let d = c .before .before .before .before .before .before in
+few : tie.Need-add-t18
+few c = let d = c .before .before .before .before .before .before .before in
     let p = d .before .before .pre in
     omega (
       arith,
@@ -69,8 +75,8 @@ few c = let d = c .before .before .before .before .before .before in
           (c .before .before .before .is-break .ensures .1) (c .before .before .breaks-beside .ensures),
     )
 
-add-t15 : tie.Need-add-t15
-add-t15 c = let d = c .before .before .before .before .before .before in
+add-t17 : tie.Need-add-t17
+add-t17 c = let d = c .before .before .before .before .before .before .before in
     let p = d .before .before .pre in
     omega (
       arith,
@@ -79,12 +85,12 @@ add-t15 c = let d = c .before .before .before .before .before .before in
     )
 
 returns : tie.Need-returns
-returns c = let d = c .before .before .before .before .before .before in
+returns c = let d = c .before .before .before .before .before .before .before in
     let p = d .before .before .pre in (
-      walked-more (p .0) _ (p .1 .1 .0) (p .1 .1 .1 .0) _ (d .entries-in .ensures) _ _ _ _ _
-          (p .1 .1 .1 .1) (c .before .before .before .before .le16 .ensures)
+      walked-more (p .0) _ (p .1 .1 .0) (p .1 .1 .1 .0) _ (d .entries-in .ensures) _ _ _ _
+          (p .1 .1 .1 .1) (c .before .before .before .before .before .le16 .ensures)
           (c .before .before .before .is-break .ensures .0) (c .before .before .breaks-beside .ensures)
-          (c .before .le162 .ensures),
+          (c .before .le162 .ensures) (search needs),
       refl,
     )
 
@@ -98,6 +104,7 @@ step-spec =
     mul-base
     add-base-2
     le16-requires
+    cast-is-break
     is-break-requires
     cast-behind
     breaks-beside-requires
@@ -106,6 +113,7 @@ step-spec =
     mul-le16
     add-le16
     le16-requires-2
-    add-t15
+    cast-t16
+    add-t17
     few
     returns)

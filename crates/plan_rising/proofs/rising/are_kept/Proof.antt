@@ -4,11 +4,13 @@ use Prim.Native.Nat.{_-_}
 use native.Mathlib.Omega.{arith}
 use lib.Dec.{lit<, lit≤}
 use denote.Ref.{now}
+use borrow.Author.Tests.{not-false}
+use Rattle.theory_travel.specs.Table.{entryAt}
 use Rattle.plan.specs.Plan.{pointCount}
 use Rattle.plan.specs.PlanDecode.{decodePlan, laid-plan, plan-small}
 use Rattle.plan.specs.PlanWalk.{count-there, count-read, count-may, count-on}
 use Rattle.plan_rising.specs.Progress.{walked-none}
-use Rattle.plan_rising.specs.Rising.{Holding, risen-no, holding-none, holding-few, holding-more}
+use Rattle.plan_rising.specs.Rising.{Holding, Kept, risen-no, holding-none, holding-few, holding-more}
 use Rattle.plan_rising.specs.Rising.{holding-end}
 use borrow.Author.Needs.{needs}
 use Rattle.plan_rising.proofs.rising.are_kept.Statement.{statement}
@@ -35,66 +37,90 @@ new-requires : tie.Need-new-requires Inv-loop μ-loop
 new-requires c κs =
     (lit< tt, lit≤ tt, omega (arith, laid-plan (c .before .pre .0), plan-small (c .before .pre .0)))
 
-first-of-requires : tie.Need-first-of-requires Inv-loop μ-loop
-first-of-requires c κs = search needs
+start-requires : tie.Need-start-requires Inv-loop μ-loop
+start-requires c κs = search needs
 
 loop-holds : tie.Need-loop-holds Inv-loop μ-loop
 loop-holds c = let s = c .before .before .before .pre .0 in
-    holding-none s _ _ (c .before .new .ensures) (walked-none s _ _ (c .first-of .ensures))
+    holding-none s _ _ (c .before .new .ensures) (walked-none s _ (c .start .ensures))
 
 field16-requires : tie.Need-field16-requires Inv-loop μ-loop
 field16-requires c κs = count-there (start c .pre .0) (c .loop-test .taken) (c .before .loop .inv .counts-at)
 
-pass-requires : tie.Need-pass-requires Inv-loop μ-loop
-pass-requires c κs =
-    let p = start (c .before) .pre in
-    (p .0, (p .1, (c .before .before .loop .inv .walked, c .field16 .ensures .1)))
+is-kept-requires : tie.Need-is-kept-requires Inv-loop μ-loop
+is-kept-requires c κs = let w = c .before .before .loop .inv .walked in
+    (start (c .before) .pre .0, (w .room, c .field16 .ensures .1))
 
 returns : tie.Need-returns Inv-loop μ-loop
 returns c = risen-no (start (c .before .before .before) .pre .0)
+
+-- the profile's points are so
+kept : (c : tie.Else1 Inv-loop μ-loop) → let d = c .before .before in
+    Kept (start (d .before) .args .l)
+    (entryAt (decodePlan (now (start (d .before) .args .plan)) .ticks) (d .before .before .loop .from))
+    (d .before .before .loop .from) (d .field16 .result)
+kept c = c .before .is-kept .ensures (not-false _ (c .if1 .left))
+
+add-blocks : tie.Need-add-blocks Inv-loop μ-loop
+add-blocks c =
+    omega (arith, kept c .room, plan-small (start (c .before .before .before) .pre .0) .points-most)
+
+blocks-requires : tie.Need-blocks-requires Inv-loop μ-loop
+blocks-requires c κs = (
+  search needs,
+  omega (arith, kept c .room, plan-small (start (c .before .before .before) .pre .0) .points-most),
+)
+
+advance-requires : tie.Need-advance-requires Inv-loop μ-loop
+advance-requires c κs = let d = c .before .before .before .before in
+    let w = d .before .loop .inv .walked in
+    let r = kept (c .before) .room in
+    (start d .pre .0, (start d .pre .1, (w .walked, (omega (arith, w .done-is), omega arith))))
+
+returns-2 : tie.Need-returns-2 Inv-loop μ-loop
+returns-2 c = risen-no (start (c .before .before .before .before .before .before) .pre .0)
 
 has-points-requires : tie.Need-has-points-requires Inv-loop μ-loop
 has-points-requires c κs = search needs
 
 add-some : tie.Need-add-some Inv-loop μ-loop
-add-some c = let d = c .before .before .before .before in omega (
+add-some c = let d = c .before .before .before .before .before .before .before in omega (
   arith,
   plan-small (start d .pre .0),
   holding-few (start d .pre .0) _ _ _ _ _ (d .before .loop .inv) _ (c .has-points .ensures .1),
 )
 
 add-from : tie.Need-add-from Inv-loop μ-loop
-add-from c = let d = c .before .before .before .before in
+add-from c = let d = c .before .before .before .before .before .before .before in
     omega (arith, plan-small (start d .pre .0), d .before .loop .inv .walked .room)
 
 next-requires : tie.Need-next-requires Inv-loop μ-loop
-next-requires c κs = let d = c .before .before .before .before in
+next-requires c κs = let d = c .before .before .before .before .before .before .before in
     count-may (start d .pre .0) (d .loop-test .taken) (d .before .loop .inv .counts-at)
 
 add-k : tie.Need-add-k Inv-loop μ-loop
-add-k c = let d = c .before .before .before .before .before in
+add-k c = let d = c .before .before .before .before .before .before .before .before in
     omega (arith, plan-small (start d .pre .0), d .loop-test .taken)
 
 loop-less : tie.Need-loop-less Inv-loop μ-loop
 loop-less c = search needs
 
 loop-again : tie.Need-loop-again Inv-loop μ-loop
-loop-again c = let d = c .before .before .before .before .before in
-    holding-more (start d .pre .0) _ _ _ _ _ (d .before .loop .inv) _ _ _ _ (d .loop-test .taken)
-    (read (c .before .before .before .before)) (c .before .before .before .pass .ensures)
-    (c .before .before .if1 .left) (c .before .has-points .ensures .0)
+loop-again c = let e = c .before .before .before .before .before in
+    let d = e .before .before .before in
+    holding-more (start d .pre .0) _ _ _ _ _ (d .before .loop .inv) _ _ _ _ _ (d .loop-test .taken)
+    (read (e .before .before)) (kept e) (c .before .before .before .before .blocks2 .ensures)
+    (c .before .before .before .advance .ensures) (c .before .before .if2 .left)
+    (c .before .has-points .ensures .0)
     (count-on (start d .pre .0) (d .loop-test .taken) (d .before .loop .inv .counts-at) (c .next .ensures))
 
-returns-2 : tie.Need-returns-2 Inv-loop μ-loop
-returns-2 c = risen-no (c .before .before .before .before .before .before .before .pre .0)
-
-cast-result : tie.Need-cast-result Inv-loop μ-loop
-cast-result c = search needs
-
 returns-3 : tie.Need-returns-3 Inv-loop μ-loop
-returns-3 c = let d = c .before .before .before in
+returns-3 c = risen-no (c .before .before .before .before .before .before .before .pre .0)
+
+returns-4 : tie.Need-returns-4 Inv-loop μ-loop
+returns-4 c = let d = c .before .before .before in
     holding-end (d .before .before .before .before .before .pre .0) _ _ _ _ _ (d .before .loop .inv)
-    (d .loop-test .left) (c .before .if2 .left)
+    (d .loop-test .left) (c .before .if3 .left)
 
 pub are-kept-spec : {M : Type 1} → statement M
 are-kept-spec =
@@ -103,11 +129,15 @@ are-kept-spec =
     Inv-loop
     μ-loop
     new-requires
-    first-of-requires
+    start-requires
     loop-holds
     field16-requires
-    pass-requires
+    is-kept-requires
     returns
+    add-blocks
+    blocks-requires
+    advance-requires
+    returns-2
     has-points-requires
     add-some
     add-from
@@ -115,6 +145,5 @@ are-kept-spec =
     add-k
     loop-less
     loop-again
-    returns-2
-    cast-result
-    returns-3)
+    returns-3
+    returns-4)
