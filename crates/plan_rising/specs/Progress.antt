@@ -7,7 +7,7 @@ use mathlib.Core.List.{List}
 use Prim.Native.Nat.{ℕ, suc, _+_, _-_, _*_, _≤_, _<_, min}
 use native.Mathlib.Nat.{add-zero}
 use native.Mathlib.Omega.{arith}
-use lib.Dec.{leb, lit<}
+use lib.Dec.{lit<}
 use lib.ListN.{length}
 use borrow.Author.Count.{below-more}
 use borrow.Author.Tests.{not-false}
@@ -25,7 +25,8 @@ use Rattle.plan.specs.PlanLimits.{mostProfilePoints, mostPlanBytes}
 use Rattle.plan.specs.PlanDecode.{decodePlan, PlanLaid, pointTick, plan-small}
 use Rattle.plan.specs.PlanDecode.{points-stored, laid-plan, tick-is}
 use Rattle.plan_rising.specs.declared.progress.Progress.{Progress}
-use Rattle.plan_rising.specs.Breaks.{broken, breakAt}
+use Rattle.plan_rising.specs.Falls.{falls}
+use Rattle.plan_rising.specs.Breaks.{broken, fallsAt, breakAt}
 
 -- block j of the points has a right check and its form
 abbrev pub pointsSound : List ℕ → PlanLayout → ℕ → Bool
@@ -119,7 +120,7 @@ module _ {file : List ℕ} {l : PlanLayout} (s : PlanLaid file l) where
           tick-is s inside (rw (place, add-zero))
 
       -- the break at its first point, and those at the others
-      first-break : (x r : ℕ) → x ≡ le16 file base → r ≡ flag (leb x (w .last))
+      first-break : (x r : ℕ) → x ≡ le16 file base → r ≡ flag (falls x (w .last))
           → r ≡ flag (broken (pointTick p) (profilePointPer * j))
       unfolding broken
       first-break x r a f =
@@ -131,7 +132,7 @@ module _ {file : List ℕ} {l : PlanLayout} (s : PlanLaid file l) where
 
       other-break : (q : ℕ) → q < k - 1
           → breakAt file base q ≡ broken (pointTick p) (profilePointPer * j + 1 + q)
-      unfolding breakAt broken before
+      unfolding breakAt fallsAt broken before
       other-break q o =
           let z : profilePointPer * j + 1 + q ≡ suc (profilePointPer * j + q) = omega arith in
           let w : base + profilePointSize * suc q ≡ base + profilePointSize * q + profilePointSize =
@@ -155,7 +156,7 @@ module _ {file : List ℕ} {l : PlanLayout} (s : PlanLaid file l) where
       )
 
       pub walked-more : (x y r o : ℕ) → pointsSound file l (w .done) ≡ true
-          → x ≡ le16 file (blockSize * (l .pointblock + w .done) + headSize) → r ≡ flag (leb x (w .last))
+          → x ≡ le16 file (blockSize * (l .pointblock + w .done) + headSize) → r ≡ flag (falls x (w .last))
           → o ≡ count (k - 1) (breakAt file (blockSize * (l .pointblock + w .done) + headSize))
           → y ≡ le16 file (blockSize * (l .pointblock + w .done) + headSize + profilePointSize * (k - 1))
           → y < 65536

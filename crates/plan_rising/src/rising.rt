@@ -2,10 +2,10 @@
 // what a good file is asked. The points of all profiles are one row, and each profile begins at tick 0, so
 // its first point is a break of that row; where there are no others, the ticks of every profile rise. What
 // else the rules ask is asked profile by profile, before the blocks up to its last point are looked at.
-use crate::breaks::WORDS;
-use crate::breaks::mark_ticks;
 use crate::progress::advance;
 use crate::progress::start;
+use crate::words::WORDS;
+use crate::words::mark_ticks;
 use file_blocks::kind;
 use file_blocks::place::blocks;
 use file_blocks::walk::Walk;
@@ -18,7 +18,7 @@ ghost use lib.Dec.{ltb};
 ghost use Rattle.theory_breaks.specs.Tally.{flag};
 ghost use Rattle.theory_travel.specs.Table.{entryAt};
 ghost use Rattle.plan.specs.PlanDecode.{decodePlan, PlanLaid};
-ghost use Rattle.plan_rising.specs.Breaks.{TickMarks};
+ghost use Rattle.plan_rising.specs.Words.{TickMarks};
 ghost use Rattle.plan_rising.specs.Rising.{Kept, Risen};
 
 // Are the points of one profile, `count` of them from number `from` on, no more than the ticks, and do they
@@ -61,7 +61,7 @@ fn has_points(count: usize) -> usize
 }
 
 // Are all profiles so, do the counts add up to the points, and are there no breaks but where profiles begin?
-fn are_kept(plan: &[u8], l: PlanLayout, marks: &[u8; WORDS]) -> bool
+fn are_kept(plan: &[u8], l: PlanLayout, marks: &[u16; WORDS]) -> bool
     requires { ⌜ PlanLaid (now plan) l ⌝ }
     requires { ⌜ TickMarks (now marks) ⌝ }
     ensures { λ r. ⌜ (r ≡ true → Risen (now (plan .entry)) l) ⌝ }
@@ -98,7 +98,7 @@ pub fn is_rising(plan: &[u8], l: PlanLayout) -> bool
     requires { ⌜ PlanLaid (now plan) l ⌝ }
     ensures { λ r. ⌜ (r ≡ true → Risen (now (plan .entry)) l) ⌝ }
 {
-    let mut marks = [0u8; WORDS];
+    let mut marks = [0u16; WORDS];
     mark_ticks(&mut marks);
     are_kept(plan, l, &marks)
 }

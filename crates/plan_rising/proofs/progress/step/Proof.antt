@@ -47,9 +47,6 @@ breaks-beside-requires : tie.Need-breaks-beside-requires
 breaks-beside-requires c κs = let b = here (c .before .before .before .before) in
     ((omega arith, omega arith), c .before .before .before .before .before .before .pre .1 .0)
 
-cast-beside : tie.Need-cast-beside
-cast-beside c = search needs
-
 add-t10 : tie.Need-add-t10
 add-t10 c = search needs
 
@@ -108,7 +105,6 @@ step-spec =
     is-break-requires
     cast-behind
     breaks-beside-requires
-    cast-beside
     add-t10
     mul-le16
     add-le16

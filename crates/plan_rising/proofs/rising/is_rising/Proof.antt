@@ -1,5 +1,5 @@
 -- `plan_rising::rising::is_rising` meets its contract.
-use Rattle.plan_rising.specs.Breaks.{ticks-marked}
+use Rattle.plan_rising.specs.Words.{ticks-marked}
 use borrow.Author.Needs.{needs}
 use Rattle.plan_rising.proofs.rising.is_rising.Statement.{statement}
 use Rattle.plan_rising.proofs.rising.is_rising.Tie as tie

@@ -1,10 +1,10 @@
--- `plan_rising::breaks::mark_ticks` meets its contract: the first i words are marked.
+-- `plan_rising::words::mark_ticks` meets its contract: the first i words are marked.
 use Prim.Native.Nat.{_-_, _≤_}
 use Rattle.theory_loops.specs.Fill.{Filled, fills}
-use Rattle.plan_rising.specs.Breaks.{markWords, tickMark}
+use Rattle.plan_rising.specs.Words.{markWords, tickMark}
 use borrow.Author.Needs.{needs}
-use Rattle.plan_rising.proofs.breaks.mark_ticks.Statement.{statement}
-use Rattle.plan_rising.proofs.breaks.mark_ticks.Tie as tie
+use Rattle.plan_rising.proofs.words.mark_ticks.Statement.{statement}
+use Rattle.plan_rising.proofs.words.mark_ticks.Tie as tie
 
 abbrev Inv-loop : tie.InvT-loop
 Inv-loop marks₀ i₀ marks i = (i ≤ markWords) × Filled 0 i tickMark marks₀ marks
@@ -17,6 +17,9 @@ loop-holds c = (search needs, search fills)
 
 is-tick-requires : tie.Need-is-tick-requires Inv-loop μ-loop
 is-tick-requires c κs = search needs
+
+mul-marks : tie.Need-mul-marks Inv-loop μ-loop
+mul-marks c = search needs
 
 element-write-marks : tie.Need-element-write-marks Inv-loop μ-loop
 element-write-marks c = search needs
@@ -41,6 +44,7 @@ mark-ticks-spec =
     μ-loop
     loop-holds
     is-tick-requires
+    mul-marks
     element-write-marks
     add-i
     loop-less
