@@ -3,14 +3,12 @@
 use mathlib.Core.Path.{_≡_, refl, sym, _∙_, ap}
 use mathlib.Core.Bool.{Bool, true, false, _&&_}
 use mathlib.Core.List.{List}
-use Prim.Native.Nat.{ℕ, zero, suc, _+_, _*_, _%_, _≤_, _<_}
+use Prim.Native.Nat.{ℕ, zero, suc, _+_, _*_, _%_, _≤_}
 use native.Mathlib.Numerals.{add-one}
 use native.Mathlib.Omega.{arith}
 use lib.Dec.{eqb}
-use lib.ListN.{getD}
 use borrow.Author.Tests.{eq-eqb, ne-eqb}
 use Rattle.theory_loops.specs.Count.{count, count-none, count-no, count-few}
-use Rattle.theory_loops.specs.Fill.{Filled}
 use Rattle.theory_breaks.specs.Tally.{flag, tally-more}
 use Rattle.file_blocks.specs.Kind.{profilePointSize}
 use Rattle.plan_rising.specs.Breaks.{fallsAt, breakAt, both-all}
@@ -22,8 +20,8 @@ partPoints = 16
 abbrev pub partSize : ℕ
 partSize = profilePointSize * partPoints
 
-abbrev pub markWords : ℕ
-markWords = 3 * partPoints
+abbrev pub partWords : ℕ
+partWords = 3 * partPoints
 
 -- the points of all five parts
 abbrev pub wordPoints : ℕ
@@ -31,12 +29,6 @@ wordPoints = 5 * partPoints
 
 abbrev pub tickMark : ℕ → ℕ
 tickMark i = flag (eqb (i % 3) 0)
-
-pub record TickMarks (marks : List ℕ) : Type 0 where
-  pub mark : (i : ℕ) → i < markWords → getD marks i 0 ≡ tickMark i
-
-pub ticks-marked : (old new : List ℕ) → Filled 0 markWords tickMark old new → TickMarks new
-ticks-marked old new f = record { mark = λ i l. f .written i (omega arith) l }
 
 -- from word i to the third after it, where they are ticks
 unfoldable pub wordBreak : List ℕ → ℕ → ℕ → Bool
@@ -112,14 +104,6 @@ word-more file base i o e =
     both false true = refl
     both false false = refl
 
--- a word that is no tick counts nothing
-pub mark-few : (marks : List ℕ) (i r : ℕ) → i < markWords → TickMarks marks → getD marks i 0 * r ≤ r
-mark-few marks i r l m = rw (m .mark i l) (go (eqb (i % 3) 0))
-  where
-    go : (b : Bool) → flag b * r ≤ r
-    go true = omega arith
-    go false = omega arith
-
 module _ (file : List ℕ) (base : ℕ) where
   pub words-none : 0 ≡ wordsBroken file base 0
   unfolding wordsBroken
@@ -136,12 +120,12 @@ module _ (file : List ℕ) (base : ℕ) where
     count-few (wordBreak file (base + 4 * partSize)) i,
   )
 
-  module _ (marks : List ℕ) (n i r : ℕ) (h : n ≡ wordsBroken file base i) (l : i < markWords)
-      (m : TickMarks marks) (e : r ≡ fallsApart file (base + 2 * i)) where
-    pub words-more : n + getD marks i 0 * r ≡ wordsBroken file base (i + 1)
+  module _ (n i t r : ℕ) (h : n ≡ wordsBroken file base i) (m : t ≡ tickMark i)
+      (e : r ≡ fallsApart file (base + 2 * i)) where
+    pub words-more : n + t * r ≡ wordsBroken file base (i + 1)
     unfolding wordsBroken
     words-more =
-        rw (m .mark i l, e) (omega (
+        rw (m, e) (omega (
           arith,
           h,
           word-more file base i (base + 2 * i) refl,
@@ -151,15 +135,15 @@ module _ (file : List ℕ) (base : ℕ) where
           word-more file (base + 4 * partSize) i (base + 2 * i + 4 * partSize) (omega arith),
         ))
 
-    pub words-few : n + getD marks i 0 * r ≤ 5 * (i + 1)
+    pub words-few : n + t * r ≤ 5 * (i + 1)
     words-few = omega (arith, words-more, words-most (i + 1))
 
   -- at the end they are the breaks of all those points
-  pub words-end : (n i : ℕ) → n ≡ wordsBroken file base i → i ≤ markWords → markWords ≤ i
+  pub words-end : (n i : ℕ) → n ≡ wordsBroken file base i → i ≤ partWords → partWords ≤ i
       → n ≡ count wordPoints (breakAt file base)
   unfolding wordsBroken
   words-end n i e l m =
-      let z : i ≡ markWords = omega arith in
+      let z : i ≡ partWords = omega arith in
       let two = both-all file base 16 16 _ _ (thirds file base 16) (thirds file (base + partSize) 16) in
       let three = both-all file base 32 16 _ _ two (thirds file (base + 2 * partSize) 16) in
       let four = both-all file base 48 16 _ _ three (thirds file (base + 3 * partSize) 16) in

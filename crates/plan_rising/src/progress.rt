@@ -1,7 +1,6 @@
 // How far the blocks of a plan's points have been looked at, each once: at its check, its form and the breaks
 // of its ticks, while it is in the nearest cache. specs/Progress.antt.
 use crate::breaks::is_break;
-use crate::words::WORDS;
 use crate::words::breaks_beside;
 use file_blocks::kind;
 use file_blocks::place::entries_in;
@@ -16,7 +15,6 @@ ghost use Prim.Native.Nat.{_+_, _≤_, _<_};
 ghost use Rattle.file_blocks.specs.Kind.{profilePointPer};
 ghost use Rattle.file_blocks.specs.Place.{blocks};
 ghost use Rattle.plan.specs.PlanDecode.{PlanLaid};
-ghost use Rattle.plan_rising.specs.Words.{TickMarks};
 ghost use Rattle.plan_rising.specs.Progress.{pointsSound, Walked};
 
 // So many blocks have been looked at, with this tick for their last and so many breaks. All three are numbers
@@ -39,9 +37,8 @@ pub fn start() -> Progress
 }
 
 // One block more, whose check and form are right.
-fn step(plan: &[u8], l: PlanLayout, marks: &[u16; WORDS], progress: Progress) -> Progress
+fn step(plan: &[u8], l: PlanLayout, progress: Progress) -> Progress
     requires { ⌜ PlanLaid (now plan) l ⌝ }
-    requires { ⌜ TickMarks (now marks) ⌝ }
     requires { ⌜ Walked (now plan) l progress ⌝ }
     requires { ⌜ progress .done < blocks profilePointPer (l .points) ⌝ }
     requires { ⌜ pointsSound (now plan) l (progress .done) ≡ true ⌝ }
@@ -51,7 +48,7 @@ fn step(plan: &[u8], l: PlanLayout, marks: &[u16; WORDS], progress: Progress) ->
     let m = entries_in(kind::PROFILE_POINT_PER, l.points, j) - 1;
     let base = BLOCK * (l.pointblock + j) + HEAD;
     let behind = is_break(le16(plan, base), progress.last as u16) as usize;
-    let beside = breaks_beside(plan, base, m, marks);
+    let beside = breaks_beside(plan, base, m);
     Progress {
         done: j + 1,
         last: le16(plan, base + kind::PROFILE_POINT_SIZE * m) as usize,
@@ -60,15 +57,8 @@ fn step(plan: &[u8], l: PlanLayout, marks: &[u16; WORDS], progress: Progress) ->
 }
 
 // The progress up to block `until`, or up to the first block before it whose check or form is wrong.
-pub fn advance(
-    plan: &[u8],
-    l: PlanLayout,
-    marks: &[u16; WORDS],
-    progress: Progress,
-    until: usize,
-) -> Progress
+pub fn advance(plan: &[u8], l: PlanLayout, progress: Progress, until: usize) -> Progress
     requires { ⌜ PlanLaid (now plan) l ⌝ }
-    requires { ⌜ TickMarks (now marks) ⌝ }
     requires { ⌜ Walked (now plan) l progress ⌝ }
     requires { ⌜ (progress .done ≤ until) × (until ≤ blocks profilePointPer (l .points)) ⌝ }
     ensures { λ r. ⌜ Walked (now (plan .entry)) l r ⌝ }
@@ -88,7 +78,7 @@ pub fn advance(
         if !sound {
             return next;
         }
-        next = step(plan, l, marks, next);
+        next = step(plan, l, next);
     }
     next
 }

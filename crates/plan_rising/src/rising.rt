@@ -4,8 +4,6 @@
 // else the rules ask is asked profile by profile, before the blocks up to its last point are looked at.
 use crate::progress::advance;
 use crate::progress::start;
-use crate::words::WORDS;
-use crate::words::mark_ticks;
 use file_blocks::kind;
 use file_blocks::place::blocks;
 use file_blocks::walk::Walk;
@@ -18,7 +16,6 @@ ghost use lib.Dec.{ltb};
 ghost use Rattle.theory_breaks.specs.Tally.{flag};
 ghost use Rattle.theory_travel.specs.Table.{entryAt};
 ghost use Rattle.plan.specs.PlanDecode.{decodePlan, PlanLaid};
-ghost use Rattle.plan_rising.specs.Words.{TickMarks};
 ghost use Rattle.plan_rising.specs.Rising.{Kept, Risen};
 
 // Are the points of one profile, `count` of them from number `from` on, no more than the ticks, and do they
@@ -60,10 +57,10 @@ fn has_points(count: usize) -> usize
     if 0 < count { 1 } else { 0 }
 }
 
-// Are all profiles so, do the counts add up to the points, and are there no breaks but where profiles begin?
-fn are_kept(plan: &[u8], l: PlanLayout, marks: &[u16; WORDS]) -> bool
+// Does the plan keep the rules, in sound blocks: are all profiles so, do the counts add up to the points, and
+// are there no breaks but where profiles begin?
+pub fn is_rising(plan: &[u8], l: PlanLayout) -> bool
     requires { ⌜ PlanLaid (now plan) l ⌝ }
-    requires { ⌜ TickMarks (now marks) ⌝ }
     ensures { λ r. ⌜ (r ≡ true → Risen (now (plan .entry)) l) ⌝ }
 {
     let profiles = l.profiles;
@@ -78,7 +75,7 @@ fn are_kept(plan: &[u8], l: PlanLayout, marks: &[u16; WORDS]) -> bool
             return false;
         }
         let until = blocks(kind::PROFILE_POINT_PER, from + count);
-        progress = advance(plan, l, marks, progress, until);
+        progress = advance(plan, l, progress, until);
         let done = progress.done;
         if done != until {
             return false;
@@ -91,14 +88,4 @@ fn are_kept(plan: &[u8], l: PlanLayout, marks: &[u16; WORDS]) -> bool
         return false;
     }
     progress.breaks == some
-}
-
-// Does the plan keep the rules, in sound blocks?
-pub fn is_rising(plan: &[u8], l: PlanLayout) -> bool
-    requires { ⌜ PlanLaid (now plan) l ⌝ }
-    ensures { λ r. ⌜ (r ≡ true → Risen (now (plan .entry)) l) ⌝ }
-{
-    let mut marks = [0u16; WORDS];
-    mark_ticks(&mut marks);
-    are_kept(plan, l, &marks)
 }

@@ -9,13 +9,13 @@ use Rattle.plan_rising.proofs.progress.advance.Statement.{statement}
 use Rattle.plan_rising.proofs.progress.advance.Tie as tie
 
 abbrev Inv-loop : tie.InvT-loop
-Inv-loop plan l marks until done next₀ j₀ next j = Walked plan l next × (next .done ≡ j) × (j ≤ until)
+Inv-loop plan l until done next₀ j₀ next j = Walked plan l next × (next .done ≡ j) × (j ≤ until)
 
 abbrev μ-loop : tie.MeasureT-loop
-μ-loop plan l marks until done next₀ j₀ next j = until - j
+μ-loop plan l until done next₀ j₀ next j = until - j
 
 loop-holds : tie.Need-loop-holds Inv-loop μ-loop
-loop-holds c = let p = c .before .pre .1 .1 in (p .0, refl, p .1 .0)
+loop-holds c = let p = c .before .pre .1 in (p .0, refl, p .1 .0)
 
 is-sound-block-requires : tie.Need-is-sound-block-requires Inv-loop μ-loop
 is-sound-block-requires c κs = (points-stored (c .before .before .before .pre .0), omega arith)
@@ -25,17 +25,13 @@ returns c = c .before .before .before .loop .inv .0
 
 step-requires : tie.Need-step-requires Inv-loop μ-loop
 step-requires c κs =
-    let p = c .before .before .before .before .before .pre in
     let i = c .before .before .before .loop .inv in (
-      p .0,
+      c .before .before .before .before .before .pre .0,
       (
-        p .1 .0,
+        i .0,
         (
-          i .0,
-          (
-            omega arith,
-            next-sound (i .0) _ _ (i .1) (c .before .is-sound-block .ensures) (c .if1 .left),
-          ),
+          omega arith,
+          next-sound (i .0) _ _ (i .1) (c .before .is-sound-block .ensures) (c .if1 .left),
         ),
       ),
     )

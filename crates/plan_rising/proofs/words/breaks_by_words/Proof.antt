@@ -3,25 +3,22 @@
 use mathlib.Core.Path.{_≡_}
 use Prim.Native.Nat.{_-_, _≤_}
 use native.Mathlib.Omega.{arith}
-use Rattle.plan_rising.specs.Words.{markWords, wordsBroken, mark-few, words-few, words}
+use Rattle.plan_rising.specs.Words.{partWords, wordsBroken, words-few, words}
 use borrow.Author.Needs.{needs}
 use Rattle.plan_rising.proofs.words.breaks_by_words.Statement.{statement}
 use Rattle.plan_rising.proofs.words.breaks_by_words.Tie as tie
 
 abbrev Inv-loop : tie.InvT-loop
-Inv-loop plan base marks breaks₀ i₀ breaks i = (i ≤ markWords) × (breaks ≡ wordsBroken plan base i)
+Inv-loop plan base breaks₀ i₀ breaks i = (i ≤ partWords) × (breaks ≡ wordsBroken plan base i)
 
 abbrev μ-loop : tie.MeasureT-loop
-μ-loop plan base marks breaks₀ i₀ breaks i = markWords - i
+μ-loop plan base breaks₀ i₀ breaks i = partWords - i
 
 loop-holds : tie.Need-loop-holds Inv-loop μ-loop
 loop-holds c = (search needs, search words)
 
-mul-breaks : tie.Need-mul-breaks Inv-loop μ-loop
-mul-breaks c = search needs
-
-element-copy-out-breaks : tie.Need-element-copy-out-breaks Inv-loop μ-loop
-element-copy-out-breaks c = search needs
+is-tick-requires : tie.Need-is-tick-requires Inv-loop μ-loop
+is-tick-requires c κs = search needs
 
 mul-falls-apart : tie.Need-mul-falls-apart Inv-loop μ-loop
 mul-falls-apart c = search needs
@@ -32,21 +29,19 @@ add-falls-apart c = search needs
 falls-apart-requires : tie.Need-falls-apart-requires Inv-loop μ-loop
 falls-apart-requires c κs = search needs
 
-mul-breaks-2 : tie.Need-mul-breaks-2 Inv-loop μ-loop
-mul-breaks-2 c = let l = c .before .before in
-    omega (
-      arith,
-      mark-few _ _ (c .falls-apart .result) (l .loop-test .taken) (l .before .before .before .pre .1),
-      c .falls-apart .ensures .1,
-    )
+mul-breaks : tie.Need-mul-breaks Inv-loop μ-loop
+mul-breaks c = omega (
+  arith,
+  words-few _ _ _ _ _ _ (c .before .before .before .loop .inv .1) (c .before .is-tick .ensures)
+      (c .falls-apart .ensures),
+)
 
 add-breaks : tie.Need-add-breaks Inv-loop μ-loop
-add-breaks c = let l = c .before .before in
-    omega (
-      arith,
-      words-few _ _ _ _ _ _ (l .before .loop .inv .1) (l .loop-test .taken)
-          (l .before .before .before .pre .1) (c .falls-apart .ensures .0),
-    )
+add-breaks c = omega (
+  arith,
+  words-few _ _ _ _ _ _ (c .before .before .before .loop .inv .1) (c .before .is-tick .ensures)
+      (c .falls-apart .ensures),
+)
 
 add-i : tie.Need-add-i Inv-loop μ-loop
 add-i c = search needs
@@ -67,12 +62,11 @@ breaks-by-words-spec =
     Inv-loop
     μ-loop
     loop-holds
-    mul-breaks
-    element-copy-out-breaks
+    is-tick-requires
     mul-falls-apart
     add-falls-apart
     falls-apart-requires
-    mul-breaks-2
+    mul-breaks
     add-breaks
     add-i
     loop-less
