@@ -57,7 +57,8 @@ pub record AllKept (p : Plan) (l : PlanLayout) (h : ℕ) : Type 0 where
 
 -- ALL PROFILES
 module _ (p : Plan) (l : PlanLayout) (h : ℕ) (points-are : l .points ≡ pointTotal p)
-    (short : l .period ≤ half) (a : AllKept p l h) (few : Count.count (pointTotal p) (broken (pointTick p)) ≡ h) where
+    (short : l .period ≤ half) (a : AllKept p l h)
+    (few : Count.count (pointTotal p) (broken (pointTick p)) ≡ h) where
   next : (k : ℕ) → pointStart p (suc k) ≡ pointStart p k + pointCount p k
   unfolding pointStart
   next k =
@@ -250,5 +251,6 @@ module _ {file : List ℕ} {l : PlanLayout} (s : PlanLaid file l) where
         rw m at (i .walked .walked .counted) in
         record {
           blocks-sound = λ j o. i .walked .walked .sound j (omega arith);
-          rules-kept = rising-sound plan l some n (omega (arith, plan-small s .period-most)) a (sym c ∙ eqb-true (progress .breaks) some f);
+          rules-kept = rising-sound plan l some n (omega (arith, plan-small s .period-most)) a
+              (sym c ∙ eqb-true (progress .breaks) some f);
         }

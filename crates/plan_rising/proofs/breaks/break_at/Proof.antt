@@ -18,8 +18,10 @@ is-break-requires c κs = search needs
 
 returns : tie.Need-returns
 unfolding fallsAt
-returns c =
-    (rw (c .before .before .le16 .ensures, c .before .le162 .ensures) at (c .is-break .ensures .0), search needs)
+returns c = (
+  rw (c .before .before .le16 .ensures, c .before .le162 .ensures) at (c .is-break .ensures .0),
+  search needs,
+)
 
 pub break-at-spec : {M : Type 1} → statement M
 break-at-spec =
