@@ -1,11 +1,11 @@
--- `plan_rising::breaks::is_tick` meets its contract.
+-- `plan_rising::words::is_tick` meets its contract.
 use mathlib.Core.Path.{sym, ap}
 use Prim.Native.Nat.{_%_}
 use native.Mathlib.Omega.{arith}
 use borrow.Author.Tests.{eq-eqb, ne-eqb}
 use Rattle.theory_breaks.specs.Tally.{flag}
-use Rattle.plan_rising.proofs.breaks.is_tick.Statement.{statement}
-use Rattle.plan_rising.proofs.breaks.is_tick.Tie as tie
+use Rattle.plan_rising.proofs.words.is_tick.Statement.{statement}
+use Rattle.plan_rising.proofs.words.is_tick.Tie as tie
 
 returns : tie.Need-returns
 returns c = sym (ap flag (eq-eqb (c .before .args .i % 3) 0 (omega arith)))

@@ -1,10 +1,10 @@
--- `plan_rising::breaks::breaks_beside` meets its contract.
-use Prim.Native.Nat.{_+_}
+-- `plan_rising::words::breaks_beside` meets its contract.
 use native.Mathlib.Omega.{arith}
-use Rattle.plan_rising.specs.Breaks.{wordPoints, rest-few, rest-all}
+use Rattle.plan_rising.specs.Breaks.{both-few, both-all}
+use Rattle.plan_rising.specs.Words.{wordPoints}
 use borrow.Author.Needs.{needs}
-use Rattle.plan_rising.proofs.breaks.breaks_beside.Statement.{statement}
-use Rattle.plan_rising.proofs.breaks.breaks_beside.Tie as tie
+use Rattle.plan_rising.proofs.words.breaks_beside.Statement.{statement}
+use Rattle.plan_rising.proofs.words.breaks_beside.Tie as tie
 
 add-if1 : tie.Need-add-if1
 add-if1 c = search needs
@@ -18,6 +18,9 @@ add-rest c = search needs
 breaks-by-words-requires : tie.Need-breaks-by-words-requires
 breaks-by-words-requires c κs = search needs
 
+cast-result : tie.Need-cast-result
+cast-result c = search needs
+
 breaks-some-requires : tie.Need-breaks-some-requires
 breaks-some-requires c κs = search needs
 
@@ -25,15 +28,13 @@ add-result : tie.Need-add-result
 add-result c =
     omega (
       arith,
-      rest-few _ _ (wordPoints + 2) _ _ (omega arith) (c .before .breaks-by-words .ensures)
-          (c .breaks-some .ensures),
+      both-few _ _ wordPoints 2 _ _ (c .before .breaks-by-words .ensures) (c .breaks-some .ensures),
     )
 
 returns : tie.Need-returns
 returns c =
     rw (c .before .before .if1 .taken)
-    (rest-all _ _ (wordPoints + 2) _ _ (omega arith) (c .before .breaks-by-words .ensures)
-    (c .breaks-some .ensures))
+    (both-all _ _ wordPoints 2 _ _ (c .before .breaks-by-words .ensures) (c .breaks-some .ensures))
 
 breaks-some-requires-2 : tie.Need-breaks-some-requires-2
 breaks-some-requires-2 c κs = search needs
@@ -49,6 +50,7 @@ breaks-beside-spec =
     mul-rest
     add-rest
     breaks-by-words-requires
+    cast-result
     breaks-some-requires
     add-result
     returns
