@@ -28,8 +28,8 @@ ghost use Rattle.network.specs.Town.{graphOf};
 ghost use Rattle.network.specs.Valid.{ValidFile};
 ghost use Rattle.search_arcs.specs.Town.{Town};
 ghost use Rattle.toward_list.specs.Rows.{WorkedRow};
-ghost use Rattle.day_sheet.specs.Sheet.{SheetCall, DaySheet};
-ghost use Rattle.day_sheet.specs.Sheeting.{Asked, EarlyRow, Lists, arrivalIn};
+ghost use Rattle.day_arrivals.specs.Sheet.{SheetCall, DaySheet};
+ghost use Rattle.day_arrivals.specs.Sheeting.{Asked, EarlyRow, Lists, arrivalIn};
 
 // The least travels from a node to another, at every tick, in the row of the first.
 fn travels_to(file: &[u8], l: Layout, from: usize, to: usize, work: &mut [u32])

@@ -39,7 +39,7 @@ use Rattle.trip.specs.Flagged.{flaggedArcs}
 use Rattle.trip.specs.Promise.{trip-arrived}
 use Rattle.trip.specs.Numbers.{plain-begins, flagged-begins}
 use Rattle.trip.specs.Calls.{plainAnswer, flaggedAnswer}
-use Rattle.day_sheet.specs.Sheet.{DaySheet}
+use Rattle.day_arrivals.specs.Sheet.{DaySheet}
 use Rattle.c_trip.specs.Reply.{tripSize, bytes, roadBytes, tripBytes}
 use Rattle.c_trip.specs.Writing.{trip-long}
 use Rattle.varnwalnut.specs.Room.{roomed, kept}

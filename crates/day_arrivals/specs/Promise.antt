@@ -43,9 +43,9 @@ use Rattle.trip.specs.Flagged.{FlaggedTrip}
 use Rattle.trip.specs.Promise.{AsGoodAsAny, Passed}
 use Rattle.trip.specs.PlainPromise.{plain-trip, plain-call}
 use Rattle.trip.specs.FlaggedPromise.{accepted-trip, accepted-call}
-use Rattle.day_sheet.specs.Sheet.{arrivalAt, sheetBegin, listed, sheetAnswer, DaySheet}
-use Rattle.day_sheet.specs.Sheeting.{Begun, begun, asked-opens}
-use Rattle.day_sheet.specs.Numbers.{BeginNumber, begin-numbers}
+use Rattle.day_arrivals.specs.Sheet.{arrivalAt, sheetBegin, listed, sheetAnswer, DaySheet}
+use Rattle.day_arrivals.specs.Sheeting.{Begun, begun, asked-opens}
+use Rattle.day_arrivals.specs.Numbers.{BeginNumber, begin-numbers}
 
 -- A trip arrives at this tick.
 pub record ArrivesAt (a : Answer) (tick : ℕ) : Type 0 where

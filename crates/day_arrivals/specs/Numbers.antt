@@ -23,7 +23,7 @@ use Rattle.network.specs.Numbers.{NetworkNumber, validated-numbers}
 use Rattle.network.specs.Town.{graphOf}
 use Rattle.network.specs.Validate.{validated}
 use Rattle.trip_call.specs.Trip.{andThen}
-use Rattle.day_sheet.specs.Sheet.{sheetAsked, sheetBegin, listed, sheetAnswer, listing}
+use Rattle.day_arrivals.specs.Sheet.{sheetAsked, sheetBegin, listed, sheetAnswer, listing}
 
 -- document 02's numbers for the sheet: before its work, and all
 abbrev pub BeginNumber : ℕ → Type 0

@@ -36,8 +36,8 @@ use Rattle.toward_list.specs.Rows.{WorkedRow}
 use Rattle.toward_node.specs.Turn.{modest}
 use Rattle.toward_list.specs.Work.{size-is, work-cleared}
 use Rattle.trip_call.specs.Stage.{not-opened, one-header, then-passed}
-use Rattle.day_sheet.specs.Sheet.{arrivalAt, dayArrivals, sheetAsked, sheetBegin, listed, SheetCall}
-use Rattle.day_sheet.specs.Sheet.{DaySheet}
+use Rattle.day_arrivals.specs.Sheet.{arrivalAt, dayArrivals, sheetAsked, sheetBegin, listed, SheetCall}
+use Rattle.day_arrivals.specs.Sheet.{DaySheet}
 
 -- BEFORE THE WORK: what the call has shown where nothing is refused
 pub record Asked (h : Header) (from to work list : ℕ) : Type 0 where
