@@ -23,7 +23,7 @@ ghost use Rattle.file_blocks.specs.Kind.{pointPer};
 ghost use Rattle.network.specs.Network;
 ghost use Rattle.network.specs.Decode.{decode, Laid};
 ghost use Rattle.network.specs.Town.{travelAt};
-ghost use Rattle.search_arcs.specs.Town.{Town};
+ghost use Rattle.search_chains.specs.Town.{Town};
 ghost use Rattle.day_runs.specs.Runs.{Runs, Short};
 ghost use Rattle.day_runs.specs.Filling.{Space};
 ghost use Rattle.day_runs.specs.Bounds.{Least, Most};

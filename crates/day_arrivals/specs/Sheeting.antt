@@ -31,7 +31,7 @@ use Rattle.network.specs.Decode.{decode}
 use Rattle.network.specs.Town.{graphOf}
 use Rattle.network.specs.Validate.{unopened, validated}
 use Rattle.network.specs.Valid.{ValidFile, valid-exactly}
-use Rattle.search_arcs.specs.Town.{Town}
+use Rattle.search_chains.specs.Town.{Town}
 use Rattle.toward_list.specs.Rows.{WorkedRow}
 use Rattle.toward_node.specs.Turn.{modest}
 use Rattle.toward_list.specs.Work.{size-is, work-cleared}

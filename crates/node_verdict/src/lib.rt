@@ -19,7 +19,7 @@ ghost use Rattle.theory_loops.specs.Fill.{Filled};
 ghost use Rattle.theory_loops.specs.First;
 ghost use Rattle.network.specs.Decode.{decode};
 ghost use Rattle.network.specs.Network.{arcs, tail};
-ghost use Rattle.search_arcs.specs.Chain.{Chained};
+ghost use Rattle.search_chains.specs.Chain.{Chained};
 ghost use Rattle.network.specs.Town.{partitionOf};
 ghost use Rattle.plan.specs.Border.{borderAt};
 ghost use Rattle.plan.specs.Plan.{pointCount, profileValue};

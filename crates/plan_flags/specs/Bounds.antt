@@ -16,7 +16,7 @@ use Rattle.network.specs.declared.header.Layout.{Layout}
 use Rattle.network.specs.Network.{tail, head}
 use Rattle.network.specs.Decode.{decode}
 use Rattle.network.specs.Town.{graphOf, travelAt}
-use Rattle.search_arcs.specs.Town.{tail-node, head-node}
+use Rattle.search_chains.specs.Town.{tail-node, head-node}
 use Rattle.toward_row.specs.Arcs.{Primed}
 use Rattle.toward_list.specs.Heights.{Bounds}
 use Rattle.toward_list.specs.Leasts.{LeastTravel}

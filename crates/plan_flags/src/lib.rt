@@ -21,7 +21,7 @@ ghost use Rattle.theory_paths.specs.Planned.{starts as startsLeast};
 ghost use Rattle.network.specs.Limits.{mostCells};
 ghost use Rattle.network.specs.Decode.{decode};
 ghost use Rattle.network.specs.Town.{graphOf};
-ghost use Rattle.search_arcs.specs.Town.{Town};
+ghost use Rattle.search_chains.specs.Town.{Town};
 ghost use Rattle.toward_row.specs.Arcs.{Primed};
 ghost use Rattle.toward_list.specs.Heights.{Bounds};
 ghost use Rattle.toward_list.specs.Leasts.{Leasts};

@@ -20,7 +20,7 @@ ghost use Prim.Native.Nat.{_<_};
 ghost use Rattle.network.specs.Decode.{decode};
 ghost use Rattle.network.specs.Limits.{mostNodes};
 ghost use Rattle.network.specs.Town.{partitionOf};
-ghost use Rattle.search_arcs.specs.Town.{Town};
+ghost use Rattle.search_chains.specs.Town.{Town};
 ghost use Rattle.plan.specs.Border.{borderCount, Listed};
 ghost use Rattle.plan.specs.PlanDecode.{decodePlan};
 ghost use Rattle.arc_runs.specs.Brief.{Briefs};

@@ -46,9 +46,9 @@ use Rattle.plan_made.specs.Made.{made-total, made-word, madeCount}
 use Rattle.plan_made.specs.File.{madePlan, madeHeader, madeFile, made-matches}
 use Rattle.toward_list.specs.Work.{workSize, primed-of, work-cleared}
 use Rattle.plan_make.specs.Make.{madeInto, madeWith, zeroed, MakesOpened, MakeCall}
-use Rattle.search_arcs.specs.Town.{Town}
-use Rattle.search_arcs.specs.Chain.{Chained, endOf}
-use Rattle.search_arcs.specs.declared.chain.End.the-variants.{Head}
+use Rattle.search_chains.specs.Town.{Town}
+use Rattle.search_chains.specs.Chain.{Chained, endOf}
+use Rattle.search_chains.specs.declared.chain.End.the-variants.{Head}
 use Rattle.toward_list.specs.Leasts.{Leasts}
 use Rattle.plan.specs.Border
 use Rattle.plan.specs.Borders.{listed-front}

@@ -23,7 +23,7 @@ use Rattle.network.specs.Limits.{mostNodes, mostPeriod}
 use Rattle.network.specs.Network.{Network, nodes}
 use Rattle.network.specs.Decode.{decode, Small}
 use Rattle.network.specs.Town.{graphOf, partitionOf}
-use Rattle.search_arcs.specs.Town.{Town}
+use Rattle.search_chains.specs.Town.{Town}
 use Rattle.plan.specs.declared.header.PlanLayout.{PlanLayout}
 use Rattle.plan.specs.Border.{borderCount, borderAt, Listed}
 use Rattle.plan.specs.Borders.{at-node}

@@ -14,7 +14,7 @@ use lib.Seq.{getD-set-same, getD-set-other, set-getD}
 use Rattle.theory_paths.specs.Graph.{Graph, ends, Permit, ArcFrom}
 use Rattle.theory_paths.specs.Earliest.{never}
 use Rattle.theory_paths.specs.Labels.{label, label-at, lowered}
-use Rattle.search_arcs.specs.Chain.{NextArc}
+use Rattle.search_chains.specs.Chain.{NextArc}
 
 -- Arc a, taken at tick y, lowers its head's label in N, if it is permitted.
 abbrev pub relaxAt : Graph → Permit → ℕ → ℕ → List ℕ → List ℕ

@@ -54,7 +54,7 @@ use Rattle.search_frontier.specs.Frontier.{
   held-or,
 }
 use Rattle.search_frontier.specs.Nearest.{Small, Least, least-held, least-nearest}
-use Rattle.search_arcs.specs.Town.{Town}
+use Rattle.search_chains.specs.Town.{Town}
 use Rattle.search_labels.specs.Ready.{Ready, Leaving, leaving}
 
 -- The labels L are exact up to the target's, the notes K have the hops of these nodes, and the arcs by which

@@ -26,7 +26,7 @@ ghost use Rattle.theory_loops.specs.Fill.{Filled};
 ghost use Rattle.network.specs.Decode.{decode, Laid};
 ghost use Rattle.network.specs.Sound.{SoundNetwork};
 ghost use Rattle.network.specs.Town.{graphOf};
-ghost use Rattle.search_arcs.specs.Town.{Town};
+ghost use Rattle.search_chains.specs.Town.{Town};
 ghost use Rattle.theory_paths.specs.Labels.{label};
 ghost use Rattle.search_labels.specs.Ready.{permitOf};
 ghost use Rattle.search_labels.specs.Notes.{hopsIn};

@@ -13,7 +13,7 @@ use Rattle.network.specs.Network.{Network, nodes, start}
 use Rattle.network.specs.Layout.{layoutOf}
 use Rattle.network.specs.Decode.{decode}
 use Rattle.network.specs.Valid.{ValidFile, valid-laid}
-use Rattle.search_arcs.specs.Town.{Town, town-of}
+use Rattle.search_chains.specs.Town.{Town, town-of}
 use Rattle.toward_row.specs.Arcs.{Primed}
 
 -- the entries of a work list: one for each node and tick

@@ -20,8 +20,8 @@ use Rattle.network.specs.declared.header.Layout.{Layout}
 use Rattle.network.specs.Network.{tail, head}
 use Rattle.network.specs.Decode.{decode}
 use Rattle.network.specs.Town.{graphOf, travelAt, town-bounded}
-use Rattle.search_arcs.specs.Town.{Town, lawful, tail-node, head-node}
-use Rattle.search_arcs.specs.Chain.{Chained, NextArc}
+use Rattle.search_chains.specs.Town.{Town, lawful, tail-node, head-node}
+use Rattle.search_chains.specs.Chain.{Chained, NextArc}
 use Rattle.toward_row.specs.Arcs.{Primed}
 use Rattle.toward_row.specs.Cut.{Cut}
 use Rattle.toward_row.specs.Lower.{entries, offer, Numbers}

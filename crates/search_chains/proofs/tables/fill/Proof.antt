@@ -5,10 +5,10 @@ use Prim.Native.Nat.{_-_, _*_, _≤_, min}
 use native.Mathlib.Omega.{arith}
 use Rattle.file_blocks.specs.Kind.{arcPer}
 use Rattle.file_blocks.specs.Place.{blocks}
-use Rattle.search_arcs.specs.Tables.{Filling, filling-at, filling-none}
+use Rattle.search_chains.specs.Tables.{Filling, filling-at, filling-none}
 use borrow.Author.Needs.{needs}
-use Rattle.search_arcs.proofs.tables.fill.Statement.{statement}
-use Rattle.search_arcs.proofs.tables.fill.Tie as tie
+use Rattle.search_chains.proofs.tables.fill.Statement.{statement}
+use Rattle.search_chains.proofs.tables.fill.Tie as tie
 
 abbrev Inv-loop : tie.InvT-loop
 Inv-loop file l heads₀ starts₀ first₀ next₀ arcs runs sum₀ k₀ heads starts first next sum k =

@@ -3,11 +3,11 @@
 use Prim.Native.Nat.{_+_, _-_, _*_, _≤_, _<_}
 use native.Mathlib.Omega.{arith}
 use Rattle.file_blocks.specs.Kind.{arcPer}
-use Rattle.search_arcs.specs.Town.{tail-node, head-node}
-use Rattle.search_arcs.specs.Tables.{Filling, filling-at, count-held, filling-more}
+use Rattle.search_chains.specs.Town.{tail-node, head-node}
+use Rattle.search_chains.specs.Tables.{Filling, filling-at, count-held, filling-more}
 use borrow.Author.Needs.{needs}
-use Rattle.search_arcs.proofs.tables.fill_block.Statement.{statement}
-use Rattle.search_arcs.proofs.tables.fill_block.Tie as tie
+use Rattle.search_chains.proofs.tables.fill_block.Statement.{statement}
+use Rattle.search_chains.proofs.tables.fill_block.Tie as tie
 
 abbrev Inv-loop : tie.InvT-loop
 Inv-loop file l j m behind heads₀ starts₀ first₀ next₀ sum₀ k₀ heads starts first next sum k =

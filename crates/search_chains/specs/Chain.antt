@@ -13,8 +13,8 @@ use lib.Seq.{getD-set-same, getD-set-other}
 use Rattle.theory_loops.specs.First.{First}
 use Rattle.network.specs.Limits.{mostNodes, mostArcs}
 use Rattle.network.specs.Network.{Network, tail, head}
-use Rattle.search_arcs.specs.declared.chain.End.{End}
-use Rattle.search_arcs.specs.declared.chain.End.the-variants.{Tail, Head}
+use Rattle.search_chains.specs.declared.chain.End.{End}
+use Rattle.search_chains.specs.declared.chain.End.the-variants.{Tail, Head}
 
 -- the node at an end of arc a
 abbrev pub endOf : Network → End → ℕ → ℕ

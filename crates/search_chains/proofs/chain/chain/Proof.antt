@@ -3,10 +3,10 @@
 use Prim.Native.Nat.{_≤_, _-_}
 use Rattle.network.specs.Limits.{mostArcs}
 use Rattle.network.specs.Decode.{decode}
-use Rattle.search_arcs.specs.Chain.{endOf, Chained, chains}
+use Rattle.search_chains.specs.Chain.{endOf, Chained, chains}
 use borrow.Author.Needs.{needs}
-use Rattle.search_arcs.proofs.chain.chain.Statement.{statement}
-use Rattle.search_arcs.proofs.chain.chain.Tie as tie
+use Rattle.search_chains.proofs.chain.chain.Statement.{statement}
+use Rattle.search_chains.proofs.chain.chain.Tie as tie
 
 abbrev Inv-loop : tie.InvT-loop
 Inv-loop file l end first₀ next₀ arcs k₀ first next k =

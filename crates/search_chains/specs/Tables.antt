@@ -14,8 +14,8 @@ use Rattle.network.specs.Limits.{mostArcs}
 use Rattle.network.specs.Network.{Network, tail, head, count, start}
 use Rattle.network.specs.Arcs.{EntryOf}
 use Rattle.network.specs.Decode.{decode}
-use Rattle.search_arcs.specs.Chain.{Chained, Unchained, chain-none, chain-more}
-use Rattle.search_arcs.specs.Town.{Town, tail-node}
+use Rattle.search_chains.specs.Chain.{Chained, Unchained, chain-none, chain-more}
+use Rattle.search_chains.specs.Town.{Town, tail-node}
 
 -- Both tables are as they should be for the arcs from i on.
 pub record Tabled (n : Network) (arcs i : ℕ) (heads starts : List ℕ) : Type 0 where

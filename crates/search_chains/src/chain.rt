@@ -8,8 +8,8 @@ use network::read;
 ghost use mathlib.Core.Path.{_≡_};
 ghost use Prim.Native.Nat.{_<_};
 ghost use Rattle.network.specs.Decode.{decode};
-ghost use Rattle.search_arcs.specs.Town.{Town};
-ghost use Rattle.search_arcs.specs.Chain.{endOf, Chained, Unchained};
+ghost use Rattle.search_chains.specs.Town.{Town};
+ghost use Rattle.search_chains.specs.Chain.{endOf, Chained, Unchained};
 
 // An end of an arc.
 pub enum End {

@@ -13,9 +13,9 @@ ghost use lib.ListN.{length};
 ghost use Rattle.file_blocks.specs.Kind.{arcPer};
 ghost use Rattle.network.specs.Network.{tail};
 ghost use Rattle.network.specs.Decode.{decode};
-ghost use Rattle.search_arcs.specs.Town.{Town};
-ghost use Rattle.search_arcs.specs.Chain.{Chained, Unchained};
-ghost use Rattle.search_arcs.specs.Tables.{Tabled, Filling};
+ghost use Rattle.search_chains.specs.Town.{Town};
+ghost use Rattle.search_chains.specs.Chain.{Chained, Unchained};
+ghost use Rattle.search_chains.specs.Tables.{Tabled, Filling};
 
 // Fills the tables for the m arcs of block j, from the last to the first, after the arcs behind them:
 // `behind` is the points of all arcs before those, and the answer the points of the arcs before the block.

@@ -12,7 +12,7 @@ use Rattle.network.specs.Network.{tail, head}
 use Rattle.network.specs.Decode.{decode, Laid, Sizes, Small, laid-sizes, laid-small}
 use Rattle.network.specs.Sound.{SoundNetwork}
 use Rattle.network.specs.Town.{graphOf, town-lawful}
-use Rattle.search_arcs.specs.Chain.{Unchained, unchained}
+use Rattle.search_chains.specs.Chain.{Unchained, unchained}
 
 -- A sound network file, laid out as its header says.
 pub record Town (file : List ℕ) (l : Layout) : Type 0 where

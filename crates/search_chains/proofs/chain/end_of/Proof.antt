@@ -1,8 +1,8 @@
 -- `search_arcs::chain::end_of` meets its contract: each arm reads the end that it names.
-use Rattle.search_arcs.specs.Town.{town-reads}
+use Rattle.search_chains.specs.Town.{town-reads}
 use borrow.Author.Needs.{needs}
-use Rattle.search_arcs.proofs.chain.end_of.Statement.{statement}
-use Rattle.search_arcs.proofs.chain.end_of.Tie as tie
+use Rattle.search_chains.proofs.chain.end_of.Statement.{statement}
+use Rattle.search_chains.proofs.chain.end_of.Tie as tie
 
 enum-told : tie.Need-enum-told
 enum-told c = search needs
