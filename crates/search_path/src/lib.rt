@@ -4,7 +4,7 @@
 //   answer what a trip answers
 //   path   the chosen path, from the notes that the search left
 // It may call `search_labels` for the labels and notes, `network` for the entries of the file and
-// `file_refusals` to refuse; it cites `search_arcs`, `theory_loops` and `theory_paths`.
+// `file_refusals` to refuse; it cites `search_chains`, `theory_loops` and `theory_paths`.
 use crate::answer::Answer;
 use crate::answer::Arrival;
 use file_refusals::number::NO_WAY;
