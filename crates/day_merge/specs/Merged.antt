@@ -13,7 +13,7 @@ use lib.Dec.{ltb, eqb}
 use lib.Bits.{bitOr, or-zero-r}
 use borrow.Author.Tests.{lt-ltb, le-ltb, eq-eqb, ne-eqb}
 use Rattle.theory_loops.specs.Fill.{Filled, fill-none}
-use Rattle.day_runs.specs.Runs.{Runs}
+use Rattle.day_slopes.specs.Runs.{Runs}
 use Rattle.day_merge.specs.declared.Place.{Place}
 use Rattle.day_walk.specs.Walk.{At, Span, at-end, later}
 

@@ -15,7 +15,7 @@ ghost use mathlib.Core.Path.{_≡_};
 ghost use Prim.Native.Nat.{_+_, _≤_, _<_};
 ghost use lib.ListN.{length, getD};
 ghost use Rattle.theory_loops.specs.Fill.{Filled};
-ghost use Rattle.day_runs.specs.Runs.{Short};
+ghost use Rattle.day_slopes.specs.Runs.{Short};
 ghost use Rattle.day_walk.specs.Walk.{At, Listed};
 ghost use Rattle.day_merge.specs.Merged;
 ghost use Rattle.day_merge.specs.Merged.{Told, Turned, Swept, painted, always};

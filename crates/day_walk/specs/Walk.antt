@@ -9,7 +9,7 @@ use lib.ListN.{length, getD}
 use lib.Dec.{leb}
 use mir.Val.{boolByte}
 use borrow.Author.Tests.{le-leb, lt-leb}
-use Rattle.day_runs.specs.Runs.{Grid, starts-within}
+use Rattle.day_slopes.specs.Runs.{Grid, starts-within}
 
 -- run i holds tick x
 pub record At (starts : List ℕ) (n i x : ℕ) : Type 0 where

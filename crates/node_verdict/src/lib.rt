@@ -27,7 +27,7 @@ ghost use Rattle.plan.specs.PlanDecode.{decodePlan};
 ghost use Rattle.plan_values.specs.Formed.{Formed};
 ghost use Rattle.plan_values.specs.Starts.{Started};
 ghost use Rattle.day_runs.specs.Filling.{Space};
-ghost use Rattle.day_runs.specs.Runs.{Grid};
+ghost use Rattle.day_slopes.specs.Runs.{Grid};
 ghost use Rattle.arc_runs.specs.Brief.{Briefs};
 ghost use Rattle.plan_tests.specs.Checkable.{Checkable};
 ghost use Rattle.plan_tests.specs.Failing.{AtBorder};

@@ -1,6 +1,6 @@
 -- `day_merge::walk::next` meets its contract.
 use native.Mathlib.Omega.{arith}
-use Rattle.day_runs.specs.Runs.{starts-few}
+use Rattle.day_slopes.specs.Runs.{starts-few}
 use Rattle.day_walk.specs.Walk.{reached-most, step-next}
 use borrow.Author.Needs.{needs}
 use Rattle.day_walk.proofs.walk.next.Statement.{statement}

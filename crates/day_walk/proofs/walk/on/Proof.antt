@@ -3,7 +3,7 @@ use Prim.Native.Nat.{_+_, _-_, _≤_, _<_}
 use native.Mathlib.Omega.{arith}
 use lib.ListN.{getD}
 use denote.Ref.{now}
-use Rattle.day_runs.specs.Runs.{starts-few}
+use Rattle.day_slopes.specs.Runs.{starts-few}
 use Rattle.day_walk.specs.Walk.{reached-most, step-on, on-more}
 use borrow.Author.Needs.{needs}
 use Rattle.day_walk.proofs.walk.on.Statement.{statement}

@@ -12,8 +12,8 @@ use lib.ListN.{set}
 use Rattle.theory_travel.specs.Pieces.{lineAt}
 use Rattle.travel_runs.specs.Fixed.{stepUp, floored, climb-floored}
 use Rattle.travel_runs.specs.Runs.{floored-none, rising-run, rising-last, value-first}
-use Rattle.day_runs.specs.Held.{Held, Room, held-start, held-next, held-on}
-use Rattle.day_runs.specs.Places.{floored-apart, floored-short}
+use Rattle.day_slopes.specs.Held.{Held, Room, held-start, held-next, held-on}
+use Rattle.day_slopes.specs.Places.{floored-apart, floored-short}
 
 -- run i of a rising line begins at this tick of it
 unfoldable pub risen : ℕ → ℕ → ℕ → ℕ

@@ -7,8 +7,8 @@ use lib.ListN.{set}
 use Rattle.theory_travel.specs.Pieces.{lineAt}
 use Rattle.travel_runs.specs.Fixed.{stepUp, stepDown}
 use Rattle.travel_runs.specs.Runs.{value-first}
-use Rattle.day_runs.specs.Held.{Added, Held, Room, held-start, held-put, held-next}
-use Rattle.day_runs.specs.Walk.{climbed, sunk, line-climbed, line-sunk}
+use Rattle.day_slopes.specs.Held.{Added, Held, Room, held-start, held-put, held-next}
+use Rattle.day_slopes.specs.Walk.{climbed, sunk, line-climbed, line-sunk}
 
 module _ {s₀ v₀ : List ℕ} {n a b : ℕ} (room : Room s₀ v₀ n a b) where
   module _ (v w start step : ℕ) (begun : start ≡ v * 4294967296 + 4294967295) where

@@ -1,15 +1,15 @@
--- `day_runs::sink` meets its contract.
+-- `day_runs::slopes::sink` meets its contract.
 use native.Mathlib.Nat.{le-of-lt}
 use mathlib.Core.Path.{_≡_, refl}
 use Prim.Native.Nat.{_+_, _-_, _*_, _≤_, _<_}
 use native.Mathlib.Omega.{arith}
 use Rattle.theory_travel.specs.Pieces.{lineAt}
-use Rattle.day_runs.specs.Walk.{sink-may, sinking, sink-next, sink-fits, sink-entry, walks}
-use Rattle.day_runs.specs.Held.{Held, held-room}
-use Rattle.day_runs.specs.Steep.{steep-start, sink-more, sink-last}
+use Rattle.day_slopes.specs.Walk.{sink-may, sinking, sink-next, sink-fits, sink-entry, walks}
+use Rattle.day_slopes.specs.Held.{Held, held-room}
+use Rattle.day_slopes.specs.Steep.{steep-start, sink-more, sink-last}
 use borrow.Author.Needs.{needs}
-use Rattle.day_runs.proofs.sink.Statement.{statement}
-use Rattle.day_runs.proofs.sink.Tie as tie
+use Rattle.day_slopes.proofs.slopes.sink.Statement.{statement}
+use Rattle.day_slopes.proofs.slopes.sink.Tie as tie
 
 abbrev Inv-loop : tie.InvT-loop
 Inv-loop starts₀ values₀ n a v b w start step last parts₀ x₀ starts values parts x =

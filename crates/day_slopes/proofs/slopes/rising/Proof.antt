@@ -1,14 +1,14 @@
--- `day_runs::rising` meets its contract.
+-- `day_runs::slopes::rising` meets its contract.
 use mathlib.Core.Path.{_≡_}
 use Prim.Native.Nat.{_+_, _-_, _*_, _≤_}
 use native.Mathlib.Omega.{arith}
 use Rattle.theory_travel.specs.Pieces.{lineAt}
-use Rattle.day_runs.specs.Held.{Held, held-room}
-use Rattle.day_runs.specs.Rising.{risen, rise-start, rise-fits, rise-below, rise-within, rise-more}
-use Rattle.day_runs.specs.Rising.{rise-end}
+use Rattle.day_slopes.specs.Held.{Held, held-room}
+use Rattle.day_slopes.specs.Rising.{risen, rise-start, rise-fits, rise-below, rise-within, rise-more}
+use Rattle.day_slopes.specs.Rising.{rise-end}
 use borrow.Author.Needs.{needs}
-use Rattle.day_runs.proofs.rising.Statement.{statement}
-use Rattle.day_runs.proofs.rising.Tie as tie
+use Rattle.day_slopes.proofs.slopes.rising.Statement.{statement}
+use Rattle.day_slopes.proofs.slopes.rising.Tie as tie
 
 abbrev Inv-loop : tie.InvT-loop
 Inv-loop starts₀ values₀ n a v b w rise step parts₀ j₀ starts values parts j =

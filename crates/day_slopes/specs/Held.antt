@@ -8,7 +8,7 @@ use native.Mathlib.Omega.{arith}
 use lib.ListN.{length, getD, set, length-set}
 use Rattle.theory_travel.specs.Pieces.{lineAt}
 use Rattle.travel_runs.specs.Runs.{value-first, value-flat}
-use Rattle.day_runs.specs.Runs.{Runs, Pending, runs-open, runs-on, runs-close, runs-few, starts-few}
+use Rattle.day_slopes.specs.Runs.{Runs, Pending, runs-open, runs-on, runs-close, runs-few, starts-few}
 
 -- After n runs, which may leave one of value q open at tick a, m are there up to tick b: those of g from a
 -- on. Whatever f the n runs were of, the m are of it.

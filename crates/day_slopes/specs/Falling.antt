@@ -10,8 +10,8 @@ use lib.ListN.{set}
 use Rattle.theory_travel.specs.Pieces.{lineAt}
 use Rattle.travel_runs.specs.Fixed.{stepDown, ceiled, climb-ceiled}
 use Rattle.travel_runs.specs.Runs.{ceiled-none, ceiled-most, ceiled-all, falling-value}
-use Rattle.day_runs.specs.Held.{Added, Held, Room, held-start, held-put, held-next}
-use Rattle.day_runs.specs.Places.{ceiled-apart}
+use Rattle.day_slopes.specs.Held.{Added, Held, Room, held-start, held-put, held-next}
+use Rattle.day_slopes.specs.Places.{ceiled-apart}
 
 module _ {s₀ v₀ : List ℕ} {n a b : ℕ} (room : Room s₀ v₀ n a b) where
   module _ (v w step : ℕ) (h : w < v) (less : v - w < b - a) (is : step ≡ stepDown (b - a) (v - w)) where

@@ -1,14 +1,14 @@
--- `day_runs::falling` meets its contract.
+-- `day_runs::slopes::falling` meets its contract.
 use mathlib.Core.Path.{_≡_}
 use Prim.Native.Nat.{_+_, _-_, _*_, _≤_}
 use native.Mathlib.Omega.{arith}
 use Rattle.travel_runs.specs.Fixed.{ceiled}
 use Rattle.theory_travel.specs.Pieces.{lineAt}
-use Rattle.day_runs.specs.Held.{Held, held-room}
-use Rattle.day_runs.specs.Falling.{fall-start, fall-fits, fall-below, fall-within, fall-more, fall-end}
+use Rattle.day_slopes.specs.Held.{Held, held-room}
+use Rattle.day_slopes.specs.Falling.{fall-start, fall-fits, fall-below, fall-within, fall-more, fall-end}
 use borrow.Author.Needs.{needs}
-use Rattle.day_runs.proofs.falling.Statement.{statement}
-use Rattle.day_runs.proofs.falling.Tie as tie
+use Rattle.day_slopes.proofs.slopes.falling.Statement.{statement}
+use Rattle.day_slopes.proofs.slopes.falling.Tie as tie
 
 abbrev Inv-loop : tie.InvT-loop
 Inv-loop starts₀ values₀ n a v b w fall last step parts₀ j₀ starts values parts j =
