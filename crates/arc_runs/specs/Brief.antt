@@ -9,7 +9,7 @@ use lib.ListN.{length, getD, set, length-set}
 use lib.Seq.{getD-set-same, getD-set-other}
 use Rattle.network.specs.Network.{Network, start}
 use Rattle.network.specs.Town.{travelAt}
-use Rattle.day_runs.specs.Runs.{Runs, Short, runs-none, runs-put}
+use Rattle.day_slopes.specs.Runs.{Runs, Short, runs-none, runs-put}
 use Rattle.day_runs.specs.Bounds.{Floor, Ceiling}
 
 -- THE BYTE b of a travel f

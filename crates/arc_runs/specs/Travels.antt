@@ -11,9 +11,9 @@ use Rattle.network.specs.declared.header.Layout.{Layout}
 use Rattle.network.specs.Network.{count, start}
 use Rattle.network.specs.Decode.{decode}
 use Rattle.network.specs.Town.{travelAt, town-bounded}
-use Rattle.search_arcs.specs.Town.{Town}
+use Rattle.search_chains.specs.Town.{Town}
 use Rattle.search_arcs.specs.Times.{arc-points, arc-day}
-use Rattle.day_runs.specs.Runs.{Runs, Short, runs-copied, runs-all}
+use Rattle.day_slopes.specs.Runs.{Runs, Short, runs-copied, runs-all}
 use Rattle.day_runs.specs.Bounds.{Least, Most, Floor, Ceiling, least-day, most-day}
 
 -- the entries of a list as a function

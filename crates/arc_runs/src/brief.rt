@@ -14,8 +14,8 @@ ghost use lib.ListN.{length, getD, set};
 ghost use Rattle.network.specs.Network;
 ghost use Rattle.network.specs.Decode.{decode};
 ghost use Rattle.network.specs.Town.{travelAt};
-ghost use Rattle.search_arcs.specs.Town.{Town};
-ghost use Rattle.day_runs.specs.Runs.{Runs, Short};
+ghost use Rattle.search_chains.specs.Town.{Town};
+ghost use Rattle.day_slopes.specs.Runs.{Runs, Short};
 ghost use Rattle.day_runs.specs.Filling.{Space};
 ghost use Rattle.arc_runs.specs.Brief.{Brief, Briefs, Pointed, Between};
 

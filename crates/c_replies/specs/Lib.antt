@@ -1,3 +1,2 @@
--- How answers stand in lent memory (Reply), and the laws for the code that writes them (Writing).
-pub mod Reply
-pub mod Writing
+-- Laws for the code that writes answers in numbers (Numbers).
+pub mod Numbers

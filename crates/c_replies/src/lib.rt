@@ -1,7 +1,4 @@
-// c_replies: how an answer stands in the memory that C lends, and nothing else.
-//   trip      the tablet's answer to a trip, in bytes
-//   numbers   the desk's answers, in numbers
-// It may call `file_fields` for fields, and names what `network`, `plan_check`, `search_path`, `trip_call`
-// and operations that write files or fill lists (`file_refusals`) answer.
+// c_replies: how the desk's answers stand in the numbers that C lends.
+// It names what `network`, `plan_check`, `search_path`, `trip_call` and operations that write files or fill
+// lists (`file_refusals`) answer, and cites `c_trip`.
 pub mod numbers;
-pub mod trip;

@@ -1,4 +1,2 @@
--- What an arc gives, held against a node's own profile: the walk over three lists of runs (Walk), and what it
--- leaves (Merged).
-pub mod Walk
+-- What a merge of three lists of runs leaves (Merged).
 pub mod Merged

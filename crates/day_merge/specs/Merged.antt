@@ -13,9 +13,9 @@ use lib.Dec.{ltb, eqb}
 use lib.Bits.{bitOr, or-zero-r}
 use borrow.Author.Tests.{lt-ltb, le-ltb, eq-eqb, ne-eqb}
 use Rattle.theory_loops.specs.Fill.{Filled, fill-none}
-use Rattle.day_runs.specs.Runs.{Runs}
+use Rattle.day_slopes.specs.Runs.{Runs}
 use Rattle.day_merge.specs.declared.Place.{Place}
-use Rattle.day_merge.specs.Walk.{At, Span, at-end, later}
+use Rattle.day_walk.specs.Walk.{At, Span, at-end, later}
 
 -- what an arc with travel w gives at tick x, where h is its head's profile
 unfoldable pub giving : (ℕ → ℕ) → (ℕ → ℕ) → ℕ → ℕ → ℕ

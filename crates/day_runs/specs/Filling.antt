@@ -8,8 +8,8 @@ use native.Mathlib.Omega.{arith}
 use lib.ListN.{length, getD}
 use Rattle.theory_travel.specs.Day.{Day, dayValue}
 use Rattle.theory_travel.specs.Pieces.{lineAt, tick-first, tick-below, tick-rises, piece-next, piece-last}
-use Rattle.day_runs.specs.Runs.{Runs, Pending, runs-none, runs-open, runs-few}
-use Rattle.day_runs.specs.Held.{Added, Held, Room, Leading}
+use Rattle.day_slopes.specs.Runs.{Runs, Pending, runs-none, runs-open, runs-few}
+use Rattle.day_slopes.specs.Held.{Added, Held, Room, Leading}
 
 -- lists with room for the runs of any day of this period
 pub record Space (starts values : List ℕ) (period : ℕ) : Type 0 where

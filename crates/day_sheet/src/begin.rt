@@ -5,9 +5,9 @@ use file_refusals::number::WORK_SHORT;
 use network::answer::Opening;
 use network::answer::refused;
 use network::header::Header;
-use network_open::validate::validate;
+use network_validate::validate::validate;
 ghost use mathlib.Core.Path.{_≡_};
-ghost use Rattle.day_sheet.specs.Sheet.{sheetAsked, sheetBegin};
+ghost use Rattle.day_arrivals.specs.Sheet.{sheetAsked, sheetBegin};
 
 // The header again, where the two places, the work list and the list will do.
 fn ask_sheet(h: Header, from: u32, to: u32, work: usize, list: usize) -> Opening

@@ -11,13 +11,13 @@ use network::limits::MOST_ARCS;
 use network::limits::MOST_NODES;
 use network::limits::MOST_PERIOD;
 use network::limits::NEVER;
-use search_arcs::chain;
-use search_arcs::chain::End;
 use search_arcs::times;
+use search_chains::chain;
+use search_chains::chain::End;
+use toward_list::leasts::least_of_arcs;
+use toward_list::rows::row_place;
+use toward_list::work::zero;
 use toward_node::least_travels_from;
-use toward_node::leasts::least_of_arcs;
-use toward_node::row_place;
-use toward_node::work::zero;
 ghost use mathlib.Core.Path.{_≡_};
 ghost use Prim.Native.Nat.{_+_, _*_, _≤_, _<_};
 ghost use lib.ListN.{length};
@@ -26,10 +26,10 @@ ghost use Rattle.network.specs.declared.answer.Opening.the-variants.{Opened};
 ghost use Rattle.network.specs.Decode.{decode};
 ghost use Rattle.network.specs.Town.{graphOf};
 ghost use Rattle.network.specs.Valid.{ValidFile};
-ghost use Rattle.search_arcs.specs.Town.{Town};
-ghost use Rattle.toward_node.specs.Rows.{WorkedRow};
-ghost use Rattle.day_sheet.specs.Sheet.{SheetCall, DaySheet};
-ghost use Rattle.day_sheet.specs.Sheeting.{Asked, EarlyRow, Lists, arrivalIn};
+ghost use Rattle.search_chains.specs.Town.{Town};
+ghost use Rattle.toward_list.specs.Rows.{WorkedRow};
+ghost use Rattle.day_arrivals.specs.Sheet.{SheetCall, DaySheet};
+ghost use Rattle.day_arrivals.specs.Sheeting.{Asked, EarlyRow, Lists, arrivalIn};
 
 // The least travels from a node to another, at every tick, in the row of the first.
 fn travels_to(file: &[u8], l: Layout, from: usize, to: usize, work: &mut [u32])

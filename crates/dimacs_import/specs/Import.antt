@@ -11,12 +11,12 @@ use Rattle.file_refusals.specs.Writing.{writtenInto, Writes}
 use Rattle.network.specs.Limits.{mostPeriod}
 use Rattle.network.specs.Network.{Network}
 use Rattle.network_encode.specs.Encode.{encode}
-use Rattle.text_numbers.specs.Lines.{linesOf}
+use Rattle.text_lines.specs.Lines.{linesOf}
 use Rattle.dimacs_line.specs.declared.line.Sizes.{Sizes}
 use Rattle.dimacs_line.specs.declared.line.Arc.{Arc}
-use Rattle.dimacs_text.specs.declared.judge.Judgement.{Judgement}
-use Rattle.dimacs_text.specs.declared.judge.Judgement.the-variants.{Accepted, Refused as Rejected}
-use Rattle.dimacs_text.specs.Reading.{judging}
+use Rattle.dimacs_reading.specs.declared.verdict.Judgement.{Judgement}
+use Rattle.dimacs_reading.specs.declared.verdict.Judgement.the-variants.{Accepted, Refused as Rejected}
+use Rattle.dimacs_reading.specs.Reading.{judging}
 use Rattle.dimacs_text.specs.Arcs.{arcsOf}
 
 -- so many nodes, all in cell 0 and open all day, with no hours held; each arc once, in order, its ends

@@ -7,17 +7,17 @@ use native.Mathlib.Omega.{arith}
 use lib.ListN.{length, getD, replicate, length-map, length-replicate, getD-replicate, List·getD-map}
 use lib.ListN.{List·getD-eq-default}
 use lib.Dec.{lit≤}
-use Rattle.text_numbers.specs.Lines.{linesOf}
+use Rattle.text_lines.specs.Lines.{linesOf}
 use Rattle.network.specs.declared.header.Header.{Header}
 use Rattle.network.specs.Limits.{mostPeriod, WithinLimits}
 use Rattle.network.specs.Network.{cell, tail, head, count, tick, travel}
 use Rattle.network_encode.specs.Encode.{headerOf}
 use Rattle.dimacs_line.specs.declared.line.Sizes.{Sizes}
 use Rattle.dimacs_line.specs.declared.line.Arc.{Arc}
-use Rattle.dimacs_text.specs.declared.judge.Judgement.the-variants.{Accepted}
-use Rattle.dimacs_text.specs.Reading.{judging}
-use Rattle.dimacs_text.specs.Accepted.{Within}
-use Rattle.dimacs_text.specs.AcceptedExact.{accepted-exactly}
+use Rattle.dimacs_reading.specs.declared.verdict.Judgement.the-variants.{Accepted}
+use Rattle.dimacs_reading.specs.Reading.{judging}
+use Rattle.dimacs_reading.specs.Accepted.{Within}
+use Rattle.dimacs_reading.specs.AcceptedExact.{accepted-exactly}
 use Rattle.dimacs_text.specs.Arcs.{arcsOf, arcAt, nowhere, Fit, text-arcs, text-fit}
 use Rattle.dimacs_import.specs.Import.{networkBy}
 

@@ -32,15 +32,15 @@ use Rattle.network.specs.Validate.{validated}
 use Rattle.network_open.specs.Open.{tooShort, tablesAfter, OpenCall}
 use Rattle.network_encode.specs.Encode.{headerOf, encode}
 use Rattle.network_pack.specs.RoundTrip.{decode-encode, encode-valid}
-use Rattle.text_numbers.specs.Lines.{linesOf}
+use Rattle.text_lines.specs.Lines.{linesOf}
 use Rattle.dimacs_line.specs.declared.line.Sizes.{Sizes}
 use Rattle.dimacs_line.specs.declared.line.Arc.{Arc}
-use Rattle.dimacs_text.specs.declared.judge.Judgement.{Judgement}
-use Rattle.dimacs_text.specs.declared.judge.Judgement.the-variants.{Accepted, Refused as Rejected}
-use Rattle.dimacs_text.specs.declared.reading.Reading.{Reading}
-use Rattle.dimacs_text.specs.Reading.{begun, readAll, unfinished, judged, judging}
-use Rattle.dimacs_text.specs.Accepted.{RoadText}
-use Rattle.dimacs_text.specs.AcceptedExact.{accepted-exactly}
+use Rattle.dimacs_reading.specs.declared.verdict.Judgement.{Judgement}
+use Rattle.dimacs_reading.specs.declared.verdict.Judgement.the-variants.{Accepted, Refused as Rejected}
+use Rattle.dimacs_reading.specs.declared.reading.Reading.{Reading}
+use Rattle.dimacs_reading.specs.Reading.{begun, readAll, unfinished, judged, judging}
+use Rattle.dimacs_reading.specs.Accepted.{RoadText}
+use Rattle.dimacs_reading.specs.AcceptedExact.{accepted-exactly}
 use Rattle.dimacs_text.specs.Arcs.{arcAt, Fit, text-arcs, text-fit}
 use Rattle.dimacs_import.specs.Import.{networkBy, imported, importedFile, answerBy, importing}
 use Rattle.dimacs_import.specs.Import.{ImportCall}

@@ -11,7 +11,7 @@ use Rattle.file_fields.specs.Block.{blockSize}
 use Rattle.file_refusals.specs.declared.writing.Writing.{Writing}
 use Rattle.file_refusals.specs.declared.writing.Writing.the-variants.{Written}
 use Rattle.file_refusals.specs.Writing.{unwritten, writtenInto, Writes, into-short, into-whole}
-use Rattle.text_numbers.specs.Lines.{linesOf}
+use Rattle.text_lines.specs.Lines.{linesOf}
 use Rattle.network.specs.declared.header.Layout.{Layout}
 use Rattle.network.specs.Limits.{mostNodes, mostArcs, mostPeriod}
 use Rattle.network.specs.Layout.{layoutOf, layout-blocks, mostBlocks}
@@ -23,11 +23,11 @@ use Rattle.network_encode.specs.Packable.{Packable}
 use Rattle.network_pack.specs.Proper.{packed-long}
 use Rattle.dimacs_line.specs.declared.line.Sizes.{Sizes}
 use Rattle.dimacs_line.specs.declared.line.Arc.{Arc}
-use Rattle.dimacs_text.specs.Accepted.{Within}
+use Rattle.dimacs_reading.specs.Accepted.{Within}
 use Rattle.dimacs_text.specs.Arcs.{arcsOf, arcAt, Fit}
-use Rattle.dimacs_text.specs.declared.judge.Judgement.{Judgement}
-use Rattle.dimacs_text.specs.declared.judge.Judgement.the-variants.{Accepted}
-use Rattle.dimacs_text.specs.Reading.{judging}
+use Rattle.dimacs_reading.specs.declared.verdict.Judgement.{Judgement}
+use Rattle.dimacs_reading.specs.declared.verdict.Judgement.the-variants.{Accepted}
+use Rattle.dimacs_reading.specs.Reading.{judging}
 use Rattle.dimacs_text.specs.Noting.{lowered, shortened, tailOf, headOf, travelOf, TablesLong, Column, Noted}
 use Rattle.dimacs_text.specs.Noting.{JudgedInto}
 use Rattle.dimacs_import.specs.Import.{networkBy, ImportCall, import-accepted}

@@ -1,6 +1,6 @@
 // Import: refusals 35 and 36, then 31, or the network of the text written.
 use dimacs_line::line::Sizes;
-use dimacs_text::judge::Judgement;
+use dimacs_reading::verdict::Judgement;
 use dimacs_text::judge::judge;
 use file_fields::BLOCK;
 use file_refusals::number;
@@ -22,7 +22,7 @@ ghost use Rattle.file_refusals.specs.Writing.{writtenInto, Writes};
 ghost use Rattle.network.specs.Tables.{networkOf};
 ghost use Rattle.network_encode.specs.Encode.{encode};
 ghost use Rattle.network_encode.specs.Packable.{Packable};
-ghost use Rattle.dimacs_text.specs.Accepted.{Within};
+ghost use Rattle.dimacs_reading.specs.Accepted.{Within};
 ghost use Rattle.dimacs_text.specs.Noting.{TablesLong};
 ghost use Rattle.dimacs_import.specs.Import.{ImportCall};
 ghost use Rattle.dimacs_import.specs.Roads.{roadTables, roadsFile};

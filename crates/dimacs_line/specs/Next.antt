@@ -10,7 +10,7 @@ use native.Mathlib.Omega.{arith}
 use lib.ListN.{length, getD}
 use lib.Dec.{eqb}
 use borrow.Author.Tests.{eqb-true}
-use Rattle.text_numbers.specs.Lines.{Unended, LineTo, unended-join, unended-byte}
+use Rattle.text_lines.specs.Lines.{Unended, LineTo, unended-join, unended-byte}
 use Rattle.text_numbers.specs.Spaced.{Spaced, one, more}
 use Rattle.text_numbers.specs.Digits.{part, DigitsAt, part-split, part-first, digits-numeral, digits-unended}
 use Rattle.dimacs_line.specs.declared.line.Arc.{Arc}

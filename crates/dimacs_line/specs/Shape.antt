@@ -11,10 +11,10 @@ use lib.ListN.{length, getD, take, drop, length-drop}
 use lib.Seq.{take-all}
 use lib.Dec.{eqb}
 use borrow.Author.Tests.{eq-eqb, ne-eqb}
-use Rattle.text_numbers.specs.declared.spaced.Scan.{Scan}
+use Rattle.text_spaced.specs.declared.spaced.Scan.{Scan}
 use Rattle.text_numbers.specs.Text.{ascii}
 use Rattle.text_numbers.specs.Spaced.{Spaced}
-use Rattle.text_numbers.specs.Scanning.{fresh, scannedAll, whole}
+use Rattle.text_spaced.specs.Scanning.{fresh, scannedAll, whole}
 use Rattle.dimacs_line.specs.declared.line.Sizes.{Sizes}
 use Rattle.dimacs_line.specs.declared.line.Arc.{Arc}
 use Rattle.dimacs_line.specs.declared.line.Shape.{Shape}

@@ -8,11 +8,11 @@ use native.Mathlib.Omega.{arith}
 use lib.ListN.{length, drop}
 use lib.Dec.{eqb}
 use borrow.Author.Tests.{lt-ltb, eqb-true}
-use Rattle.text_numbers.specs.declared.spaced.Scan.{Scan}
+use Rattle.text_spaced.specs.declared.spaced.Scan.{Scan}
 use Rattle.text_numbers.specs.Text.{ascii}
 use Rattle.text_numbers.specs.Spaced.{Spaced}
-use Rattle.text_numbers.specs.Scanning.{fresh, scannedAll, whole}
-use Rattle.text_numbers.specs.SpacedExact.{scanned-spaced, two-values, three-values, two-read, three-read}
+use Rattle.text_spaced.specs.Scanning.{fresh, scannedAll, whole}
+use Rattle.text_spaced.specs.SpacedExact.{scanned-spaced, two-values, three-values, two-read, three-read}
 use Rattle.dimacs_line.specs.declared.line.Sizes.{Sizes}
 use Rattle.dimacs_line.specs.declared.line.Arc.{Arc}
 use Rattle.dimacs_line.specs.declared.line.Shape.{Shape}

@@ -1,7 +1,7 @@
 // A line of a road file: a remark, the sizes, an arc, or of no such shape.
-use text_numbers::spaced::Scan;
-use text_numbers::spaced::is_whole;
-use text_numbers::spaced::scan_line;
+use text_spaced::spaced::Scan;
+use text_spaced::spaced::is_whole;
+use text_spaced::spaced::scan_line;
 ghost use mathlib.Core.Path.{_≡_};
 ghost use Rattle.dimacs_line.specs.Shape.{startsWith, arcShape, sizesShape, shapeOf};
 

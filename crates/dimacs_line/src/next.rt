@@ -3,8 +3,8 @@
 use crate::line::Arc;
 use crate::line::Shape;
 use crate::line::shape_of;
+use text_lines::lines::line_end;
 use text_numbers::digits::number_at;
-use text_numbers::lines::line_end;
 ghost use mathlib.Core.Path.{_≡_};
 ghost use mathlib.Core.Bool.{true};
 ghost use Prim.Native.Nat.{_≤_, _<_};

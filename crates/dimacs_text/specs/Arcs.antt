@@ -12,8 +12,8 @@ use Rattle.dimacs_line.specs.declared.line.Shape.the-variants.{Remark, Other}
 use Rattle.dimacs_line.specs.declared.line.Shape.the-variants.{Sizes as SizesLine, Arc as ArcLine}
 use Rattle.dimacs_line.specs.Shape.{shapeOf}
 use Rattle.dimacs_line.specs.ShapeExact.{remark-exactly, sizes-exactly, arc-exactly}
-use Rattle.dimacs_text.specs.Accepted.{Within, Fitting, ArcLines, none, remark, arc, RoadText}
-use Rattle.dimacs_text.specs.Accepted.{remark-first, sizes}
+use Rattle.dimacs_reading.specs.Accepted.{Within, Fitting, ArcLines, none, remark, arc, RoadText}
+use Rattle.dimacs_reading.specs.Accepted.{remark-first, sizes}
 
 -- the arcs of one line more, and of all lines
 abbrev pub arcFirst : Shape → List Arc → List Arc

@@ -13,7 +13,7 @@ use borrow.Author.Tests.{leb-false, ltb-false}
 use Rattle.theory_loops.specs.Pick.{or-passed}
 use Rattle.file_refusals.specs.declared.Refusal.{Refusal}
 use Rattle.network.specs.Limits.{mostArcs}
-use Rattle.text_numbers.specs.Lines.{linesOf, next-line}
+use Rattle.text_lines.specs.Lines.{linesOf, next-line}
 use Rattle.dimacs_line.specs.declared.line.Sizes.{Sizes}
 use Rattle.dimacs_line.specs.declared.line.Arc.{Arc}
 use Rattle.dimacs_line.specs.declared.line.Shape.{Shape}
@@ -21,12 +21,12 @@ use Rattle.dimacs_line.specs.declared.line.Shape.the-variants.{Remark, Other}
 use Rattle.dimacs_line.specs.declared.line.Shape.the-variants.{Sizes as SizesLine, Arc as ArcLine}
 use Rattle.dimacs_line.specs.declared.next.Line.{Line}
 use Rattle.dimacs_line.specs.Next.{NextLine}
-use Rattle.dimacs_text.specs.declared.reading.Reading.{Reading}
-use Rattle.dimacs_text.specs.declared.judge.Judgement.{Judgement}
-use Rattle.dimacs_text.specs.declared.judge.Judgement.the-variants.{Accepted, Refused}
-use Rattle.dimacs_text.specs.Reading.{begun, passedBy, sizedBy, arcBy, stepped, unfinished, judged}
-use Rattle.dimacs_text.specs.Reading.{readAll, judging}
-use Rattle.dimacs_text.specs.AcceptedExact.{refused-only}
+use Rattle.dimacs_reading.specs.declared.reading.Reading.{Reading}
+use Rattle.dimacs_reading.specs.declared.verdict.Judgement.{Judgement}
+use Rattle.dimacs_reading.specs.declared.verdict.Judgement.the-variants.{Accepted, Refused}
+use Rattle.dimacs_reading.specs.Reading.{begun, passedBy, sizedBy, arcBy, stepped, unfinished, judged}
+use Rattle.dimacs_reading.specs.Reading.{readAll, judging}
+use Rattle.dimacs_reading.specs.AcceptedExact.{refused-only}
 use Rattle.dimacs_text.specs.Arcs.{arcFirst, arcsOf, arcAt, nowhere}
 
 -- an end lowered by one, and a weight, in 16 bits; and so an arc's three entries

@@ -1,61 +1,18 @@
 // The whole text of a road file, line by line: refusal 35 where its form or order is wrong, 36 where a size,
 // an end or a weight is; else its sizes, with its arcs noted.
 use crate::noting::note_line;
-use crate::reading::Reading;
-use crate::reading::begun;
-use crate::reading::step;
-use dimacs_line::line::Sizes;
 use dimacs_line::next::next_line;
-use file_refusals::Refusal;
-use file_refusals::number;
-use file_refusals::refuse;
+use dimacs_reading::reading::Reading;
+use dimacs_reading::reading::begun;
+use dimacs_reading::reading::step;
+use dimacs_reading::verdict::Judgement;
+use dimacs_reading::verdict::judged;
 use network::limits::MOST_ARCS;
 ghost use mathlib.Core.Path.{_≡_};
-ghost use Rattle.text_numbers.specs.Lines.{linesOf};
-ghost use Rattle.dimacs_text.specs.Reading as readings;
-ghost use Rattle.dimacs_text.specs.Reading.{readAll, tellable, unfinished};
+ghost use Rattle.text_lines.specs.Lines.{linesOf};
+ghost use Rattle.dimacs_reading.specs.Reading as readings;
+ghost use Rattle.dimacs_reading.specs.Reading.{readAll};
 ghost use Rattle.dimacs_text.specs.Noting.{TablesLong, ReadInto, JudgedInto};
-
-pub enum Judgement {
-    Accepted(Sizes),
-    Refused(Refusal),
-}
-
-// The greatest number of a line that can be told.
-const MOST_TOLD: usize = 4294967295;
-
-// The number of a line, as it is told.
-fn told(line: usize) -> u32
-    ensures { λ r. ⌜ r ≡ tellable line ⌝ }
-{
-    if line < MOST_TOLD {
-        return line as u32;
-    }
-    MOST_TOLD as u32
-}
-
-// Was the last line refused, or are the sizes or arcs missing?
-fn is_unfinished(r: Reading) -> bool
-    ensures { λ s. ⌜ s ≡ unfinished r ⌝ }
-{
-    r.stopped || (!r.sized || r.seen < r.arcs)
-}
-
-// The judgement of the lines that have been read.
-fn judged(r: Reading) -> Judgement
-    ensures { λ s. ⌜ s ≡ readings.judged r ⌝ }
-{
-    if is_unfinished(r) {
-        return Judgement::Refused(refuse(number::TEXT_FORM, told(r.lines)));
-    }
-    if r.wrong != 0 {
-        return Judgement::Refused(refuse(number::TEXT_VALUE, told(r.wrong)));
-    }
-    Judgement::Accepted(Sizes {
-        nodes: r.nodes,
-        arcs: r.arcs,
-    })
-}
 
 // All lines of a text, up to one that is refused, with their arcs noted.
 fn read(

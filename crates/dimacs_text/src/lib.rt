@@ -1,10 +1,7 @@
-// dimacs_text: the text of a DIMACS road file, judged line by line: refusals 35 and 36, or its sizes.
-//   reading  what the lines so far come to
+// dimacs_text: the text of a DIMACS road file, judged in one reading, with its arcs noted in tables.
 //   noting   its arcs, in tables
 //   judge    the whole text
-// It may call `text_numbers` for where a line ends and `dimacs_line` for its shape; it cites the limits of
-// `network`. Which texts are accepted is said in specs/Accepted.antt, and that it is exactly these
-// (`accepted-exactly`).
+// It may call `dimacs_line` for the next line and its shape and `dimacs_reading` for what the lines come to;
+// it cites `text_lines`, and the limits of `network`.
 pub mod judge;
 pub mod noting;
-pub mod reading;

@@ -19,7 +19,7 @@ use print::say;
 use search_path::answer::Answer;
 use town::LONG;
 use trip::flagged::flagged_trip;
-use trip::plain::plain_trip;
+use trip_plain::plain::plain_trip;
 ghost use mathlib.Core.Path.{_≡_};
 ghost use Rattle.example_program.specs.Road.{roadTravel};
 

@@ -70,13 +70,13 @@ use Rattle.text_numbers.specs.Text.{ascii}
 use Rattle.text_numbers.specs.Number.{decimal, digitsOf}
 use Rattle.sheet_line.specs.declared.line.Line.{Line}
 use Rattle.sheet_line.specs.declared.line.Line.the-variants.{Asks, Other}
-use Rattle.text_numbers.specs.Fold.{folded}
-use Rattle.text_numbers.specs.Scanning.{scanned, spaceScanned, digitScanned, whole}
+use Rattle.text_spaced.specs.Fold.{folded}
+use Rattle.text_spaced.specs.Scanning.{scanned, spaceScanned, digitScanned, whole}
 use Rattle.sheet_line.specs.Line.{ended}
 use Rattle.sheet_text.specs.Numbers.{spaced}
 use Rattle.sheet_text.specs.Head.{most, headText, verdictText, isAccepted, reads}
 use Rattle.sheet_text.specs.TripText.{lineText, tripText, tripOf, pathFor, askingText, answerText}
-use Rattle.text_numbers.specs.Lines.{linesOf, linesFrom}
+use Rattle.text_lines.specs.Lines.{linesOf, linesFrom}
 use Rattle.sheet.specs.Reading.{textsOf}
 use Rattle.sheet.specs.Sheet.{sheetText}
 use Rattle.example_theorem.specs.Files.{networkFile, planFile}

@@ -3,6 +3,7 @@ pub mod Kind
 pub mod Place
 pub mod Laid
 pub mod Table
+pub mod Pairs
 pub mod Walk
 pub mod Form
 pub mod Read

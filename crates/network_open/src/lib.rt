@@ -1,7 +1,5 @@
-// network_open: whether a file is a network's, and Open.
-//   validate  refusals 1 to 10 and 37
-//   open      the tables of a file, written into lent tables
-// It may call `file_fields`, `file_blocks`, `network` and `network_rules`, and cites `theory_loops`. Files
-// are read in place, and nothing is copied but into lent tables.
+// network_open: Open: the tables of a network's file, written into lent tables.
+//   open  refusal 30 after those of validation, or the eight tables written
+// It may call `network_validate` to validate the file, and `file_blocks` and `network` to read it, and cites
+// `theory_loops`. Nothing is written where something is refused.
 pub mod open;
-pub mod validate;

@@ -1,6 +1,6 @@
 // Open: the tables of a network file, written into lent tables once nothing is refused.
-use crate::validate::validate;
 use file_blocks::kind;
+use file_blocks::pairs::decode_pairs;
 use file_blocks::place::decode16;
 use file_refusals::number;
 use network::answer::Opening;
@@ -9,6 +9,7 @@ use network::header::Header;
 use network::header::Layout;
 use network::node::node_per;
 use network::node::node_size;
+use network_validate::validate::validate;
 ghost use mathlib.Core.Path.{_≡_};
 ghost use Prim.Native.Nat.{_≤_};
 ghost use lib.ListN.{length};
@@ -154,22 +155,12 @@ fn write_points(file: &[u8], l: Layout, ticks: &mut [u16], travels: &mut [u16])
         × (now (travels .exit) ≡ overwritten (decode (now (file .entry)) .travels) (now (travels .entry)))
         ⌝ }
 {
-    decode16(
+    decode_pairs(
         file,
         l.pointblock,
         kind::POINT_PER,
-        kind::POINT_SIZE,
-        0,
         l.points,
         ticks,
-    );
-    decode16(
-        file,
-        l.pointblock,
-        kind::POINT_PER,
-        kind::POINT_SIZE,
-        2,
-        l.points,
         travels,
     );
 }

@@ -9,14 +9,14 @@ use Rattle.theory_loops.specs.Pick.{at-first, past-first}
 use Rattle.file_refusals.specs.declared.Judged.{Judged}
 use Rattle.file_refusals.specs.declared.Judged.the-variants.{Sound}
 use Rattle.network.specs.declared.header.Layout.{Layout}
-use Rattle.network_rules.specs.declared.rules.Scan.{Scan}
+use Rattle.network_scan.specs.declared.scan.Scan.{Scan}
 use Rattle.network.specs.Network.{Network, nodes, arcs, points, start}
 use Rattle.network.specs.Decode.{Sizes}
 use Rattle.file_refusals.specs.Refusal.{faulty}
 use Rattle.network.specs.Rules.{badCell, badHoursOf, badArc, judgedPoints, judgedSum, judgedArcs}
 use Rattle.network.specs.Rules.{judgedHours, judged}
 use Rattle.network.specs.FirstPoint.{Counted}
-use Rattle.network_rules.specs.ScanAll.{ScannedAll}
+use Rattle.network_scan.specs.ScanAll.{ScannedAll}
 use Rattle.network.specs.Sound.{arc-sound}
 
 module _ {n : Network} {l : Layout} (s : Sizes n l) where

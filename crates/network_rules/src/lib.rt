@@ -1,7 +1,5 @@
 // network_rules: the rules 7 to 10 of a network file, and the first place at which one is broken.
-//   rules     the rules 7 to 10
-//   steady    do all points keep the rules 9 and 10, yes or no?
-// It may call `network` for the entries of the file and `file_blocks` and `file_fields` for bytes, and cites
-// `theory_loops`, `theory_breaks` and `theory_travel`.
+//   rules     the rules 7, 37 and 8, and the ladder of all of them
+// It may call `network_steady` and `network_scan` for the rules 9 and 10, `network` for the entries of the
+// file and `file_blocks` for the blocks of a run, and cites `theory_loops`.
 pub mod rules;
-mod steady;

@@ -21,8 +21,8 @@ use Rattle.network.specs.Limits.{mostPeriod}
 use Rattle.network.specs.Rules.{ticksOf, travelsOf, judgedPoints}
 use Rattle.network.specs.FirstPoint.{Counted, points-in}
 use Rattle.network.specs.Sound.{points-clear}
-use Rattle.network_rules.specs.Breaks.{Follows}
-use Rattle.network_rules.specs.Steady as order
+use Rattle.network_steady.specs.Joins.{Follows}
+use Rattle.network_steady.specs.Steady as order
 use Rattle.network_tables.specs.declared.steady.Pairs.{Pairs}
 use Rattle.network_tables.specs.Pairs.{Ordered, Paired, startAfter}
 

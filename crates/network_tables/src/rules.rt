@@ -1,6 +1,6 @@
 // The rules 7 to 10 and 37, on tables that are as long as the header says. The points of all arcs are first
 // asked whether they keep rules 9 and 10 (steady.rt). Where they do not, one scan finds the places, as in a
-// file (`network_rules`).
+// file (`network_scan`).
 use crate::steady::is_steady;
 use file_refusals::Judged;
 use file_refusals::faulty;
@@ -8,12 +8,12 @@ use file_refusals::number;
 use network::header::Header;
 use network::header::Layout;
 use network_rules::rules::Arcs;
-use network_rules::rules::Scan;
 use network_rules::rules::bad_ends;
 use network_rules::rules::bad_hours;
-use network_rules::rules::bad_point;
-use network_rules::rules::late_at;
-use network_rules::rules::late_in;
+use network_scan::scan::Scan;
+use network_scan::scan::bad_point;
+use network_scan::scan::late_at;
+use network_scan::scan::late_in;
 ghost use mathlib.Core.Path.{_≡_};
 ghost use Prim.Native.Nat.{_+_, _≤_, _<_};
 ghost use lib.ListN.{length, getD};
@@ -24,8 +24,8 @@ ghost use Rattle.network.specs.FirstPoint.{Counted};
 ghost use Rattle.network.specs.Limits.{mostPeriod, mostArcs, mostPoints};
 ghost use Rattle.network.specs.Rules.{judgedPoints, judged};
 ghost use Rattle.network.specs.Tables.{tables, networkOf};
-ghost use Rattle.network_rules.specs.Scan.{Scanned};
-ghost use Rattle.network_rules.specs.ScanAll.{ScannedAll};
+ghost use Rattle.network_scan.specs.Scan.{Scanned};
+ghost use Rattle.network_scan.specs.ScanAll.{ScannedAll};
 ghost use Rattle.network_encode.specs.Packable.{Packable};
 ghost use Rattle.network_tables.specs.Cut.{badCellIn, badHoursIn, badArcIn, bare};
 ghost use Rattle.network_tables.specs.Cut.{whole, Cut};

@@ -21,7 +21,7 @@ use Rattle.plan_tests.specs.declared.tests.Layouts.{Layouts}
 use Rattle.plan_tests.specs.declared.tests.Target.{Target}
 use Rattle.plan_tests.specs.Tests as Tests
 use Rattle.plan_tests.specs.Giving.{Less, Same, Flagged, Prepared, passes, profile-same}
-use Rattle.day_runs.specs.Runs.{Runs}
+use Rattle.day_slopes.specs.Runs.{Runs}
 use Rattle.day_runs.specs.Bounds.{Floor, Ceiling}
 use Rattle.day_merge.specs.Merged.{giving, bits, bitsAt, painted, Told}
 use Rattle.profile_runs.specs.Numbers.{numberAt, number-value, number-never}

@@ -16,8 +16,8 @@ use Rattle.network.specs.declared.header.Layout.{Layout}
 use Rattle.network.specs.Network.{tail}
 use Rattle.network.specs.Decode.{decode}
 use Rattle.network.specs.Town.{partitionOf}
-use Rattle.search_arcs.specs.Town.{Town}
-use Rattle.search_arcs.specs.Chain.{Chained, NextArc}
+use Rattle.search_chains.specs.Town.{Town}
+use Rattle.search_chains.specs.Chain.{Chained, NextArc}
 use Rattle.plan.specs.Border.{borderAt}
 use Rattle.plan.specs.Plan.{Plan, towards}
 use Rattle.plan_tests.specs.Tests.{fails22, given}

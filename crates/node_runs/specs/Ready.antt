@@ -13,9 +13,9 @@ use Rattle.plan.specs.PlanDecode.{decodePlan}
 use Rattle.plan_tests.specs.declared.tests.Layouts.{Layouts}
 use Rattle.plan_tests.specs.declared.tests.Target.{Target}
 use Rattle.plan_tests.specs.Giving.{Prepared}
-use Rattle.day_runs.specs.Runs.{Grid, Runs, runs-few}
+use Rattle.day_slopes.specs.Runs.{Grid, Runs, runs-few}
 use Rattle.day_runs.specs.Bounds.{Floor, Ceiling}
-use Rattle.day_merge.specs.Walk.{Listed}
+use Rattle.day_walk.specs.Walk.{Listed}
 use Rattle.profile_runs.specs.Numbers.{numberAt}
 use Rattle.node_runs.specs.Adds.{numbersOf}
 

@@ -16,8 +16,8 @@ use Rattle.network.specs.declared.header.Layout.{Layout}
 use Rattle.network.specs.Network.{nodes, arcs, tail, head}
 use Rattle.network.specs.Decode.{decode}
 use Rattle.network.specs.Town.{partitionOf}
-use Rattle.search_arcs.specs.Chain.{Walking, walk-none}
-use Rattle.search_arcs.specs.Town.{Town}
+use Rattle.search_chains.specs.Chain.{Walking, walk-none}
+use Rattle.search_chains.specs.Town.{Town}
 use Rattle.plan.specs.Border.{borderAt}
 use Rattle.plan.specs.Plan.{Plan, profile, pointCount}
 use Rattle.plan.specs.PlanDecode.{decodePlan}

@@ -20,7 +20,7 @@ use Rattle.plan.specs.Plan.{Plan, profile, pointCount, profileValue}
 use Rattle.plan_values.specs.Compare.{same, less, isNumber}
 use Rattle.plan_tests.specs.Tests.{giving, given, fails22, fails}
 use Rattle.plan_tests.specs.Meaning.{same-true, gives-some, attained-given}
-use Rattle.day_runs.specs.Runs.{Runs}
+use Rattle.day_slopes.specs.Runs.{Runs}
 use Rattle.profile_runs.specs.Numbers.{numberAt, number-value, number-never}
 use Rattle.node_verdict.specs.Lowest.{tells, each-test}
 use Rattle.node_verdict.specs.Marks.{Telling}

@@ -7,7 +7,7 @@ use Prim.Native.Nat.{ℕ, _+_, _*_, _≤_, _<_}
 use native.Mathlib.Omega.{arith}
 use Rattle.network.specs.Decode.{decode}
 use Rattle.network.specs.Town.{partitionOf}
-use Rattle.search_arcs.specs.Town.{lawful}
+use Rattle.search_chains.specs.Town.{lawful}
 use Rattle.plan.specs.Border.{borderAt}
 use Rattle.plan.specs.Plan.{pointCount, profileValue}
 use Rattle.plan.specs.PlanDecode.{decodePlan}

@@ -15,7 +15,7 @@ use Rattle.network.specs.Town.{partitionOf}
 use Rattle.network.specs.Sound.{SoundNetwork}
 use Rattle.network.specs.Validate.{validated}
 use Rattle.network.specs.Valid.{ValidFile, valid-laid, valid-exactly}
-use Rattle.search_arcs.specs.Town.{town-of}
+use Rattle.search_chains.specs.Town.{town-of}
 use Rattle.plan.specs.declared.answer.Planning.{Planning}
 use Rattle.plan.specs.declared.answer.Planning.the-variants as planning
 use Rattle.plan_check.specs.declared.answer.Checking.{Checking}

@@ -13,8 +13,8 @@ use Rattle.network.specs.Decode.{decode}
 use Rattle.network.specs.Town.{partitionOf}
 use Rattle.file_refusals.specs.Refusal.{refusal}
 use Rattle.file_refusals.specs.declared.Refusal.{Refusal}
-use Rattle.search_arcs.specs.Chain.{endOf, Chained}
-use Rattle.search_arcs.specs.declared.chain.End.the-variants.{Tail}
+use Rattle.search_chains.specs.Chain.{endOf, Chained}
+use Rattle.search_chains.specs.declared.chain.End.the-variants.{Tail}
 use Rattle.plan_check.specs.declared.answer.Checking.{Checking}
 use Rattle.plan_check.specs.declared.answer.Checking.the-variants.{Refused}
 use Rattle.plan_tests.specs.declared.tests.Layouts.{Layouts}

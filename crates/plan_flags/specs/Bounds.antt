@@ -16,11 +16,11 @@ use Rattle.network.specs.declared.header.Layout.{Layout}
 use Rattle.network.specs.Network.{tail, head}
 use Rattle.network.specs.Decode.{decode}
 use Rattle.network.specs.Town.{graphOf, travelAt}
-use Rattle.search_arcs.specs.Town.{tail-node, head-node}
+use Rattle.search_chains.specs.Town.{tail-node, head-node}
 use Rattle.toward_row.specs.Arcs.{Primed}
-use Rattle.toward_node.specs.Heights.{Bounds}
-use Rattle.toward_node.specs.Leasts.{LeastTravel}
-use Rattle.toward_node.specs.Rows.{Worked}
+use Rattle.toward_list.specs.Heights.{Bounds}
+use Rattle.toward_list.specs.Leasts.{LeastTravel}
+use Rattle.toward_list.specs.Rows.{Worked}
 use Rattle.toward_node.specs.Turn.{modest}
 use Rattle.toward_start.specs.Start.{gives-is, start-nowhere}
 

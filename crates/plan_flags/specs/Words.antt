@@ -19,7 +19,7 @@ use Rattle.network.specs.Limits.{mostCells}
 use Rattle.network.specs.Network.{Network, arcs, cell, tail, head}
 use Rattle.network.specs.Decode.{decode}
 use Rattle.network.specs.Town.{graphOf, partitionOf}
-use Rattle.search_arcs.specs.Town.{Town, tail-node}
+use Rattle.search_chains.specs.Town.{Town, tail-node}
 use Rattle.plan.specs.Border.{borderAt}
 use Rattle.plan.specs.Plan.{bit}
 use Rattle.plan.specs.Word.{wordOf, word-bit, word-same, word-none, word-set, word-room}

@@ -21,11 +21,11 @@ ghost use Rattle.theory_paths.specs.Planned.{starts as startsLeast};
 ghost use Rattle.network.specs.Limits.{mostCells};
 ghost use Rattle.network.specs.Decode.{decode};
 ghost use Rattle.network.specs.Town.{graphOf};
-ghost use Rattle.search_arcs.specs.Town.{Town};
+ghost use Rattle.search_chains.specs.Town.{Town};
 ghost use Rattle.toward_row.specs.Arcs.{Primed};
-ghost use Rattle.toward_node.specs.Heights.{Bounds};
-ghost use Rattle.toward_node.specs.Leasts.{Leasts};
-ghost use Rattle.toward_node.specs.Rows.{Worked};
+ghost use Rattle.toward_list.specs.Heights.{Bounds};
+ghost use Rattle.toward_list.specs.Leasts.{Leasts};
+ghost use Rattle.toward_list.specs.Rows.{Worked};
 ghost use Rattle.plan_flags.specs.Words.{plannedWord, withFlag, Flags, FlagsAfter};
 
 // The flag word of arc a by no border: the flag of its ends' cell, where they have one.

@@ -12,7 +12,7 @@ use Rattle.network.specs.Limits.{mostNodes, mostPeriod}
 use Rattle.network.specs.Network.{arcs, cell, tail, start}
 use Rattle.network.specs.Decode.{decode}
 use Rattle.network.specs.Town.{partitionOf}
-use Rattle.search_arcs.specs.Chain.{Chained}
+use Rattle.search_chains.specs.Chain.{Chained}
 use Rattle.plan_tests.specs.declared.tests.Layouts.{Layouts}
 use Rattle.plan_tests.specs.declared.tests.Target.{Target}
 use Rattle.plan.specs.Border.{borderCount, Listed}
@@ -24,7 +24,7 @@ use Rattle.plan_values.specs.Starts.{startOf, started-of}
 use Rattle.node_runs.specs.Ready.{Rooms}
 use Rattle.plan_tests.specs.Failing.{AtBorder, cell-fits}
 use Rattle.plan_tests.specs.Giving.{Aimed}
-use Rattle.search_arcs.specs.Town.{Town}
+use Rattle.search_chains.specs.Town.{Town}
 
 -- What judging the borders rests on: both files, the tables of the arcs' first points and of the
 -- chains, and the list of borders.

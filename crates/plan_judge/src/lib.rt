@@ -3,7 +3,7 @@
 // for.
 // It may call `node_verdict` and `node_runs` for the tests at a node, `arc_runs` for arcs in brief,
 // `plan_values` for where profiles start, and `network` to read the file; it cites `plan`, `plan_tests`,
-// `search_arcs`, `theory_loops` and `theory_paths`.
+// `search_chains`, `search_arcs`, `theory_loops` and `theory_paths`.
 use arc_runs::brief;
 use file_refusals::number::CHECK_BORDER;
 use network::header::Layout;
@@ -20,7 +20,7 @@ ghost use Prim.Native.Nat.{_<_};
 ghost use Rattle.network.specs.Decode.{decode};
 ghost use Rattle.network.specs.Limits.{mostNodes};
 ghost use Rattle.network.specs.Town.{partitionOf};
-ghost use Rattle.search_arcs.specs.Town.{Town};
+ghost use Rattle.search_chains.specs.Town.{Town};
 ghost use Rattle.plan.specs.Border.{borderCount, Listed};
 ghost use Rattle.plan.specs.PlanDecode.{decodePlan};
 ghost use Rattle.arc_runs.specs.Brief.{Briefs};

@@ -1,8 +1,6 @@
 -- Making a plan: the call and its answer (Make), which numbers it can give (Numbers), what it promises
--- (Promise),
--- and the laws for the code: the two rounds over the borders (Rounds), the writing and its refusals (Making).
+-- (Promise), and the laws for the writing and its refusals (Making).
 pub mod Make
 pub mod Numbers
 pub mod Promise
-pub mod Rounds
 pub mod Making

@@ -17,7 +17,7 @@ use Rattle.network.specs.Validate.{validated}
 use Rattle.plan.specs.PlanDecode.{pointTotal}
 use Rattle.plan.specs.PlanLimits.{mostProfilePoints}
 use Rattle.plan_made.specs.File.{madePlan, madeFile}
-use Rattle.toward_node.specs.Work.{workSize, cleared}
+use Rattle.toward_list.specs.Work.{workSize, cleared}
 
 -- 33: more points than a plan can hold; then 31
 unfoldable pub madeInto : Network → ℕ → Writing

@@ -44,15 +44,15 @@ use Rattle.plan_encode.specs.PlanRoundTrip.{encode-plan-long}
 use Rattle.plan_encode.specs.PlanWritten.{plan-written}
 use Rattle.plan_made.specs.Made.{made-total, made-word, madeCount}
 use Rattle.plan_made.specs.File.{madePlan, madeHeader, madeFile, made-matches}
-use Rattle.toward_node.specs.Work.{workSize, primed-of, work-cleared}
+use Rattle.toward_list.specs.Work.{workSize, primed-of, work-cleared}
 use Rattle.plan_make.specs.Make.{madeInto, madeWith, zeroed, MakesOpened, MakeCall}
-use Rattle.search_arcs.specs.Town.{Town}
-use Rattle.search_arcs.specs.Chain.{Chained, endOf}
-use Rattle.search_arcs.specs.declared.chain.End.the-variants.{Head}
-use Rattle.toward_node.specs.Leasts.{Leasts}
+use Rattle.search_chains.specs.Town.{Town}
+use Rattle.search_chains.specs.Chain.{Chained, endOf}
+use Rattle.search_chains.specs.declared.chain.End.the-variants.{Head}
+use Rattle.toward_list.specs.Leasts.{Leasts}
 use Rattle.plan.specs.Border
 use Rattle.plan.specs.Borders.{listed-front}
-use Rattle.plan_make.specs.Rounds.{Tables, Counted, Held, PutTo}
+use Rattle.plan_rounds.specs.Rounds.{Tables, Counted, Held, PutTo}
 
 -- THE TABLES
 module _ {file : List ℕ} {l : Layout} (t : Town file l) where

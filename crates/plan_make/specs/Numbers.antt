@@ -22,7 +22,7 @@ use Rattle.network.specs.Validate.{validated}
 use Rattle.plan.specs.PlanDecode.{pointTotal}
 use Rattle.plan.specs.PlanLimits.{mostProfilePoints}
 use Rattle.plan_made.specs.File.{madePlan, madeFile}
-use Rattle.toward_node.specs.Work.{workSize}
+use Rattle.toward_list.specs.Work.{workSize}
 use Rattle.plan_make.specs.Make.{madeInto, madeWith, madeOver, making}
 
 -- document 02's numbers for Make plan

@@ -29,7 +29,7 @@ use Rattle.plan_check.specs.declared.answer.Checking.the-variants.{Accepted}
 use Rattle.plan_check.specs.CheckPlan.{checking}
 use Rattle.plan_made.specs.File.{madePlan, madeFile, made-decodes}
 use Rattle.plan_made.specs.Accepts.{valid-modest, file-accepted}
-use Rattle.toward_node.specs.Work.{workSize}
+use Rattle.toward_list.specs.Work.{workSize}
 use Rattle.plan_make.specs.Make.{madeInto, madeWith, madeOver, MakeCall}
 
 -- The first bytes of a list, as many as were answered, are the network's plan.

@@ -1,6 +1,4 @@
 // Make plan: refusals 1 to 10 with 37, then 34, 33 and 31, or the plan of the network written.
-use crate::rounds::count_points;
-use crate::rounds::put_borders;
 use file_fields::BLOCK;
 use file_frames::checks::write_checks;
 use file_refusals::number;
@@ -12,7 +10,7 @@ use network::header::Header;
 use network::header::Layout;
 use network::limits::MOST_ARCS;
 use network::limits::MOST_NODES;
-use network_open::validate::validate;
+use network_validate::validate::validate;
 use plan::borders::list_borders;
 use plan::header::PlanHeader;
 use plan::header::PlanLayout;
@@ -20,11 +18,13 @@ use plan::limits::MOST_POINTS;
 use plan_encode::entries::put_flags;
 use plan_encode::frames::write_frames;
 use plan_flags::inside_words;
-use search_arcs::chain;
-use search_arcs::chain::End;
+use plan_rounds::rounds::count_points;
+use plan_rounds::rounds::put_borders;
 use search_arcs::times;
-use toward_node::leasts::least_of_arcs;
-use toward_node::work::zero;
+use search_chains::chain;
+use search_chains::chain::End;
+use toward_list::leasts::least_of_arcs;
+use toward_list::work::zero;
 ghost use mathlib.Core.Path.{_≡_};
 ghost use Prim.Native.Nat.{_*_, _^_, _≤_, _<_};
 ghost use lib.ListN.{length};
@@ -38,7 +38,7 @@ ghost use Rattle.plan.specs.Border.{borderCount};
 ghost use Rattle.plan.specs.PlanLimits.{mostProfilePoints};
 ghost use Rattle.plan_encode.specs.Places.{PlanWritable};
 ghost use Rattle.plan_made.specs.File.{madeFile, madeHeader};
-ghost use Rattle.plan_make.specs.Rounds.{Tables, Counted};
+ghost use Rattle.plan_rounds.specs.Rounds.{Tables, Counted};
 ghost use Rattle.plan_make.specs.Make.{MakeCall, MakesOpened, madeInto};
 
 // Writes the plan's file: frames, the entries of all borders, the flag words, and the checks.

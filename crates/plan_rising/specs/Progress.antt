@@ -7,7 +7,7 @@ use mathlib.Core.List.{List}
 use Prim.Native.Nat.{ℕ, suc, _+_, _-_, _*_, _≤_, _<_, min}
 use native.Mathlib.Nat.{add-zero}
 use native.Mathlib.Omega.{arith}
-use lib.Dec.{leb, lit<}
+use lib.Dec.{lit<}
 use lib.ListN.{length}
 use borrow.Author.Count.{below-more}
 use borrow.Author.Tests.{not-false}
@@ -25,7 +25,8 @@ use Rattle.plan.specs.PlanLimits.{mostProfilePoints, mostPlanBytes}
 use Rattle.plan.specs.PlanDecode.{decodePlan, PlanLaid, pointTick, plan-small}
 use Rattle.plan.specs.PlanDecode.{points-stored, laid-plan, tick-is}
 use Rattle.plan_rising.specs.declared.progress.Progress.{Progress}
-use Rattle.plan_rising.specs.Breaks.{broken, breakAt}
+use Rattle.plan_rising.specs.Falls.{falls}
+use Rattle.plan_rising.specs.Breaks.{broken, fallsAt, breakAt}
 
 -- block j of the points has a right check and its form
 abbrev pub pointsSound : List ℕ → PlanLayout → ℕ → Bool
@@ -35,6 +36,7 @@ pointsSound file l j =
 pub record Walked (file : List ℕ) (l : PlanLayout) (w : Progress) : Type 0 where
   pub within : w .done ≤ blocks profilePointPer (l .points)
   pub sound : (j : ℕ) → j < w .done → pointsSound file l j ≡ true
+  pub last-small : w .last < 65536
   pub last-is : w .last
       ≡ before (pointTick (decodePlan file)) (min (l .points) (profilePointPer * w .done))
   pub counted : w .breaks
@@ -62,10 +64,10 @@ module _ {file : List ℕ} {l : PlanLayout} (s : PlanLaid file l) where
   abbrev p : Plan
   p = decodePlan file
 
-  pub walked-none : (w : Progress) (t : Bool)
-      → (w .done ≡ 0) × (w .last ≡ 0) × (w .breaks ≡ 0) × (w .good ≡ t) → WalkedTo file l 0 w
+  pub walked-none : (w : Progress) → (w .done ≡ 0) × (w .last ≡ 0) × (w .breaks ≡ 0)
+      → WalkedTo file l 0 w
   unfolding before
-  walked-none w t (d, e, f, _) =
+  walked-none w (d, e, f) =
       let z : min (l .points) (profilePointPer * 0) ≡ 0 = omega arith in
       record {
         room = omega arith;
@@ -73,6 +75,7 @@ module _ {file : List ℕ} {l : PlanLayout} (s : PlanLaid file l) where
         walked = record {
           within = omega arith;
           sound = λ j o. absurd (omega arith);
+          last-small = omega arith;
           last-is = rw (d, z, e);
           counted = rw (d, z, f) (count-none (broken (pointTick p)));
         };
@@ -117,7 +120,7 @@ module _ {file : List ℕ} {l : PlanLayout} (s : PlanLaid file l) where
           tick-is s inside (rw (place, add-zero))
 
       -- the break at its first point, and those at the others
-      first-break : (x r : ℕ) → x ≡ le16 file base → r ≡ flag (leb x (w .last))
+      first-break : (x r : ℕ) → x ≡ le16 file base → r ≡ flag (falls x (w .last))
           → r ≡ flag (broken (pointTick p) (profilePointPer * j))
       unfolding broken
       first-break x r a f =
@@ -129,7 +132,7 @@ module _ {file : List ℕ} {l : PlanLayout} (s : PlanLaid file l) where
 
       other-break : (q : ℕ) → q < k - 1
           → breakAt file base q ≡ broken (pointTick p) (profilePointPer * j + 1 + q)
-      unfolding breakAt broken before
+      unfolding breakAt fallsAt broken before
       other-break q o =
           let z : profilePointPer * j + 1 + q ≡ suc (profilePointPer * j + q) = omega arith in
           let w : base + profilePointSize * suc q ≡ base + profilePointSize * q + profilePointSize =
@@ -152,19 +155,19 @@ module _ {file : List ℕ} {l : PlanLayout} (s : PlanLaid file l) where
         count-few (breakAt file base) (k - 1),
       )
 
-      pub walked-more : (x y r o : ℕ) (g : Bool)
-          → pointsSound file l (w .done) ≡ true
-          → x ≡ le16 file (blockSize * (l .pointblock + w .done) + headSize) → r ≡ flag (leb x (w .last))
+      pub walked-more : (x y r o : ℕ) → pointsSound file l (w .done) ≡ true
+          → x ≡ le16 file (blockSize * (l .pointblock + w .done) + headSize) → r ≡ flag (falls x (w .last))
           → o ≡ count (k - 1) (breakAt file (blockSize * (l .pointblock + w .done) + headSize))
           → y ≡ le16 file (blockSize * (l .pointblock + w .done) + headSize + profilePointSize * (k - 1))
-          → Walked file l
-          (record { done = w .done + 1; last = y; breaks = w .breaks + r + o; good = g })
+          → y < 65536
+          → Walked file l (record { done = w .done + 1; last = y; breaks = w .breaks + r + o })
       unfolding before
-      walked-more x y r o g v a f u b =
+      walked-more x y r o v a f u b m =
           let z : profilePointPer * j + k ≡ suc (profilePointPer * j + (k - 1)) = omega (arith, block-at) in
           record {
             within = omega arith;
             sound = λ q m. below-more (λ q. pointsSound file l q ≡ true) j (i .sound) v q (omega arith);
+            last-small = m;
             last-is = rw (through-it, z) (b ∙ tick-there (k - 1) (omega (arith, block-at)));
             counted = rw through-it
                 (tally-block (broken (pointTick p)) (breakAt file base) (profilePointPer * j) k (w .breaks) r

@@ -2,16 +2,15 @@
 -- its points begin at tick 0 and end below the period, the counts add up, and the ticks fail to rise at no
 -- more points than there are profiles with points, no rule is broken.
 use mathlib.Core.Path.{_≡_, refl, sym, _∙_}
-use mathlib.Core.Bool.{Bool, true, false, not}
+use mathlib.Core.Bool.{Bool, true, false}
 use mathlib.Core.List.{List}
-use Prim.Native.Nat.{ℕ, suc, _+_, _-_, _*_, _≤_, _<_, min}
-use native.Mathlib.Nat.{le-of-lt, add-zero}
+use Prim.Native.Nat.{ℕ, zero, suc, _+_, _-_, _*_, _≤_, _<_, min}
+use native.Mathlib.Nat.{le-of-lt, lt-of-lt-of-le, add-zero}
 use native.Mathlib.Numerals.{add-one}
 use native.Mathlib.Omega.{arith}
 use lib.Dec.{ltb, eqb}
 use borrow.Author.Count.{below-more}
-use borrow.Author.Tests.{ltb-true, leb-false, le-leb, le-ltb, eq-eqb, eqb-true}
-use borrow.Author.Tests.{not-false}
+use borrow.Author.Tests.{ltb-true, le-ltb, eq-eqb, eqb-true}
 use Rattle.theory_loops.specs.Count as Count
 use Rattle.theory_loops.specs.First.{first, all-clear}
 use Rattle.theory_loops.specs.Pick.{past-first}
@@ -30,12 +29,13 @@ use Rattle.file_refusals.specs.declared.Judged.the-variants.{Sound}
 use Rattle.file_refusals.specs.Refusal.{faulty}
 use Rattle.plan.specs.declared.header.PlanLayout.{PlanLayout}
 use Rattle.plan.specs.Plan.{Plan, pointCount, pointStart, pointTicks}
-use Rattle.plan.specs.PlanDecode.{decodePlan, PlanLaid, pointTick, pointTotal, plan-sizes}
+use Rattle.plan.specs.PlanDecode.{decodePlan, PlanLaid, pointTick, pointTotal, plan-sizes, plan-small}
 use Rattle.plan.specs.PlanWalk.{countAt}
 use Rattle.plan.specs.PlanRules.{badCount, badProfile, firstBadPoint, judgedTicks, judgedSum, judgedCounts}
 use Rattle.plan_rising.specs.declared.progress.Progress.{Progress}
+use Rattle.plan_rising.specs.Falls.{half, falls, rises, zero-falls}
 use Rattle.plan_rising.specs.Breaks.{broken}
-use Rattle.plan_rising.specs.Progress.{WalkedTo}
+use Rattle.plan_rising.specs.Progress.{Walked, WalkedTo}
 
 -- m points from number `from` on, with these ticks: no more than the period has ticks, in the file, the first
 -- at tick 0 and the last below the period
@@ -56,13 +56,32 @@ pub record AllKept (p : Plan) (l : PlanLayout) (h : ℕ) : Type 0 where
   pub some : h ≡ Count.count (l .profiles) (held p)
 
 -- ALL PROFILES
-module _ (p : Plan) (l : PlanLayout) (h : ℕ) (points-are : l .points ≡ pointTotal p) (a : AllKept p l h)
+module _ (p : Plan) (l : PlanLayout) (h : ℕ) (points-are : l .points ≡ pointTotal p)
+    (short : l .period ≤ half) (a : AllKept p l h)
     (few : Count.count (pointTotal p) (broken (pointTick p)) ≡ h) where
   next : (k : ℕ) → pointStart p (suc k) ≡ pointStart p k + pointCount p k
   unfolding pointStart
   next k =
       rw (← add-one k)
       (sym (total-more (pointCount p) (total k (pointCount p)) (pointCount p k) k refl refl))
+
+  -- the tick before the points of a profile is the last of an earlier one, or 0
+  behind : (k : ℕ) → k ≤ l .profiles → before (pointTick p) (pointStart p k) < half
+  unfolding pointStart total before entryAt
+  behind zero o = omega arith
+  behind (suc k) o = go (pointCount p k) refl (behind k (omega arith))
+    where
+      go : (m : ℕ) → pointCount p k ≡ m → before (pointTick p) (pointStart p k) < half
+          → before (pointTick p) (pointStart p (suc k)) < half
+      go zero e h =
+          let z : pointStart p (suc k) ≡ pointStart p k = omega (arith, next k) in
+          rw z h
+      go (suc m) e h =
+          let z : pointStart p (suc k) ≡ suc (pointStart p k + m) = omega (arith, next k) in
+          let q : pointCount p k - 1 ≡ m = omega arith in
+          let b : pointTick p (pointStart p k + m) < l .period =
+          rw q at (a .profile k (omega arith) .below (omega arith)) in
+          rw z (lt-of-lt-of-le b short)
 
   -- the first point of each profile that has points is a break
   begun : Begun (broken (pointTick p)) (held p) (pointStart p) (l .profiles)
@@ -73,22 +92,29 @@ module _ (p : Plan) (l : PlanLayout) (h : ℕ) (points-are : l .points ≡ point
     first = λ k o e.
         let z : pointTick p (pointStart p k) ≡ 0 =
         entry-first (p .ticks) (pointStart p k) ∙ a .profile k o .start (ltb-true 0 (pointCount p k) e) in
-        rw z (le-leb 0 (before (pointTick p) (pointStart p k)) (omega arith));
+        rw z (zero-falls (before (pointTick p) (pointStart p k)) (behind k (omega arith)));
   }
 
   module _ (k : ℕ) (o : k < l .profiles) where
     -- and no other
-    inside : (i : ℕ) → suc i < pointCount p k → pointTicks p k i < pointTicks p k (suc i)
+    steady : (i : ℕ) → suc i < pointCount p k → falls (pointTicks p k (suc i)) (pointTicks p k i) ≡ false
     unfolding entryAt broken before
-    inside i b =
+    steady i b =
         let z : pointStart p k + suc i ≡ suc (pointStart p k + i) = omega arith in
         let w : Count.count (pointStart p (l .profiles)) (broken (pointTick p))
         ≤ Count.count (l .profiles) (held p) =
         rw (a .sum, points-are, few, a .some) (omega arith) in
         rw z
-        (leb-false _ _
         (only-first _ _ (pointStart p) (l .profiles) begun w k (suc (pointStart p k + i)) o (omega arith)
-        (omega (arith, next k))))
+        (omega (arith, next k)))
+
+    -- so its ticks stay below 2^15, from 0 on, and rise
+    low : (i : ℕ) → i < pointCount p k → pointTicks p k i < half
+    low zero b = omega (arith, a .profile k o .start b)
+    low (suc i) b = rises _ _ (low i (omega arith)) (steady i b) .1
+
+    inside : (i : ℕ) → suc i < pointCount p k → pointTicks p k i < pointTicks p k (suc i)
+    inside i b = rises _ _ (low i (omega arith)) (steady i b) .0
 
     below : (i : ℕ) → i < pointCount p k → pointTicks p k i < l .period
     below i b =
@@ -187,14 +213,12 @@ module _ {file : List ℕ} {l : PlanLayout} (s : PlanLaid file l) where
 
   module _ (k from some : ℕ) (counts : Walk) (progress : Progress)
       (i : Holding file l k from some counts progress) where
-    pub holding-more : (m r : ℕ) (new : Walk) (next : Progress) → k < l .profiles → m ≡ pointCount plan k
-        → (next .good ≡ true
-        → WalkedTo file l (from + m) next × Kept l (entryAt (plan .ticks) from) from m)
-        → not (next .good) ≡ false → r ≡ flag (ltb 0 m) → new ≡ countAt (l .countblock) (k + 1)
+    pub holding-more : (m u r : ℕ) (new : Walk) (next : Progress) → k < l .profiles → m ≡ pointCount plan k
+        → Kept l (entryAt (plan .ticks) from) from m → u ≡ blocks profilePointPer (from + m)
+        → Walked file l next → next .done ≡ u → r ≡ flag (ltb 0 m) → new ≡ countAt (l .countblock) (k + 1)
         → Holding file l (k + 1) (from + m) (some + r) new next
     unfolding pointStart
-    holding-more m r new next h e f g q c =
-        let (w, d) = f (not-false (next .good) g) in
+    holding-more m u r new next h e d b w t q c =
         let here : Kept l (pointTicks plan k) (pointStart plan k) (pointCount plan k) =
         rw (i .from-is, e) at d in
         record {
@@ -205,7 +229,7 @@ module _ {file : List ℕ} {l : PlanLayout} (s : PlanLaid file l) where
           kept = λ j o. below-more
               (λ i. Kept l (pointTicks plan i) (pointStart plan i) (pointCount plan i)) k (i .kept) here j
               (omega arith);
-          walked = w;
+          walked = record { room = d .room; done-is = t ∙ b; walked = w };
         }
 
     -- no more have points than there are
@@ -227,5 +251,6 @@ module _ {file : List ℕ} {l : PlanLayout} (s : PlanLaid file l) where
         rw m at (i .walked .walked .counted) in
         record {
           blocks-sound = λ j o. i .walked .walked .sound j (omega arith);
-          rules-kept = rising-sound plan l some n a (sym c ∙ eqb-true (progress .breaks) some f);
+          rules-kept = rising-sound plan l some n (omega (arith, plan-small s .period-most)) a
+              (sym c ∙ eqb-true (progress .breaks) some f);
         }

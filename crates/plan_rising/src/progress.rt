@@ -1,8 +1,7 @@
 // How far the blocks of a plan's points have been looked at, each once: at its check, its form and the breaks
 // of its ticks, while it is in the nearest cache. specs/Progress.antt.
-use crate::breaks::WORDS;
-use crate::breaks::breaks_beside;
 use crate::breaks::is_break;
+use crate::words::breaks_beside;
 use file_blocks::kind;
 use file_blocks::place::entries_in;
 use file_blocks::sound::is_sound_block;
@@ -16,34 +15,30 @@ ghost use Prim.Native.Nat.{_+_, _≤_, _<_};
 ghost use Rattle.file_blocks.specs.Kind.{profilePointPer};
 ghost use Rattle.file_blocks.specs.Place.{blocks};
 ghost use Rattle.plan.specs.PlanDecode.{PlanLaid};
-ghost use Rattle.plan_rising.specs.Breaks.{TickMarks};
 ghost use Rattle.plan_rising.specs.Progress.{pointsSound, Walked};
 
-// So many blocks have been looked at, with this tick for their last and so many breaks, where the progress is
-// `good`; where it is not, something was found that a good plan has not.
+// So many blocks have been looked at, with this tick for their last and so many breaks. All three are numbers
+// of one width, so that a compiler keeps them at hand while a block is looked at.
 pub struct Progress {
     pub done: usize,
-    pub last: u16,
-    pub breaks: u32,
-    pub good: bool,
+    pub last: usize,
+    pub breaks: usize,
 }
 
-// The progress before the first block, and that of a walk which ends early.
-pub fn first_of(good: bool) -> Progress
-    ensures { λ r. ⌜ (r .done ≡ 0) × (r .last ≡ 0) × (r .breaks ≡ 0) × (r .good ≡ good) ⌝ }
+// The progress before the first block.
+pub fn start() -> Progress
+    ensures { λ r. ⌜ (r .done ≡ 0) × (r .last ≡ 0) × (r .breaks ≡ 0) ⌝ }
 {
     Progress {
         done: 0,
         last: 0,
         breaks: 0,
-        good,
     }
 }
 
 // One block more, whose check and form are right.
-fn step(plan: &[u8], l: PlanLayout, marks: &[u8; WORDS], progress: Progress) -> Progress
+fn step(plan: &[u8], l: PlanLayout, progress: Progress) -> Progress
     requires { ⌜ PlanLaid (now plan) l ⌝ }
-    requires { ⌜ TickMarks (now marks) ⌝ }
     requires { ⌜ Walked (now plan) l progress ⌝ }
     requires { ⌜ progress .done < blocks profilePointPer (l .points) ⌝ }
     requires { ⌜ pointsSound (now plan) l (progress .done) ≡ true ⌝ }
@@ -52,29 +47,21 @@ fn step(plan: &[u8], l: PlanLayout, marks: &[u8; WORDS], progress: Progress) -> 
     let j = progress.done;
     let m = entries_in(kind::PROFILE_POINT_PER, l.points, j) - 1;
     let base = BLOCK * (l.pointblock + j) + HEAD;
-    let behind = is_break(le16(plan, base), progress.last) as u32;
-    let beside = breaks_beside(plan, base, m, marks) as u32;
+    let behind = is_break(le16(plan, base), progress.last as u16) as usize;
+    let beside = breaks_beside(plan, base, m);
     Progress {
         done: j + 1,
-        last: le16(plan, base + kind::PROFILE_POINT_SIZE * m),
+        last: le16(plan, base + kind::PROFILE_POINT_SIZE * m) as usize,
         breaks: progress.breaks + behind + beside,
-        good: true,
     }
 }
 
-// The progress up to block `until`.
-pub fn advance(
-    plan: &[u8],
-    l: PlanLayout,
-    marks: &[u8; WORDS],
-    progress: Progress,
-    until: usize,
-) -> Progress
+// The progress up to block `until`, or up to the first block before it whose check or form is wrong.
+pub fn advance(plan: &[u8], l: PlanLayout, progress: Progress, until: usize) -> Progress
     requires { ⌜ PlanLaid (now plan) l ⌝ }
-    requires { ⌜ TickMarks (now marks) ⌝ }
     requires { ⌜ Walked (now plan) l progress ⌝ }
     requires { ⌜ (progress .done ≤ until) × (until ≤ blocks profilePointPer (l .points)) ⌝ }
-    ensures { λ r. ⌜ (r .good ≡ true → Walked (now (plan .entry)) l r × (r .done ≡ until)) ⌝ }
+    ensures { λ r. ⌜ Walked (now (plan .entry)) l r ⌝ }
 {
     let done = progress.done;
     let mut next = progress;
@@ -89,9 +76,9 @@ pub fn advance(
             j,
         );
         if !sound {
-            return first_of(false);
+            return next;
         }
-        next = step(plan, l, marks, next);
+        next = step(plan, l, next);
     }
     next
 }

@@ -1,12 +1,9 @@
 // Whether a plan keeps the rules 18 and 19, in blocks of points whose checks and forms are right, yes or no:
 // what a good file is asked. The points of all profiles are one row, and each profile begins at tick 0, so
 // its first point is a break of that row; where there are no others, the ticks of every profile rise. What
-// else the rules ask is asked profile by profile, once the blocks up to its last point have been looked at.
-use crate::breaks::WORDS;
-use crate::breaks::mark_ticks;
-use crate::progress::Progress;
+// else the rules ask is asked profile by profile, before the blocks up to its last point are looked at.
 use crate::progress::advance;
-use crate::progress::first_of;
+use crate::progress::start;
 use file_blocks::kind;
 use file_blocks::place::blocks;
 use file_blocks::walk::Walk;
@@ -19,8 +16,6 @@ ghost use lib.Dec.{ltb};
 ghost use Rattle.theory_breaks.specs.Tally.{flag};
 ghost use Rattle.theory_travel.specs.Table.{entryAt};
 ghost use Rattle.plan.specs.PlanDecode.{decodePlan, PlanLaid};
-ghost use Rattle.plan_rising.specs.Breaks.{TickMarks};
-ghost use Rattle.plan_rising.specs.Progress.{WalkedTo};
 ghost use Rattle.plan_rising.specs.Rising.{Kept, Risen};
 
 // Are the points of one profile, `count` of them from number `from` on, no more than the ticks, and do they
@@ -35,13 +30,17 @@ fn has_room(l: PlanLayout, from: usize, count: usize) -> bool
     from + count <= l.points
 }
 
-// Is the first of them at tick 0, and the last below the period?
+// Are they so, the first of them at tick 0, and the last below the period?
 fn is_kept(plan: &[u8], l: PlanLayout, from: usize, count: usize) -> bool
     requires { ⌜ PlanLaid (now plan) l ⌝ }
-    requires { ⌜ (count ≤ l .period) × (from + count ≤ l .points) ⌝ }
+    requires { ⌜ (from ≤ l .points) × (count < 65536) ⌝ }
     ensures { λ r. ⌜ (r ≡ true
         → Kept l (entryAt (decodePlan (now (plan .entry)) .ticks) from) from count) ⌝ }
 {
+    let room = has_room(l, from, count);
+    if !room {
+        return false;
+    }
     if count < 1 {
         return true;
     }
@@ -51,34 +50,6 @@ fn is_kept(plan: &[u8], l: PlanLayout, from: usize, count: usize) -> bool
     tick(plan, l, from + (count - 1)) < l.period
 }
 
-// The progress up to the block of a profile's last point, where the profile is so.
-fn pass(
-    plan: &[u8],
-    l: PlanLayout,
-    marks: &[u8; WORDS],
-    progress: Progress,
-    from: usize,
-    count: usize,
-) -> Progress
-    requires { ⌜ PlanLaid (now plan) l ⌝ }
-    requires { ⌜ TickMarks (now marks) ⌝ }
-    requires { ⌜ WalkedTo (now plan) l from progress ⌝ }
-    requires { ⌜ count < 65536 ⌝ }
-    ensures { λ r. ⌜ (r .good ≡ true → WalkedTo (now (plan .entry)) l (from + count) r
-        × Kept l (entryAt (decodePlan (now (plan .entry)) .ticks) from) from count) ⌝ }
-{
-    let room = has_room(l, from, count);
-    if !room {
-        return first_of(false);
-    }
-    let until = blocks(kind::PROFILE_POINT_PER, from + count);
-    let next = advance(plan, l, marks, progress, until);
-    if is_kept(plan, l, from, count) {
-        return next;
-    }
-    first_of(false)
-}
-
 // 1 where a profile has points, 0 where it has none.
 fn has_points(count: usize) -> usize
     ensures { λ r. ⌜ (r ≡ flag (ltb 0 count)) × (r < 2) ⌝ }
@@ -86,22 +57,27 @@ fn has_points(count: usize) -> usize
     if 0 < count { 1 } else { 0 }
 }
 
-// Are all profiles so, do the counts add up to the points, and are there no breaks but where profiles begin?
-fn are_kept(plan: &[u8], l: PlanLayout, marks: &[u8; WORDS]) -> bool
+// Does the plan keep the rules, in sound blocks: are all profiles so, do the counts add up to the points, and
+// are there no breaks but where profiles begin?
+pub fn is_rising(plan: &[u8], l: PlanLayout) -> bool
     requires { ⌜ PlanLaid (now plan) l ⌝ }
-    requires { ⌜ TickMarks (now marks) ⌝ }
     ensures { λ r. ⌜ (r ≡ true → Risen (now (plan .entry)) l) ⌝ }
 {
     let profiles = l.profiles;
     let mut counts = Walk::new(l.countblock, kind::COUNT_PER, kind::COUNT_SIZE, 0);
-    let mut progress = first_of(true);
+    let mut progress = start();
     let mut from = 0;
     let mut some = 0;
     for k in 0..profiles {
         let count = counts.field16(plan, 0);
-        progress = pass(plan, l, marks, progress, from, count);
-        let good = progress.good;
-        if !good {
+        let kept = is_kept(plan, l, from, count);
+        if !kept {
+            return false;
+        }
+        let until = blocks(kind::PROFILE_POINT_PER, from + count);
+        progress = advance(plan, l, progress, until);
+        let done = progress.done;
+        if done != until {
             return false;
         }
         some += has_points(count);
@@ -111,15 +87,5 @@ fn are_kept(plan: &[u8], l: PlanLayout, marks: &[u8; WORDS]) -> bool
     if from != l.points {
         return false;
     }
-    progress.breaks as usize == some
-}
-
-// Does the plan keep the rules, in sound blocks?
-pub fn is_rising(plan: &[u8], l: PlanLayout) -> bool
-    requires { ⌜ PlanLaid (now plan) l ⌝ }
-    ensures { λ r. ⌜ (r ≡ true → Risen (now (plan .entry)) l) ⌝ }
-{
-    let mut marks = [0u8; WORDS];
-    mark_ticks(&mut marks);
-    are_kept(plan, l, &marks)
+    progress.breaks == some
 }

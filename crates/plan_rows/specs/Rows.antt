@@ -26,7 +26,7 @@ use Rattle.plan_encode.specs.Places.{PlanRoom}
 use Rattle.plan_encode.specs.PlanWritten.{Entered}
 use Rattle.plan_encode.specs.PlanWritten as written
 use Rattle.toward_points.specs.Row.{entryOf, Low, pointsBefore}
-use Rattle.toward_node.specs.Rows.{row-long, row-entry}
+use Rattle.toward_list.specs.Rows.{row-long, row-entry}
 use Rattle.plan_rows.specs.Points.{isPoint, HasPoints, PutPoints, first-before}
 
 -- how many points node u's row has: none where it has no number

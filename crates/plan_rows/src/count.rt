@@ -1,7 +1,7 @@
 // How many points rows of travels have.
 use network::header::Layout;
 use network::limits::NEVER;
-use toward_node::row_place;
+use toward_list::rows::row_place;
 use toward_points::point_count;
 ghost use mathlib.Core.Path.{_≡_};
 ghost use Prim.Native.Nat.{_*_, _<_};

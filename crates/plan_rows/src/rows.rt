@@ -4,7 +4,7 @@ use network::header::Layout;
 use network::limits::NEVER;
 use plan::header::PlanLayout;
 use plan_encode::entries::put_count;
-use toward_node::row_place;
+use toward_list::rows::row_place;
 ghost use mathlib.Core.Path.{_≡_};
 ghost use Prim.Native.Nat.{_+_, _*_, _≤_, _<_};
 ghost use lib.ListN.{length};

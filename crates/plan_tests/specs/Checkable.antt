@@ -7,7 +7,7 @@ use Prim.Native.Nat.{ℕ}
 use Rattle.plan_tests.specs.declared.tests.Layouts.{Layouts}
 use Rattle.network.specs.Decode.{decode}
 use Rattle.network.specs.Town.{partitionOf}
-use Rattle.search_arcs.specs.Town.{Town}
+use Rattle.search_chains.specs.Town.{Town}
 use Rattle.plan.specs.Border.{borderCount}
 use Rattle.plan_values.specs.Formed.{Formed}
 

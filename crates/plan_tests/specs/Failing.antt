@@ -11,8 +11,8 @@ use Rattle.network.specs.declared.header.Layout.{Layout}
 use Rattle.network.specs.Limits.{mostCells}
 use Rattle.network.specs.Network.{cell, tail}
 use Rattle.network.specs.Decode.{decode}
-use Rattle.search_arcs.specs.Chain.{Chained}
-use Rattle.search_arcs.specs.Town.{Town}
+use Rattle.search_chains.specs.Chain.{Chained}
+use Rattle.search_chains.specs.Town.{Town}
 use Rattle.plan_tests.specs.declared.tests.Layouts.{Layouts}
 use Rattle.plan_tests.specs.declared.tests.Target.{Target}
 use Rattle.plan.specs.Border.{tailCell, headCell}

@@ -14,7 +14,7 @@ use Rattle.network.specs.Limits.{mostCells}
 use Rattle.network.specs.Network.{head, cell, start}
 use Rattle.network.specs.Decode.{decode}
 use Rattle.network.specs.Town.{graphOf, partitionOf}
-use Rattle.search_arcs.specs.Town.{head-node}
+use Rattle.search_chains.specs.Town.{head-node}
 use Rattle.plan_tests.specs.declared.tests.Layouts.{Layouts}
 use Rattle.plan_tests.specs.declared.tests.Target.{Target}
 use Rattle.plan.specs.Border.{borderAt}

@@ -11,7 +11,7 @@ use Rattle.plan.specs.declared.header.PlanLayout.{PlanLayout}
 use Rattle.plan.specs.Plan.{Plan, pointCount, pointStart, pointTicks, pointTravels, profileValue}
 use Rattle.plan.specs.PlanDecode.{decodePlan}
 use Rattle.plan_values.specs.Formed.{Formed, profile-points}
-use Rattle.day_runs.specs.Runs.{Runs}
+use Rattle.day_slopes.specs.Runs.{Runs}
 use Rattle.day_runs.specs.Bounds.{Least, Most, Floor, Ceiling, least-day, most-day}
 
 -- the number of profile k at a tick below the period, by its points

@@ -18,7 +18,7 @@ ghost use Rattle.plan.specs.PlanDecode.{PlanLaid, decodePlan};
 ghost use Rattle.plan.specs.PlanWalk.{pointAt};
 ghost use Rattle.plan_values.specs.Formed.{Formed};
 ghost use Rattle.plan_values.specs.Starts.{Started};
-ghost use Rattle.day_runs.specs.Runs.{Runs};
+ghost use Rattle.day_slopes.specs.Runs.{Runs};
 ghost use Rattle.day_runs.specs.Filling.{Space};
 ghost use Rattle.day_runs.specs.Bounds.{Least, Most, Floor, Ceiling};
 ghost use Rattle.profile_runs.specs.Numbers.{numberAt};

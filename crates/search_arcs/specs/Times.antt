@@ -19,7 +19,7 @@ use Rattle.network.specs.declared.header.Layout.{Layout}
 use Rattle.network.specs.Network.{Network, count, start}
 use Rattle.network.specs.Decode.{decode}
 use Rattle.network.specs.Town.{graphOf, travelAt, town-bounded}
-use Rattle.search_arcs.specs.Town.{Town, lastTick}
+use Rattle.search_chains.specs.Town.{Town, lastTick}
 
 -- The table has the first point of the arc after arc a, where there is one.
 pub record NextStart (n : Network) (arcs : ℕ) (starts : List ℕ) (a : ℕ) : Type 0 where

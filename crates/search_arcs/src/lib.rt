@@ -1,12 +1,7 @@
-// search_arcs: the arcs of a sound network file, read in place: those at a node, in rising order, and when
-// one that is taken at a tick ends.
-//   chain   the chains by which the arcs out of a node, or into it, are walked
-//   tables  each arc's head and first point, and the chain out of each node, in one pass
-//   times   when an arc that is taken at a tick ends
-// It may call `network` for the entries of the file and `theory_travel` for the straight line, and cites
-// `theory_loops` and `theory_paths`.
-pub mod chain;
-pub mod tables;
+// search_arcs: when an arc of a sound network file that is taken at a tick ends, by its points, read in place;
+// and numbers of tables and rows as those who search compare them.
+// It may call `network` for the entries of the file and `theory_travel` for the straight line; it cites
+// `search_chains` for what it rests on, `theory_loops` and `theory_paths`.
 pub mod times;
 
 ghost use mathlib.Core.Path.{_≡_};

@@ -1,6 +1,6 @@
 // When an arc that is taken at a tick ends: the travel by the arc's points, read in place from the file. A
 // travel is read by `ends_at` alone; what it needs of the arcs' first points stands in a table, which
-// `first_points` fills once, or `tables::fill` for a search.
+// `first_points` fills once, or `search_chains::tables::fill` for a search.
 use crate::wide;
 use network::header::Layout;
 use network::limits::MOST_ARCS;
@@ -20,7 +20,7 @@ ghost use Rattle.network.specs.Network.{count, start};
 ghost use Rattle.network.specs.Decode.{decode, Laid};
 ghost use Rattle.network.specs.Points.{Placed};
 ghost use Rattle.network.specs.Town.{graphOf};
-ghost use Rattle.search_arcs.specs.Town.{Town, lastTick};
+ghost use Rattle.search_chains.specs.Town.{Town, lastTick};
 ghost use Rattle.search_arcs.specs.Stretches.{Reaching};
 ghost use Rattle.search_arcs.specs.Halves.{Step};
 ghost use Rattle.search_arcs.specs.Times.{NextStart};

@@ -19,8 +19,8 @@ use Rattle.theory_paths.specs.Drive.{arc-takes}
 use Rattle.theory_paths.specs.Earliest.{never}
 use Rattle.theory_paths.specs.Labels.{label, label-at, lowered}
 use Rattle.network.specs.Limits.{mostNodes, mostArcs}
-use Rattle.search_arcs.specs.Chain.{NextArc}
-use Rattle.search_labels.specs.Relax.{relaxAt, ByArc, Relaxed, NoArc, no-arc, extended, Walked}
+use Rattle.search_chains.specs.Chain.{NextArc}
+use Rattle.search_frontier.specs.Relax.{relaxAt, ByArc, Relaxed, NoArc, no-arc, extended, Walked}
 
 -- A note's count of arcs, and its last arc.
 abbrev pub hopsOf : ℕ → ℕ

@@ -39,8 +39,8 @@ use Rattle.search_labels.specs.Tally.{
   tally-few,
   tally-settle,
 }
-use Rattle.search_labels.specs.Settle.{Search, Nearest, start, settle, nearest-exact}
-use Rattle.search_labels.specs.Frontier.{
+use Rattle.search_frontier.specs.Settle.{Search, Nearest, start, settle, nearest-exact}
+use Rattle.search_frontier.specs.Frontier.{
   keyOf,
   nodeOf,
   nodeAt,
@@ -53,8 +53,8 @@ use Rattle.search_labels.specs.Frontier.{
   key-node,
   held-or,
 }
-use Rattle.search_labels.specs.Nearest.{Small, Least, least-held, least-nearest}
-use Rattle.search_arcs.specs.Town.{Town}
+use Rattle.search_frontier.specs.Nearest.{Small, Least, least-held, least-nearest}
+use Rattle.search_chains.specs.Town.{Town}
 use Rattle.search_labels.specs.Ready.{Ready, Leaving, leaving}
 
 -- The labels L are exact up to the target's, the notes K have the hops of these nodes, and the arcs by which

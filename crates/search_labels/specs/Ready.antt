@@ -14,11 +14,11 @@ use Rattle.network.specs.Limits.{mostPeriod, mostNodes, mostArcs}
 use Rattle.network.specs.Network.{head, start}
 use Rattle.network.specs.Decode.{decode}
 use Rattle.network.specs.Town.{graphOf, town-bounded}
-use Rattle.search_arcs.specs.Town.{Town, lawful, head-node}
-use Rattle.search_arcs.specs.Tables.{Tabled}
+use Rattle.search_chains.specs.Town.{Town, lawful, head-node}
+use Rattle.search_chains.specs.Tables.{Tabled}
 use Rattle.search_arcs.specs.Times.{NextStart, next-start}
-use Rattle.search_labels.specs.Settle.{latest}
-use Rattle.search_labels.specs.Frontier.{lastLabel}
+use Rattle.search_frontier.specs.Settle.{latest}
+use Rattle.search_frontier.specs.Frontier.{lastLabel}
 
 -- Arc a is permitted: its entry in the mask is 1.
 abbrev pub permitOf : List ℕ → Permit

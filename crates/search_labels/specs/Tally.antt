@@ -16,8 +16,8 @@ use Rattle.theory_paths.specs.Labels.{label}
 use Rattle.theory_paths.specs.Hops.{Known, Tight, Last, Counted, tight-less}
 use Rattle.theory_paths.specs.Chosen.{arcInto, explains, explaining, lowest-passes, arc-into, hop-few}
 use Rattle.network.specs.Limits.{mostArcs}
-use Rattle.search_labels.specs.Relax.{ByArc, Relaxed}
-use Rattle.search_labels.specs.Settle.{Settled, Nearest, Search, Moved, was}
+use Rattle.search_frontier.specs.Relax.{ByArc, Relaxed}
+use Rattle.search_frontier.specs.Settle.{Settled, Nearest, Search, Moved, was}
 use Rattle.search_labels.specs.Notes.{hopsOf, arcOf, longer, note, hopsIn, arcIn, Noted}
 
 -- The source has no hops; every other label came about by the arc of its note, out of a settled node with one

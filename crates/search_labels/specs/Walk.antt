@@ -16,8 +16,8 @@ use Rattle.network.specs.declared.header.Layout.{Layout}
 use Rattle.network.specs.Network.{tail}
 use Rattle.network.specs.Decode.{decode}
 use Rattle.network.specs.Town.{graphOf, town-bounded}
-use Rattle.search_arcs.specs.Chain.{NextArc, Chained}
-use Rattle.search_labels.specs.Relax.{relaxAt, Relaxed, Walked, walk-first, walk-next, walk-last}
+use Rattle.search_chains.specs.Chain.{NextArc, Chained}
+use Rattle.search_frontier.specs.Relax.{relaxAt, Relaxed, Walked, walk-first, walk-next, walk-last}
 use Rattle.search_labels.specs.Notes.{
   longer,
   mostNote,
@@ -30,8 +30,8 @@ use Rattle.search_labels.specs.Notes.{
   noted-next,
   noted-last,
 }
-use Rattle.search_labels.specs.Settle.{Moved}
-use Rattle.search_labels.specs.Frontier.{
+use Rattle.search_frontier.specs.Settle.{Moved}
+use Rattle.search_frontier.specs.Frontier.{
   Held,
   Frontier,
   Open,
@@ -45,9 +45,9 @@ use Rattle.search_labels.specs.Frontier.{
   grown-open,
   grown-then,
 }
-use Rattle.search_labels.specs.Take.{Taken, taken-front, taken-open, taken-moved}
+use Rattle.search_frontier.specs.Take.{Taken, taken-front, taken-open, taken-moved}
 use Rattle.search_labels.specs.Ready.{Ready, permitOf}
-use Rattle.search_arcs.specs.Town.{lastTick, lawful, head-node}
+use Rattle.search_chains.specs.Town.{lastTick, lawful, head-node}
 
 -- Arc a, taken at tick y and bringing the a-th note from b on: labels, notes and frontier, before and after.
 pub record Stepped (g : Graph) (p : Permit) (y b a : ℕ) (L M H K Q R S : List ℕ) (n m : ℕ) : Type 0 where

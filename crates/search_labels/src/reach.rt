@@ -1,17 +1,17 @@
 // The labels of every node that may lie on an earliest path to the target: the nearest node of the frontier
 // is settled, and the permitted arcs out of it are relaxed, again and again, until it is the target or the
 // frontier is empty. Beside each label stands the note of the fewest arcs by which it came about.
-use crate::frontier;
 use crate::notes;
 use crate::query::Query;
 use network::header::Layout;
 use network::limits::MOST_ARCS;
 use network::limits::MOST_NODES;
 use network::limits::NEVER;
-use search_arcs::chain;
-use search_arcs::tables;
 use search_arcs::times;
 use search_arcs::wide;
+use search_chains::chain;
+use search_chains::tables;
+use search_frontier::frontier;
 ghost use mathlib.Core.Path.{_≡_};
 ghost use Prim.Native.Nat.{_≤_, _<_};
 ghost use lib.ListN.{length, replicate};
@@ -21,9 +21,9 @@ ghost use Rattle.network.specs.Network.{tail, head};
 ghost use Rattle.network.specs.Decode.{decode};
 ghost use Rattle.network.specs.Town.{graphOf};
 ghost use Rattle.search_labels.specs.Ready.{Ready, permitOf};
-ghost use Rattle.search_arcs.specs.Town.{Town};
-ghost use Rattle.search_arcs.specs.Chain.{Chained};
-ghost use Rattle.search_labels.specs.Frontier.{lastLabel, Held, Frontier, Open};
+ghost use Rattle.search_chains.specs.Town.{Town};
+ghost use Rattle.search_chains.specs.Chain.{Chained};
+ghost use Rattle.search_frontier.specs.Frontier.{lastLabel, Held, Frontier, Open};
 ghost use Rattle.search_labels.specs.Notes.{hopsIn, mostNote};
 ghost use Rattle.search_labels.specs.Walk.{Stepped, Spread};
 ghost use Rattle.search_labels.specs.Reach.{Started, Reached};

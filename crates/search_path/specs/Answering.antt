@@ -18,7 +18,7 @@ use Rattle.theory_paths.specs.Labels.{label, label-at, labels, labels-exact, la
 use Rattle.search_path.specs.Trim.{shown, target-same, shown-same}
 use Rattle.theory_paths.specs.Hops.{Known}
 use Rattle.theory_paths.specs.Same.{chosen-same}
-use Rattle.search_arcs.specs.Town.{Town}
+use Rattle.search_chains.specs.Town.{Town}
 use Rattle.search_labels.specs.Ready.{Leaving, leaving, permitOf}
 use Rattle.network.specs.declared.header.Layout.{Layout}
 use Rattle.network.specs.Decode.{decode}

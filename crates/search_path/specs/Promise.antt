@@ -18,7 +18,7 @@ use Rattle.theory_paths.specs.Hops.{Known}
 use Rattle.theory_paths.specs.Chosen.{IsChosen, chosen-path, chosen-is, chosen-empty}
 use Rattle.file_refusals.specs.Refusal.{refusal}
 use Rattle.search_labels.specs.Ready.{Leaving}
-use Rattle.search_arcs.specs.Town.{lastTick}
+use Rattle.search_chains.specs.Town.{lastTick}
 use Rattle.search_path.specs.Answering.{true-exact, true-capped}
 use Rattle.search_path.specs.Answer.{pathOf, searched, Case, none, short, fits, case-of}
 use Rattle.search_path.specs.declared.answer.Arrival.{Arrival}

@@ -19,7 +19,7 @@ use Rattle.network.specs.Limits.{mostNodes}
 use Rattle.network.specs.Network.{tail}
 use Rattle.network.specs.Decode.{decode}
 use Rattle.network.specs.Town.{graphOf}
-use Rattle.search_arcs.specs.Town.{Town, tail-node}
+use Rattle.search_chains.specs.Town.{Town, tail-node}
 use Rattle.search_labels.specs.Notes.{hopsIn, arcIn}
 
 -- The node that is n arcs back from t by the notes K, and the arc by which it is entered.

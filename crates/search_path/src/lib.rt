@@ -4,7 +4,7 @@
 //   answer what a trip answers
 //   path   the chosen path, from the notes that the search left
 // It may call `search_labels` for the labels and notes, `network` for the entries of the file and
-// `file_refusals` to refuse; it cites `search_arcs`, `theory_loops` and `theory_paths`.
+// `file_refusals` to refuse; it cites `search_chains`, `theory_loops` and `theory_paths`.
 use crate::answer::Answer;
 use crate::answer::Arrival;
 use file_refusals::number::NO_WAY;
@@ -26,7 +26,7 @@ ghost use Rattle.theory_loops.specs.Fill.{Filled};
 ghost use Rattle.network.specs.Decode.{decode, Laid};
 ghost use Rattle.network.specs.Sound.{SoundNetwork};
 ghost use Rattle.network.specs.Town.{graphOf};
-ghost use Rattle.search_arcs.specs.Town.{Town};
+ghost use Rattle.search_chains.specs.Town.{Town};
 ghost use Rattle.theory_paths.specs.Labels.{label};
 ghost use Rattle.search_labels.specs.Ready.{permitOf};
 ghost use Rattle.search_labels.specs.Notes.{hopsIn};

@@ -12,7 +12,7 @@ ghost use Rattle.theory_loops.specs.Fill.{Filled};
 ghost use Rattle.network.specs.Limits.{mostNodes};
 ghost use Rattle.network.specs.Decode.{decode};
 ghost use Rattle.network.specs.Town.{graphOf};
-ghost use Rattle.search_arcs.specs.Town.{Town};
+ghost use Rattle.search_chains.specs.Town.{Town};
 ghost use Rattle.search_labels.specs.Notes.{hopsIn};
 ghost use Rattle.search_path.specs.Trail.{roadTo, Trail, Listed};
 

@@ -3,7 +3,7 @@
 use mathlib.Core.Path.{_≡_, refl, sym, _∙_, ap}
 use mathlib.Core.List.{List, [], _++_}
 use Prim.Native.Nat.{ℕ}
-use Rattle.text_numbers.specs.Fold.{folded, folded-append, folded-none, folded-next, folded-end}
+use Rattle.text_spaced.specs.Fold.{folded, folded-append, folded-none, folded-next, folded-end}
 use Rattle.sheet.specs.declared.reading.Reading.{Reading}
 use Rattle.sheet.specs.Reading.{stepped, steppedAll}
 

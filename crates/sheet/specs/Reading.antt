@@ -13,11 +13,11 @@ use lib.Seq.{take-nil}
 use lib.Dec.{eqb, leb}
 use borrow.Author.Tests.{le-leb, lt-leb, ne-eqb}
 use Rattle.sheet_line.specs.declared.line.Line.{Line}
-use Rattle.text_numbers.specs.declared.spaced.Scan.{Scan}
+use Rattle.text_spaced.specs.declared.spaced.Scan.{Scan}
 use Rattle.sheet.specs.declared.reading.Reading.{Reading}
-use Rattle.text_numbers.specs.Lines.{isEmpty, linesFrom}
-use Rattle.text_numbers.specs.Fold.{folded, folded-append}
-use Rattle.text_numbers.specs.Scanning.{fresh, scanned, scannedAll}
+use Rattle.text_lines.specs.Lines.{isEmpty, linesFrom}
+use Rattle.text_spaced.specs.Fold.{folded, folded-append}
+use Rattle.text_spaced.specs.Scanning.{fresh, scanned, scannedAll}
 use Rattle.sheet_line.specs.Line.{ended, lineOf}
 use Rattle.sheet_text.specs.Head.{reads}
 

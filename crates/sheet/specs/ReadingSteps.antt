@@ -6,11 +6,11 @@ use mathlib.Core.List.{List}
 use Prim.Native.Nat.{ℕ, _+_, _≤_, _<_}
 use borrow.Author.Tests.{le-leb, lt-leb, eq-eqb, ne-eqb}
 use Rattle.sheet_line.specs.declared.line.Line.{Line}
-use Rattle.text_numbers.specs.declared.spaced.Scan.{Scan}
+use Rattle.text_spaced.specs.declared.spaced.Scan.{Scan}
 use Rattle.sheet.specs.declared.reading.Reading.{Reading}
 use Rattle.text_numbers.specs.Text.{Stored}
 use Rattle.sheet_text.specs.Printed.{mostLine, Printed, printed, printed-none}
-use Rattle.text_numbers.specs.Scanning.{fresh, scanned}
+use Rattle.text_spaced.specs.Scanning.{fresh, scanned}
 use Rattle.sheet_line.specs.Line.{ended}
 use Rattle.sheet_text.specs.Head.{reads}
 use Rattle.sheet.specs.Reading.{beginning, stepped, stepText, endText}

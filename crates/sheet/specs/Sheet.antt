@@ -7,9 +7,9 @@ use mathlib.Core.List.{List, [], _++_}
 use Prim.Native.Nat.{ℕ}
 use native.Mathlib.Omega.{arith}
 use lib.ListN.{take}
-use Rattle.text_numbers.specs.Fold.{folded}
-use Rattle.text_numbers.specs.Scanning.{fresh}
-use Rattle.text_numbers.specs.Lines.{linesOf}
+use Rattle.text_spaced.specs.Fold.{folded}
+use Rattle.text_spaced.specs.Scanning.{fresh}
+use Rattle.text_lines.specs.Lines.{linesOf}
 use Rattle.sheet.specs.Reading.{runText, textsOf, reads-lines, full}
 use Rattle.sheet_text.specs.TripText.{lineText}
 use Rattle.sheet_text.specs.Head.{headText, reads}

@@ -3,10 +3,10 @@
 // of the input is kept but a small state, so a line may be of any length.
 use sheet_text::answer::put_line;
 use sheet_text::head::put_head;
-use text_numbers::spaced::ANY;
-use text_numbers::spaced::Scan;
-use text_numbers::spaced::fresh;
-use text_numbers::spaced::scan_byte;
+use text_spaced::spaced::ANY;
+use text_spaced::spaced::Scan;
+use text_spaced::spaced::fresh;
+use text_spaced::spaced::scan_byte;
 ghost use mathlib.Core.Path.{_≡_};
 ghost use mathlib.Core.Bool.{cond};
 ghost use Prim.Native.Nat.{_≤_};

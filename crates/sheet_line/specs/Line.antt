@@ -7,10 +7,10 @@ use mathlib.Core.List.{List, [], _∷_}
 use Prim.Native.Nat.{ℕ}
 use native.Mathlib.Omega.{arith}
 use borrow.Author.Tests.{lt-ltb}
-use Rattle.text_numbers.specs.declared.spaced.Scan.{Scan}
+use Rattle.text_spaced.specs.declared.spaced.Scan.{Scan}
 use Rattle.text_numbers.specs.Spaced.{Spaced}
-use Rattle.text_numbers.specs.Scanning.{fresh, scannedAll, whole}
-use Rattle.text_numbers.specs.SpacedExact.{three-values, scanned-spaced, three-read}
+use Rattle.text_spaced.specs.Scanning.{fresh, scannedAll, whole}
+use Rattle.text_spaced.specs.SpacedExact.{three-values, scanned-spaced, three-read}
 use Rattle.sheet_line.specs.declared.line.Asking.{Asking}
 use Rattle.sheet_line.specs.declared.line.Line.{Line}
 use Rattle.sheet_line.specs.declared.line.Line.the-variants.{Asks, Other}

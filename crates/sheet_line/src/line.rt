@@ -1,6 +1,6 @@
 // A line of the input: it asks for a trip, or it is of another shape.
-use text_numbers::spaced::Scan;
-use text_numbers::spaced::is_whole;
+use text_spaced::spaced::Scan;
+use text_spaced::spaced::is_whole;
 ghost use mathlib.Core.Path.{_≡_};
 ghost use Rattle.sheet_line.specs.Line as lines;
 

@@ -12,7 +12,7 @@ use lib.ListN.{length, getD, take, drop, length-take, length-drop}
 use lib.Seq.{take-suc, take-add, getD-take, getD-drop, drop-drop, drop-cons}
 use lib.Dec.{leb}
 use borrow.Author.Tests.{le-leb, leb-true}
-use Rattle.text_numbers.specs.Lines.{Unended}
+use Rattle.text_lines.specs.Lines.{Unended}
 use Rattle.text_numbers.specs.Number.{isDigit, areDigits, valueFrom, valueOf, digits-append}
 use Rattle.text_numbers.specs.Number.{value-append}
 use Rattle.text_numbers.specs.Spaced.{Numeral}

@@ -1,10 +1,6 @@
--- Texts as bytes, and what it is to store one (Text); their lines (Lines); numbers in decimal, printed and
--- read (Number), and one space apart (Spaced), read a byte at a time (Scanning, SpacedExact).
+-- What it is to store a text (Text); numbers in decimal, printed and read (Number), at a place of a text
+-- (Digits), and one space apart (Spaced).
 pub mod Text
-pub mod Lines
 pub mod Number
-pub mod Digits
-pub mod Fold
 pub mod Spaced
-pub mod Scanning
-pub mod SpacedExact
+pub mod Digits

@@ -20,24 +20,24 @@ use Rattle.network.specs.declared.header.Layout.{Layout}
 use Rattle.network.specs.Network.{tail, head}
 use Rattle.network.specs.Decode.{decode}
 use Rattle.network.specs.Town.{graphOf, travelAt, town-bounded}
-use Rattle.search_arcs.specs.Town.{Town, lawful, tail-node, head-node}
-use Rattle.search_arcs.specs.Chain.{Chained, NextArc}
+use Rattle.search_chains.specs.Town.{Town, lawful, tail-node, head-node}
+use Rattle.search_chains.specs.Chain.{Chained, NextArc}
 use Rattle.toward_row.specs.Arcs.{Primed}
 use Rattle.toward_row.specs.Cut.{Cut}
 use Rattle.toward_row.specs.Lower.{entries, offer, Numbers}
 use Rattle.theory_paths.specs.Queue.{Queue, queue-begin, queue-skip, queue-quiet, queue-lower, queue-least}
 use Rattle.theory_paths.specs.Queue.{queue-first, queue-bar, Lowering}
-use Rattle.toward_node.specs.Burden.{burden, burden-clear, burden-lower}
-use Rattle.toward_node.specs.Heights.{Heights, Held, Near, NearFirst, Highest, numbered}
-use Rattle.toward_node.specs.Heights.{number-early, heights-held, held-capped}
-use Rattle.toward_node.specs.Heights.{heights-clear, heights-lower, heights-first, numbered-early}
-use Rattle.toward_node.specs.Heights.{only-same, only-other, Lows, Bounds}
-use Rattle.toward_node.specs.Heights.{lows-taken, lows-bounds, lows-first}
-use Rattle.toward_node.specs.Leasts.{LeastTravel}
-use Rattle.toward_node.specs.Rows.{rowsOf, WorkedFor, rowLowered, row-lower, row-same, row-lowering}
-use Rattle.toward_node.specs.Rows.{row-quiet, row-held}
-use Rattle.toward_node.specs.Seen.{seen, seen-long, seen-size, seen-some, seen-bare}
-use Rattle.toward_node.specs.Seen.{seen-near, seen-highest, seen-cut, row-most, row-first, told}
+use Rattle.toward_list.specs.Burden.{burden, burden-clear, burden-lower}
+use Rattle.toward_list.specs.Heights.{Heights, Held, Near, NearFirst, Highest, numbered}
+use Rattle.toward_list.specs.Heights.{number-early, heights-held, held-capped}
+use Rattle.toward_list.specs.Heights.{heights-clear, heights-lower, heights-first, numbered-early}
+use Rattle.toward_list.specs.Heights.{only-same, only-other, Lows, Bounds}
+use Rattle.toward_list.specs.Heights.{lows-taken, lows-bounds, lows-first}
+use Rattle.toward_list.specs.Leasts.{LeastTravel}
+use Rattle.toward_list.specs.Rows.{rowsOf, WorkedFor, rowLowered, row-lower, row-same, row-lowering}
+use Rattle.toward_list.specs.Rows.{row-quiet, row-held}
+use Rattle.toward_list.specs.Seen.{seen, seen-long, seen-size, seen-some, seen-bare}
+use Rattle.toward_list.specs.Seen.{seen-near, seen-highest, seen-cut, row-most, row-first, told}
 use Rattle.network.specs.Limits.{mostArcs, mostNodes, mostPeriod}
 
 -- A town, the table of its arcs' first points, and the chains of the arcs into each node.

@@ -14,7 +14,7 @@ use Rattle.network.specs.declared.header.Layout.{Layout}
 use Rattle.network.specs.Network.{count, start}
 use Rattle.network.specs.Decode.{decode}
 use Rattle.network.specs.Town.{travelAt}
-use Rattle.search_arcs.specs.Town.{Town}
+use Rattle.search_chains.specs.Town.{Town}
 use Rattle.search_arcs.specs.Times.{arc-points, arc-day}
 use Rattle.toward_row.specs.Cut.{Cut, cut-as}
 use Rattle.toward_row.specs.Lower.{always, lowered, offer, Capped, Known, Ready, lower-join, known-part}

@@ -26,11 +26,11 @@ use Rattle.network.specs.Limits.{mostPeriod, mostNodes}
 use Rattle.network.specs.Network.{tail, head}
 use Rattle.network.specs.Decode.{decode}
 use Rattle.network.specs.Town.{graphOf, travelAt}
-use Rattle.search_arcs.specs.Town.{Town, lawful}
+use Rattle.search_chains.specs.Town.{Town, lawful}
 use Rattle.toward_row.specs.Arcs.{Primed}
 use Rattle.toward_row.specs.Cut.{Cut}
 use Rattle.toward_row.specs.Lower.{entries, lowest, lowered, offer, Capped, Known}
-use Rattle.toward_node.specs.Rows.{Worked, row-long, row-entry}
+use Rattle.toward_list.specs.Rows.{Worked, row-long, row-entry}
 use Rattle.toward_node.specs.Turn.{modest}
 
 -- a row with one more at each tick

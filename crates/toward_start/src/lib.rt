@@ -7,7 +7,7 @@ use network::limits::MOST_ARCS;
 use network::limits::MOST_PERIOD;
 use network::limits::NEVER;
 use network::read;
-use toward_node::row_place;
+use toward_list::rows::row_place;
 ghost use mathlib.Core.Path.{_≡_};
 ghost use Prim.Native.Nat.{_+_, _*_, _≤_, _<_};
 ghost use lib.ListN.{length};
@@ -17,7 +17,7 @@ ghost use Rattle.theory_paths.specs.Planned.{starts as startsLeast};
 ghost use Rattle.network.specs.Decode.{decode, Small};
 ghost use Rattle.network.specs.Town.{graphOf};
 ghost use Rattle.toward_row.specs.Arcs.{Primed};
-ghost use Rattle.toward_node.specs.Rows.{Worked};
+ghost use Rattle.toward_list.specs.Rows.{Worked};
 ghost use Rattle.toward_start.specs.Start.{raised, HasNumbers};
 
 // Writes a node's row with one more at each tick.

@@ -9,7 +9,7 @@ use Rattle.network.specs.Town.{graphOf}
 use Rattle.search_path.specs.Answer.{pathOf, searched}
 use Rattle.search_path.specs.declared.answer.Answer.{Answer}
 use Rattle.trip_call.specs.Trip.{tripAnswer}
-use Rattle.trip.specs.Plain.{plainBegin}
+use Rattle.trip_plain.specs.Plain.{plainBegin}
 use Rattle.trip.specs.Flagged.{flaggedBegin, flaggedArcs}
 
 -- the plain trip with room for so many arrivals and roads, with fresh lists, and its path

@@ -36,7 +36,7 @@ use Rattle.search_path.specs.declared.answer.Answer.the-variants as answer
 use Rattle.trip_call.specs.Trip.{asked, andThen, TripCall}
 use Rattle.trip_call.specs.Stage.{asked-passed, then-passed}
 use Rattle.trip_call.specs.Drive.{call-permit, drive-nodes, drive-arcs, drive-cells, drive-period}
-use Rattle.trip.specs.Plain.{Begun}
+use Rattle.trip_plain.specs.Plain.{Begun}
 
 -- a ladder after the validation of a plan
 abbrev pub plannedThen : Planning → Opening → Opening

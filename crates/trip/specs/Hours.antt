@@ -33,7 +33,7 @@ use Rattle.trip_call.specs.Trip.{asked, tripAnswer}
 use Rattle.trip_call.specs.Drive.{drive-number, drive-period, drive-nodes, drive-arcs, drive-cells}
 use Rattle.trip_call.specs.Drive.{drive-points}
 use Rattle.trip_call.specs.Visit.{openTick, visit-open}
-use Rattle.trip.specs.Plain.{PlainTrip, begun}
+use Rattle.trip_plain.specs.Plain.{PlainTrip, begun}
 use Rattle.trip.specs.Flagged.{FlaggedTrip, flaggedArcs, plannedThen, flagged-begun}
 use Rattle.trip.specs.Calls.{plainCall, plainPath, flaggedCall, flaggedPath}
 use Rattle.trip.specs.Promise.{trip-arrived}

@@ -1,6 +1,5 @@
--- Trips: what each answers and leaves (Plain, Flagged, Calls), and what an answer means (Promise, Numbers,
+-- Trips: what each answers and leaves (Flagged, Calls), and what an answer means (Promise, Numbers,
 -- PlainPromise, FlaggedPromise, Hours).
-pub mod Plain
 pub mod Flagged
 pub mod Calls
 pub mod Promise

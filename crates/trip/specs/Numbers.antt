@@ -33,7 +33,7 @@ use Rattle.search_path.specs.Answer.{searched}
 use Rattle.search_path.specs.declared.answer.Answer.the-variants as answer
 use Rattle.trip_call.specs.Trip.{asked, andThen, tripAnswer}
 use Rattle.trip_call.specs.Drive.{drive-nodes, valid-leaving}
-use Rattle.trip.specs.Plain.{plainBegin, Begun, begun}
+use Rattle.trip_plain.specs.Plain.{plainBegin, Begun, begun}
 use Rattle.trip.specs.Flagged.{plannedThen, flaggedBegin, flaggedArcs, flagged-begun}
 use Rattle.trip.specs.Calls.{plainAnswer, plainCall, flaggedAnswer, flaggedCall}
 use Rattle.trip.specs.Promise.{BeforeSearch, Leaves, Begins, trip-refused, never-short}

@@ -25,7 +25,7 @@ use Rattle.search_path.specs.declared.answer.Answer.{Answer}
 use Rattle.search_path.specs.declared.answer.Answer.the-variants as answer
 use Rattle.trip_call.specs.Drive.{drive-nodes, drive-period}
 use Rattle.trip_call.specs.Stage.{asked-opens}
-use Rattle.trip.specs.Plain.{plainBegin, PlainTrip}
+use Rattle.trip_plain.specs.Plain.{plainBegin, PlainTrip}
 use Rattle.trip.specs.Calls.{plainCall, plainPath}
 use Rattle.trip.specs.Promise.{BestTrip, AsGoodAsAny, Passed, BeforeSearch, Begins, listed}
 use Rattle.trip.specs.Promise as trip

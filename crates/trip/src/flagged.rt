@@ -4,7 +4,7 @@ use network::answer::Opening;
 use network::header::Header;
 use network::limits::MOST_ARCS;
 use network::read::cell;
-use network_open::validate::validate;
+use network_validate::validate::validate;
 use plan::answer::Planning;
 use plan::flag::is_set;
 use plan::header::PlanHeader;

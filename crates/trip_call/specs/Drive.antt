@@ -21,7 +21,7 @@ use Rattle.network.specs.Decode.{decode, Laid}
 use Rattle.network.specs.Sound.{SoundNetwork}
 use Rattle.network.specs.Valid.{ValidFile, valid-laid}
 use Rattle.network.specs.Town.{graphOf}
-use Rattle.search_arcs.specs.Town.{town-of}
+use Rattle.search_chains.specs.Town.{town-of}
 use Rattle.search_labels.specs.Ready.{Leaving, leaving}
 use Rattle.search_path.specs.Answer.{Answered, answerOf, pathOf, searched, entryOf, count-is, not-both}
 use Rattle.search_path.specs.Trim.{shown}

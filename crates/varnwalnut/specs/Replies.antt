@@ -32,11 +32,11 @@ use Rattle.search_path.specs.Answer.{searched}
 use Rattle.search_path.specs.Says.{tripSays}
 use Rattle.trip_call.specs.Trip.{tripAnswer, tripArrivals, tripRoads}
 use Rattle.trip_call.specs.Visit.{openTick, visitSays}
-use Rattle.trip.specs.Plain.{plainBegin}
+use Rattle.trip_plain.specs.Plain.{plainBegin}
 use Rattle.trip.specs.Flagged.{flaggedBegin, flaggedArcs}
-use Rattle.day_sheet.specs.Sheet as sheet
-use Rattle.day_sheet.specs.Sheet.{sheetBegin, listing, dayArrivals}
-use Rattle.c_replies.specs.Reply.{tripSize, tripBytes}
+use Rattle.day_arrivals.specs.Sheet as sheet
+use Rattle.day_arrivals.specs.Sheet.{sheetBegin, listing, dayArrivals}
+use Rattle.c_trip.specs.Reply.{tripSize, tripBytes}
 use Rattle.varnwalnut.specs.Room.{roomed, kept}
 
 -- the tablet's answer to a trip whose chosen path this is

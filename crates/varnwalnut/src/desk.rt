@@ -14,7 +14,7 @@ use network_pack::pack::pack_network;
 use plan_check::check::check_plan;
 use plan_make::make::make_plan;
 use trip::flagged::flagged_trip;
-use trip::plain::plain_trip;
+use trip_plain::plain::plain_trip;
 ghost use Rattle.network.specs.Tables.{tables};
 ghost use Rattle.network_pack.specs.Pack.{numbers};
 ghost use Rattle.varnwalnut.specs.Replies.{CheckReply, OpenReply, PackReply, ImportReply, MakeReply};

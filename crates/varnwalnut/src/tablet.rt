@@ -1,12 +1,12 @@
 // The tablet's two trips: numbers and byte lists in, an answer in lent bytes. Where these are fewer than the
 // longest answer takes, 1,032, the answer is 31 and nothing is written.
-use c_replies::trip::write_trip;
+use c_trip::trip::write_trip;
 use file_refusals::number::ANSWER_SHORT;
 use network::limits::MOST_NODES;
 use network::limits::MOST_ROADS;
 use network::limits::NEVER;
 use trip::flagged::flagged_trip;
-use trip::plain::plain_trip;
+use trip_plain::plain::plain_trip;
 ghost use Rattle.trip.specs.Calls.{plainCall, plainPath, flaggedCall, flaggedPath};
 ghost use Rattle.varnwalnut.specs.Replies.{TripReply};
 

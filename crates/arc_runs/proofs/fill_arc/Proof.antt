@@ -2,7 +2,7 @@
 use native.Mathlib.Omega.{arith}
 use denote.Ref.{now}
 use Rattle.arc_runs.specs.Travels.{points-day, points-in, runs-narrow, runs-told, runs-short}
-use Rattle.day_runs.specs.Runs.{runs-few}
+use Rattle.day_slopes.specs.Runs.{runs-few}
 use borrow.Author.Needs.{needs}
 use Rattle.arc_runs.proofs.fill_arc.Statement.{statement}
 use Rattle.arc_runs.proofs.fill_arc.Tie as tie

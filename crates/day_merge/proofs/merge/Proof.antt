@@ -1,7 +1,7 @@
 -- `day_merge::merge` meets its contract: the walk stands at place p, in run k of the arc.
 use Prim.Native.Nat.{_-_, _≤_, _<_}
 use native.Mathlib.Omega.{arith}
-use Rattle.day_merge.specs.Walk.{At, at-first, at-end}
+use Rattle.day_walk.specs.Walk.{At, at-first, at-end}
 use Rattle.day_merge.specs.Merged.{Walked, walked-none, walked-end}
 use borrow.Author.Needs.{needs}
 use Rattle.day_merge.proofs.merge.Statement.{statement}

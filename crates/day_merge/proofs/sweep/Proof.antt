@@ -5,7 +5,7 @@ use Prim.Native.Nat.{ℕ, _+_, _-_, _%_, _≤_, _<_}
 use native.Mathlib.Omega.{arith}
 use lib.ListN.{length}
 use denote.Ref.{now}
-use Rattle.day_merge.specs.Walk.{At, at-end, at-still, later}
+use Rattle.day_walk.specs.Walk.{At, at-end, at-still, later}
 use Rattle.day_merge.specs.Merged.{Onward, onward-none, onward-more, turned-order}
 use borrow.Author.Needs.{needs}
 use Rattle.day_merge.proofs.sweep.Statement.{statement}

@@ -3,7 +3,7 @@ use Prim.Native.Nat.{_≤_, _<_}
 use native.Mathlib.Omega.{arith}
 use denote.Ref.{now}
 use lib.ListN.{getD}
-use Rattle.day_runs.specs.Held.{closed-put, closed-none}
+use Rattle.day_slopes.specs.Held.{closed-put, closed-none}
 use borrow.Author.Needs.{needs}
 use Rattle.day_runs.proofs.close.Statement.{statement}
 use Rattle.day_runs.proofs.close.Tie as tie

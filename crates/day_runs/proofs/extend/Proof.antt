@@ -2,7 +2,7 @@
 use mathlib.Core.Path.{_≡_}
 use Prim.Native.Nat.{_+_}
 use native.Mathlib.Omega.{arith}
-use Rattle.day_runs.specs.Held.{flat-held, tick-held}
+use Rattle.day_slopes.specs.Held.{flat-held, tick-held}
 use borrow.Author.Needs.{needs}
 use Rattle.day_runs.proofs.extend.Statement.{statement}
 use Rattle.day_runs.proofs.extend.Tie as tie

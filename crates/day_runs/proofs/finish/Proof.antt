@@ -1,5 +1,5 @@
 -- `day_runs::finish` meets its contract.
-use Rattle.day_runs.specs.Held.{finish-ending, finish-added}
+use Rattle.day_slopes.specs.Held.{finish-ending, finish-added}
 use borrow.Author.Needs.{needs}
 use Rattle.day_runs.proofs.finish.Statement.{statement}
 use Rattle.day_runs.proofs.finish.Tie as tie

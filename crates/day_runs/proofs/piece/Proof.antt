@@ -1,7 +1,7 @@
 -- `day_runs::piece` meets its contract.
 use mathlib.Core.Path.{_≡_}
 use native.Mathlib.Omega.{arith}
-use Rattle.day_runs.specs.Held.{added-held, flat-held}
+use Rattle.day_slopes.specs.Held.{added-held, flat-held}
 use borrow.Author.Needs.{needs}
 use Rattle.day_runs.proofs.piece.Statement.{statement}
 use Rattle.day_runs.proofs.piece.Tie as tie

@@ -1,7 +1,7 @@
 -- `node_runs::meet` meets its contract.
 use native.Mathlib.Omega.{arith}
 use Rattle.plan_tests.specs.Giving.{head-in}
-use Rattle.day_runs.specs.Runs.{runs-few}
+use Rattle.day_slopes.specs.Runs.{runs-few}
 use Rattle.node_runs.specs.Adds.{met-merged}
 use Rattle.node_runs.specs.Finding.{arc-finds, met-finds}
 use Rattle.node_runs.specs.Ready.{grid-here, runs-here, listed}

@@ -4,10 +4,10 @@ use native.Mathlib.Omega.{arith}
 use Rattle.network.specs.Network.{tail}
 use Rattle.network.specs.Decode.{decode}
 use Rattle.network.specs.Town.{partitionOf}
-use Rattle.search_arcs.specs.Chain.{Walking, walk-first, walk-less, walk-next}
+use Rattle.search_chains.specs.Chain.{Walking, walk-first, walk-less, walk-next}
 use Rattle.plan_values.specs.Formed.{profile-in}
 use Rattle.plan_values.specs.Starts.{product-fits, number-fits}
-use Rattle.search_arcs.specs.Town.{head-node}
+use Rattle.search_chains.specs.Town.{head-node}
 use Rattle.plan.specs.PlanDecode.{decodePlan}
 use Rattle.node_verdict.specs.Blank.{ahead, ahead-elsewhere, ahead-not, ahead-found, ahead-none}
 use borrow.Author.Needs.{needs}

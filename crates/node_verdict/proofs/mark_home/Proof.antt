@@ -4,7 +4,7 @@ use native.Mathlib.Omega.{arith}
 use Rattle.plan_values.specs.Formed.{profile-in}
 use Rattle.plan_values.specs.Starts.{product-fits, number-fits}
 use Rattle.node_verdict.specs.Home.{home-never, home-painted}
-use Rattle.day_runs.specs.Runs.{runs-few}
+use Rattle.day_slopes.specs.Runs.{runs-few}
 use borrow.Author.Needs.{needs}
 use Rattle.node_verdict.proofs.mark_home.Statement.{statement}
 use Rattle.node_verdict.proofs.mark_home.Tie as tie

@@ -3,7 +3,7 @@ use mathlib.Core.Path.{_≡_, refl, _∙_}
 use Prim.Native.Nat.{_+_, _-_, _≤_}
 use native.Mathlib.Omega.{arith}
 use lib.ListN.{length}
-use Rattle.day_runs.specs.Runs.{starts-within}
+use Rattle.day_slopes.specs.Runs.{starts-within}
 use Rattle.node_verdict.specs.Home.{Painted, painted-none, painted-more}
 use borrow.Author.Needs.{needs}
 use Rattle.node_verdict.proofs.mark_runs.Statement.{statement}

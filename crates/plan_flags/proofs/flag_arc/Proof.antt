@@ -1,7 +1,7 @@
 -- `plan_flags::flag_arc` meets its contract: each way out has the word with the flag that the arc has earned.
 use mathlib.Core.Path.{refl}
 use native.Mathlib.Omega.{arith}
-use Rattle.search_arcs.specs.Town.{tail-node, head-node}
+use Rattle.search_chains.specs.Town.{tail-node, head-node}
 use Rattle.plan_flags.specs.Words.{flag-stands, flag-room, flag-left, flag-set}
 use Rattle.plan_flags.specs.Bounds.{ruled-out}
 use borrow.Author.Needs.{needs}

@@ -1,5 +1,5 @@
 -- `plan_flags::inside_word` meets its contract: two cells have no flag, and one cell has its own alone.
-use Rattle.search_arcs.specs.Town.{tail-node, town-reads}
+use Rattle.search_chains.specs.Town.{tail-node, town-reads}
 use Rattle.plan_flags.specs.Words.{cell-few, word-apart, word-inside}
 use mathlib.Core.Path.{_∙_}
 use borrow.Author.Needs.{needs}

@@ -5,7 +5,7 @@ use lib.Seq.{length-take-le}
 use lib.ListN.{length-take}
 use Rattle.network.specs.Decode.{laid-sizes}
 use Rattle.search_path.specs.Answering.{answered-front}
-use Rattle.search_arcs.specs.Town.{town-of}
+use Rattle.search_chains.specs.Town.{town-of}
 use borrow.Author.Needs.{needs}
 use Rattle.search_path.proofs.search.Statement.{statement}
 use Rattle.search_path.proofs.search.Tie as tie

@@ -1,6 +1,6 @@
 -- `first_with` meets its contract: of the nodes passed none has the most, and one has.
 use Prim.Native.Nat.{_-_, _≤_}
-use Rattle.toward_node.specs.Places.{Unmet, unmet-none, unmet-more, unmet-end}
+use Rattle.toward_node.specs.Nearest.{Unmet, unmet-none, unmet-more, unmet-end}
 use borrow.Author.Needs.{needs}
 use Rattle.toward_node.proofs.first_with.Statement.{statement}
 use Rattle.toward_node.proofs.first_with.Tie as tie

@@ -1,6 +1,6 @@
 -- `least_travels` meets its contract: there is no node of which the row is wanted alone.
 use native.Mathlib.Omega.{arith}
-use Rattle.toward_node.specs.Rows.{worked-all}
+use Rattle.toward_list.specs.Rows.{worked-all}
 use borrow.Author.Needs.{needs}
 use Rattle.toward_node.proofs.least_travels.Statement.{statement}
 use Rattle.toward_node.proofs.least_travels.Tie as tie

@@ -1,6 +1,6 @@
 -- `least_travels_from` meets its contract: the row that is wanted is that of `from`.
 use native.Mathlib.Omega.{arith}
-use Rattle.toward_node.specs.Rows.{worked-one}
+use Rattle.toward_list.specs.Rows.{worked-one}
 use borrow.Author.Needs.{needs}
 use Rattle.toward_node.proofs.least_travels_from.Statement.{statement}
 use Rattle.toward_node.proofs.least_travels_from.Tie as tie

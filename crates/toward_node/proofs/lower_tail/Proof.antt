@@ -3,9 +3,9 @@ use mathlib.Core.Path.{refl, sym, _∙_}
 use Prim.Native.Nat.{_<_}
 use native.Mathlib.Omega.{arith}
 use borrow.Author.Tests.{leb-true, eqb-true, eqb-false}
-use Rattle.search_arcs.specs.Town.{tail-node, head-node}
-use Rattle.toward_node.specs.Heights.{held-capped, heights-known}
-use Rattle.toward_node.specs.Seen.{seen-size, seen-known}
+use Rattle.search_chains.specs.Town.{tail-node, head-node}
+use Rattle.toward_list.specs.Heights.{held-capped, heights-known}
+use Rattle.toward_list.specs.Seen.{seen-size, seen-known}
 use Rattle.toward_node.specs.Turn.{stepped-skip, tail-quiet, tail-lower, tail-numbers}
 use Rattle.toward_node.specs.Turn.{least-near, near-first}
 use borrow.Author.Needs.{needs}

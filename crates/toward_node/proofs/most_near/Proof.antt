@@ -1,6 +1,6 @@
 -- `most_near` meets its contract: of the nodes passed none has more.
 use Prim.Native.Nat.{_-_, _≤_}
-use Rattle.toward_node.specs.Places.{Most, most-none, most-more, most-end}
+use Rattle.toward_node.specs.Nearest.{Most, most-none, most-more, most-end}
 use borrow.Author.Needs.{needs}
 use Rattle.toward_node.proofs.most_near.Statement.{statement}
 use Rattle.toward_node.proofs.most_near.Tie as tie

@@ -1,6 +1,6 @@
 -- `nearest` meets its contract: a node that has more than the bar is dirty.
 use native.Mathlib.Omega.{arith}
-use Rattle.toward_node.specs.Places.{found-most, found-none}
+use Rattle.toward_node.specs.Nearest.{found-most, found-none}
 use borrow.Author.Needs.{needs}
 use Rattle.toward_node.proofs.nearest.Statement.{statement}
 use Rattle.toward_node.proofs.nearest.Tie as tie

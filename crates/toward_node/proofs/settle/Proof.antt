@@ -3,7 +3,7 @@
 use mathlib.Core.Path.{sym, _∙_}
 use Prim.Native.Nat.{_-_}
 use native.Mathlib.Omega.{arith}
-use Rattle.toward_node.specs.Seen.{seen, seen-size}
+use Rattle.toward_list.specs.Seen.{seen, seen-size}
 use Rattle.toward_node.specs.Turn.{Walking, walking-start, walking-held, walking-next, walking-less}
 use Rattle.toward_node.specs.Turn.{walking-end}
 use borrow.Author.Needs.{needs}

@@ -4,7 +4,7 @@ use mathlib.Core.Path.{_≡_, refl, sym, _∙_}
 use Prim.Native.Nat.{_≤_}
 use native.Mathlib.Omega.{arith}
 use lib.ListN.{length}
-use Rattle.toward_node.specs.Seen.{seen, seen-size, shown-bounds, shown-worked}
+use Rattle.toward_list.specs.Seen.{seen, seen-size, shown-bounds, shown-worked}
 use Rattle.toward_node.specs.Turn.{left, Waiting, waiting-start, waiting-next}
 use Rattle.toward_node.specs.Turn.{waiting-bounds, waiting-end}
 use borrow.Author.Needs.{needs}

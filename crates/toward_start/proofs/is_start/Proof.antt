@@ -4,7 +4,7 @@ use Prim.Native.Nat.{_+_, _≤_}
 use native.Mathlib.Omega.{arith}
 use lib.ListN.{length}
 use denote.Ref.{now}
-use Rattle.search_arcs.specs.Town.{tail-node, head-node}
+use Rattle.search_chains.specs.Town.{tail-node, head-node}
 use Rattle.toward_start.specs.Start.{no-start, tail-row, head-capped, raised-known, start-is}
 use borrow.Author.Needs.{needs}
 use Rattle.toward_start.proofs.is_start.Statement.{statement}

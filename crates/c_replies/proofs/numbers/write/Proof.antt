@@ -1,5 +1,5 @@
 -- `c_replies::numbers::write` meets its contract.
-use Rattle.c_replies.specs.Writing.{copied}
+use Rattle.c_replies.specs.Numbers.{copied}
 use Rattle.theory_loops.specs.Fill.{Filled, fill-none, fill-up}
 use denote.Ref.{now}
 use lib.ListN.{length, getD}

@@ -1,5 +1,5 @@
 -- `c_replies::numbers::write_checking` meets its contract.
-use Rattle.c_replies.specs.Writing.{case-number, report-numbers}
+use Rattle.c_replies.specs.Numbers.{case-number, report-numbers}
 use Rattle.plan_check.specs.Answer.{checkingSays}
 use borrow.Author.Needs.{needs}
 use Rattle.c_replies.proofs.numbers.write_checking.Statement.{statement}

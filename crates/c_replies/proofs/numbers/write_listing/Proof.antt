@@ -1,5 +1,5 @@
 -- `c_replies::numbers::write_listing` meets its contract.
-use Rattle.c_replies.specs.Writing.{case-number, case-numbers}
+use Rattle.c_replies.specs.Numbers.{case-number, case-numbers}
 use Rattle.file_refusals.specs.Listing.{listingSays}
 use borrow.Author.Needs.{needs}
 use Rattle.c_replies.proofs.numbers.write_listing.Statement.{statement}

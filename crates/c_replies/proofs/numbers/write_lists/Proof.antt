@@ -1,5 +1,6 @@
 -- `c_replies::numbers::write_lists` meets its contract.
-use Rattle.c_replies.specs.Writing.{replies, visit-number, visit-numbers}
+use Rattle.c_trip.specs.Writing.{replies}
+use Rattle.c_replies.specs.Numbers.{visit-number, visit-numbers}
 use native.Mathlib.Omega.{arith}
 use Prim.Native.Nat.{_≤_}
 use Rattle.network.specs.Limits.{mostRoads}

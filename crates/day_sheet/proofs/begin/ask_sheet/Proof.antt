@@ -3,7 +3,7 @@ use Prim.Native.Nat.{_≤_}
 use native.Mathlib.Nat.{mul-le-mul}
 use native.Mathlib.Omega.{arith}
 use Rattle.theory_loops.specs.Pick.{picks}
-use Rattle.day_sheet.specs.Sheet.{sheetAsked}
+use Rattle.day_arrivals.specs.Sheet.{sheetAsked}
 use borrow.Author.Needs.{needs}
 use Rattle.day_sheet.proofs.begin.ask_sheet.Statement.{statement}
 use Rattle.day_sheet.proofs.begin.ask_sheet.Tie as tie

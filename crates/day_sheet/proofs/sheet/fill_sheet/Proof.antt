@@ -3,8 +3,8 @@ use mathlib.Core.Path.{refl}
 use native.Mathlib.Nat.{mul-le-mul}
 use native.Mathlib.Omega.{arith}
 use lib.ListN.{length-take}
-use Rattle.toward_node.specs.Work.{valid-town}
-use Rattle.day_sheet.specs.Sheeting.{asked-laid, sheet-filled}
+use Rattle.toward_list.specs.Work.{valid-town}
+use Rattle.day_arrivals.specs.Sheeting.{asked-laid, sheet-filled}
 use borrow.Author.Needs.{needs}
 use Rattle.day_sheet.proofs.sheet.fill_sheet.Statement.{statement}
 use Rattle.day_sheet.proofs.sheet.fill_sheet.Tie as tie

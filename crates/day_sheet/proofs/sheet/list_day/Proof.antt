@@ -1,7 +1,7 @@
 -- `day_sheet::sheet::list_day` meets its contract.
 use mathlib.Core.Path.{refl}
 use native.Mathlib.Omega.{arith}
-use Rattle.day_sheet.specs.Sheeting.{row-none, row-early, row-listed}
+use Rattle.day_arrivals.specs.Sheeting.{row-none, row-early, row-listed}
 use borrow.Author.Needs.{needs}
 use Rattle.day_sheet.proofs.sheet.list_day.Statement.{statement}
 use Rattle.day_sheet.proofs.sheet.list_day.Tie as tie

@@ -3,7 +3,7 @@ use mathlib.Core.Path.{refl}
 use Prim.Native.Nat.{_-_, _≤_, zero-le}
 use native.Mathlib.Omega.{arith}
 use Rattle.theory_loops.specs.Fill.{Filled, fills, fill-up}
-use Rattle.day_sheet.specs.Sheeting.{arrivalIn, row-entry}
+use Rattle.day_arrivals.specs.Sheeting.{arrivalIn, row-entry}
 use borrow.Author.Needs.{needs}
 use Rattle.day_sheet.proofs.sheet.put_arrivals.Statement.{statement}
 use Rattle.day_sheet.proofs.sheet.put_arrivals.Tie as tie

@@ -1,6 +1,6 @@
 -- `day_sheet::sheet::travels_to` meets its contract.
-use Rattle.search_arcs.specs.Town.{fresh-tables}
-use Rattle.toward_node.specs.Work.{primed-of}
+use Rattle.search_chains.specs.Town.{fresh-tables}
+use Rattle.toward_list.specs.Work.{primed-of}
 use borrow.Author.Needs.{needs}
 use Rattle.day_sheet.proofs.sheet.travels_to.Statement.{statement}
 use Rattle.day_sheet.proofs.sheet.travels_to.Tie as tie

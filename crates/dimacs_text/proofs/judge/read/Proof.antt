@@ -1,7 +1,7 @@
 -- `dimacs_text::judge::read` meets its contract.
 use Prim.Native.Nat.{_+_, _-_}
 use lib.ListN.{length}
-use Rattle.dimacs_text.specs.Reading.{ReadTo, reads}
+use Rattle.dimacs_reading.specs.Reading.{ReadTo, reads}
 use Rattle.dimacs_text.specs.Noting.{NotedTo, still-long, noted-start, noted-on, noted-over, noted-off}
 use borrow.Author.Needs.{needs}
 use Rattle.dimacs_text.proofs.judge.read.Statement.{statement}

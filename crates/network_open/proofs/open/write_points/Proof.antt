@@ -5,11 +5,8 @@ use borrow.Author.Needs.{needs}
 use Rattle.network_open.proofs.open.write_points.Statement.{statement}
 use Rattle.network_open.proofs.open.write_points.Tie as tie
 
-decode16-requires : tie.Need-decode16-requires
-decode16-requires c κs = (search points-stored, search needs)
-
-decode16-requires-2 : tie.Need-decode16-requires-2
-decode16-requires-2 c κs = (search points-stored, search needs)
+decode-pairs-requires : tie.Need-decode-pairs-requires
+decode-pairs-requires c κs = (search points-stored, search needs)
 
 same-length : tie.Need-same-length
 same-length c = search needs
@@ -21,5 +18,4 @@ returns : tie.Need-returns
 returns c = (search table-writes, search table-writes)
 
 pub write-points-spec : {M : Type 1} → statement M
-write-points-spec =
-    tie.close (tie.spec decode16-requires decode16-requires-2 same-length same-length-2 returns)
+write-points-spec = tie.close (tie.spec decode-pairs-requires same-length same-length-2 returns)

@@ -1,7 +1,7 @@
 -- `network_tables::rules::find_faults` meets its contract.
 use Prim.Native.Nat.{_-_}
 use Rattle.theory_travel.specs.Table.{entryAt}
-use Rattle.network_rules.specs.Scan.{Scanning, scan-more, scans}
+use Rattle.network_scan.specs.Scan.{Scanning, scan-more, scans}
 use borrow.Author.Needs.{needs}
 use Rattle.network_tables.proofs.rules.find_faults.Statement.{statement}
 use Rattle.network_tables.proofs.rules.find_faults.Tie as tie

@@ -3,7 +3,7 @@ use mathlib.Core.Path.{refl}
 use Prim.Native.Nat.{_-_}
 use native.Mathlib.Omega.{arith}
 use lib.ListN.{length}
-use Rattle.network_rules.specs.ScanAll.{ScanningAll, all-start, all-room, all-some, all-few, alls}
+use Rattle.network_scan.specs.ScanAll.{ScanningAll, all-start, all-room, all-some, all-few, alls}
 use Rattle.network_tables.specs.Cut.{bare}
 use borrow.Author.Needs.{needs}
 use Rattle.network_tables.proofs.rules.scan_points.Statement.{statement}

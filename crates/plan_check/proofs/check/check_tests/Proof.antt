@@ -1,6 +1,6 @@
 -- `plan_check::check::check_tests` meets its contract: 20 is tried first, and the tables that are filled then
 -- are those that the other tests ask for.
-use Rattle.search_arcs.specs.Town.{fresh-tables}
+use Rattle.search_chains.specs.Town.{fresh-tables}
 use Rattle.plan_check.specs.Ladder.{checks, equipped-of}
 use mathlib.Core.Path.{_∙_}
 use Rattle.plan_check.specs.Finds.{finds-none}

@@ -3,8 +3,8 @@ use mathlib.Core.Path.{refl}
 use native.Mathlib.Omega.{arith}
 use denote.Ref.{now}
 use Rattle.network.specs.Decode.{decode}
-use Rattle.search_arcs.specs.Town.{fresh-tables}
-use Rattle.toward_node.specs.Work.{valid-town, primed-of}
+use Rattle.search_chains.specs.Town.{fresh-tables}
+use Rattle.toward_list.specs.Work.{valid-town, primed-of}
 use Rattle.plan_make.specs.Making.{tables-of, counted-over, into-many}
 use borrow.Author.Needs.{needs}
 use Rattle.plan_make.proofs.make.make_listed.Statement.{statement}

@@ -5,7 +5,7 @@ use native.Mathlib.Nat.{mul-le-mul}
 use native.Mathlib.Omega.{arith}
 use lib.ListN.{length-take}
 use lib.Seq.{length-take-le}
-use Rattle.toward_node.specs.Work.{valid-town, size-is}
+use Rattle.toward_list.specs.Work.{valid-town, size-is}
 use Rattle.plan_make.specs.Making.{work-short, work-long}
 use borrow.Author.Needs.{needs}
 use Rattle.plan_make.proofs.make.make_opened.Statement.{statement}

@@ -2,7 +2,7 @@
 use denote.Ref.{now}
 use Rattle.network.specs.Decode.{decode}
 use Rattle.plan_encode.specs.Places.{plan-room}
-use Rattle.plan_make.specs.Rounds.{put-kept}
+use Rattle.plan_rounds.specs.Rounds.{put-kept}
 use Rattle.plan_make.specs.Making.{room-same, held-by, flagged-room, plan-made}
 use borrow.Author.Needs.{needs}
 use Rattle.plan_make.proofs.make.write_plan.Statement.{statement}

@@ -17,36 +17,21 @@ abbrev μ-loop : tie.MeasureT-loop
 loop-holds : tie.Need-loop-holds Inv-loop μ-loop
 loop-holds c = (search needs, search besides)
 
-mul-le16 : tie.Need-mul-le16 Inv-loop μ-loop
-mul-le16 c = search needs
+mul-break-at : tie.Need-mul-break-at Inv-loop μ-loop
+mul-break-at c = search needs
 
-add-le16 : tie.Need-add-le16 Inv-loop μ-loop
-add-le16 c = search needs
+add-break-at : tie.Need-add-break-at Inv-loop μ-loop
+add-break-at c = search needs
 
-le16-requires : tie.Need-le16-requires Inv-loop μ-loop
-le16-requires c κs = search needs
+break-at-requires : tie.Need-break-at-requires Inv-loop μ-loop
+break-at-requires c κs = search needs
 
-mul-le16-2 : tie.Need-mul-le16-2 Inv-loop μ-loop
-mul-le16-2 c = search needs
-
-add-le16-2 : tie.Need-add-le16-2 Inv-loop μ-loop
-add-le16-2 c = search needs
-
-add-le16-3 : tie.Need-add-le16-3 Inv-loop μ-loop
-add-le16-3 c = search needs
-
-le16-requires-2 : tie.Need-le16-requires-2 Inv-loop μ-loop
-le16-requires-2 c κs = search needs
-
-is-break-requires : tie.Need-is-break-requires Inv-loop μ-loop
-is-break-requires c κs = search needs
+cast-breaks : tie.Need-cast-breaks Inv-loop μ-loop
+cast-breaks c = search needs
 
 add-breaks : tie.Need-add-breaks Inv-loop μ-loop
 add-breaks c =
-    omega (
-      arith,
-      beside-few _ _ _ _ _ (c .before .before .before .before .loop .inv .1) (c .is-break .ensures .1),
-    )
+    omega (arith, beside-few _ _ _ _ _ (c .before .before .loop .inv .1) (c .break-at .ensures .1))
 
 add-e : tie.Need-add-e Inv-loop μ-loop
 add-e c = search needs
@@ -67,14 +52,10 @@ breaks-some-spec =
     Inv-loop
     μ-loop
     loop-holds
-    mul-le16
-    add-le16
-    le16-requires
-    mul-le16-2
-    add-le16-2
-    add-le16-3
-    le16-requires-2
-    is-break-requires
+    mul-break-at
+    add-break-at
+    break-at-requires
+    cast-breaks
     add-breaks
     add-e
     loop-less

@@ -1,6 +1,5 @@
 -- `plan_rising::progress::advance` meets its contract: `Walked` holds before each block.
-use mathlib.Core.Path.{_≡_, refl, sym, _∙_}
-use mathlib.Core.Bool.{true≢false}
+use mathlib.Core.Path.{_≡_, refl}
 use Prim.Native.Nat.{_-_, _≤_}
 use native.Mathlib.Omega.{arith}
 use Rattle.plan.specs.PlanDecode.{points-stored}
@@ -10,36 +9,29 @@ use Rattle.plan_rising.proofs.progress.advance.Statement.{statement}
 use Rattle.plan_rising.proofs.progress.advance.Tie as tie
 
 abbrev Inv-loop : tie.InvT-loop
-Inv-loop plan l marks until done next₀ j₀ next j = Walked plan l next × (next .done ≡ j) × (j ≤ until)
+Inv-loop plan l until done next₀ j₀ next j = Walked plan l next × (next .done ≡ j) × (j ≤ until)
 
 abbrev μ-loop : tie.MeasureT-loop
-μ-loop plan l marks until done next₀ j₀ next j = until - j
+μ-loop plan l until done next₀ j₀ next j = until - j
 
 loop-holds : tie.Need-loop-holds Inv-loop μ-loop
-loop-holds c = let p = c .before .pre .1 .1 in (p .0, refl, p .1 .0)
+loop-holds c = let p = c .before .pre .1 in (p .0, refl, p .1 .0)
 
 is-sound-block-requires : tie.Need-is-sound-block-requires Inv-loop μ-loop
 is-sound-block-requires c κs = (points-stored (c .before .before .before .pre .0), omega arith)
 
-first-of-requires : tie.Need-first-of-requires Inv-loop μ-loop
-first-of-requires c κs = search needs
-
 returns : tie.Need-returns Inv-loop μ-loop
-returns c e = absurd (true≢false (sym e ∙ c .first-of .ensures .3))
+returns c = c .before .before .before .loop .inv .0
 
 step-requires : tie.Need-step-requires Inv-loop μ-loop
 step-requires c κs =
-    let p = c .before .before .before .before .before .pre in
     let i = c .before .before .before .loop .inv in (
-      p .0,
+      c .before .before .before .before .before .pre .0,
       (
-        p .1 .0,
+        i .0,
         (
-          i .0,
-          (
-            omega arith,
-            next-sound (i .0) _ _ (i .1) (c .before .is-sound-block .ensures) (c .if1 .left),
-          ),
+          omega arith,
+          next-sound (i .0) _ _ (i .1) (c .before .is-sound-block .ensures) (c .if1 .left),
         ),
       ),
     )
@@ -54,7 +46,7 @@ loop-again : tie.Need-loop-again Inv-loop μ-loop
 loop-again c = let (w, e) = c .step .ensures in (w, omega arith, omega arith)
 
 returns-2 : tie.Need-returns-2 Inv-loop μ-loop
-returns-2 c e = (c .before .loop .inv .0, omega arith)
+returns-2 c = c .before .loop .inv .0
 
 pub advance-spec : {M : Type 1} → statement M
 advance-spec =
@@ -64,7 +56,6 @@ advance-spec =
     μ-loop
     loop-holds
     is-sound-block-requires
-    first-of-requires
     returns
     step-requires
     add-j

@@ -1,6 +1,6 @@
 -- `plan_tests::tests::is_unflagged_inside` meets its contract, test 20: the flag that is read is that of the
 -- cell of both ends.
-use Rattle.search_arcs.specs.Town.{town-reads}
+use Rattle.search_chains.specs.Town.{town-reads}
 use Rattle.plan_tests.specs.Failing.{failings}
 use borrow.Author.Needs.{needs}
 use Rattle.plan_tests.proofs.tests.is_unflagged_inside.Statement.{statement}

@@ -1,6 +1,6 @@
 -- `search_labels::reach::reach` meets its contract: by the tables of the arcs, and from the source's label
 -- alone, all is settled.
-use Rattle.search_arcs.specs.Town.{fresh-tables}
+use Rattle.search_chains.specs.Town.{fresh-tables}
 use Rattle.search_labels.specs.Ready.{ready-of}
 use borrow.Author.Needs.{needs}
 use Rattle.search_labels.proofs.reach.reach.Statement.{statement}

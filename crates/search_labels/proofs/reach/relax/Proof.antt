@@ -2,8 +2,8 @@
 -- of `notesAt`, and of what becomes of the frontier.
 use native.Mathlib.Nat.{le-of-lt}
 use Rattle.search_labels.specs.Ready.{ready-reads}
-use Rattle.search_labels.specs.Push.{front-new, pushes}
-use Rattle.search_labels.specs.Relax.{relax-less, relax-same, relax-late, relax-not}
+use Rattle.search_frontier.specs.Push.{front-new, pushes}
+use Rattle.search_frontier.specs.Relax.{relax-less, relax-same, relax-late, relax-not}
 use Rattle.search_labels.specs.Notes.{note-less, note-fewer, note-same, note-late, note-not}
 use Rattle.search_labels.specs.Walk.{
   arc-place,

@@ -3,7 +3,7 @@
 use Prim.Native.Nat.{_+_}
 use Rattle.network.specs.Town.{graphOf}
 use Rattle.network.specs.Decode.{decode}
-use Rattle.search_labels.specs.Frontier.{unknown}
+use Rattle.search_frontier.specs.Frontier.{unknown}
 use Rattle.search_labels.specs.Reach.{Searching, turns}
 use Rattle.search_labels.specs.Ready.{permitOf}
 use borrow.Author.Needs.{needs}

@@ -1,0 +1,14 @@
+-- `day_merge::walk::reached` meets its contract.
+use Rattle.day_walk.specs.Walk.{reached-is}
+use borrow.Author.Needs.{needs}
+use Rattle.day_walk.proofs.walk.reached.Statement.{statement}
+use Rattle.day_walk.proofs.walk.reached.Tie as tie
+
+cast-result : tie.Need-cast-result
+cast-result c = search needs
+
+returns : tie.Need-returns
+returns c = reached-is (c .args .a) (c .args .b)
+
+pub reached-spec : {M : Type 1} → statement M
+reached-spec = tie.close (tie.spec cast-result returns)

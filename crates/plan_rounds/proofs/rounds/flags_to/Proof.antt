@@ -1,0 +1,78 @@
+use mathlib.Core.Path.{refl, _∙_}
+use native.Mathlib.Omega.{arith}
+use Rattle.plan_rounds.specs.Rounds.{border-index, border-node, border-aimed}
+use borrow.Author.Needs.{needs}
+use Rattle.plan_rounds.proofs.rounds.flags_to.Statement.{statement}
+use Rattle.plan_rounds.proofs.rounds.flags_to.Tie as tie
+
+mul-wide : tie.Need-mul-wide
+mul-wide c =
+    let s = c .before .before in
+    omega (arith, border-index (s .pre .0) (s .pre .1 .0))
+
+element-copy-out-wide : tie.Need-element-copy-out-wide
+element-copy-out-wide c =
+    let s = c .before .before in
+    border-index (s .pre .0) (s .pre .1 .0)
+
+wide-requires : tie.Need-wide-requires
+wide-requires c κs = search needs
+
+least-travels-requires : tie.Need-least-travels-requires
+least-travels-requires c κs =
+    let s = c .before .before .before .before .before .before .before .before in (
+      (s .pre .0 .ready, s .pre .0 .leasts),
+      (
+        border-node (s .pre .0) (s .pre .1 .0) (c .before .before .before .before .wide .ensures .0),
+        s .pre .1 .1,
+        s .pre .1 .2,
+        refl,
+        refl,
+      ),
+    )
+
+flag-border-requires : tie.Need-flag-border-requires
+flag-border-requires c κs =
+    let s = c .before .before .before .before .before .before .before .before .before .before
+    .before .before .before .before .before .before in
+    let done = c .before .before .before .before .before .before .before .least-travels .ensures in (
+      (s .pre .0 .ready .primed, s .pre .0 .leasts),
+      (
+        (
+          border-node (s .pre .0) (s .pre .1 .0) (c .before .before .before .before .before
+              .before .before .before .before .before .before .before .wide .ensures .0),
+          omega (arith, s .pre .1 .1),
+          omega (arith, done .2, s .pre .1 .2),
+          s .pre .1 .3,
+        ),
+        (done .0, done .1),
+      ),
+    )
+
+same-length : tie.Need-same-length
+same-length c = search needs
+
+returns : tie.Need-returns
+returns c =
+    let s = c .before .before .before .before .before .before .before .before .before .before
+    .before .before .before .before .before .before .before in
+    let done = c .before .before .before .before .before .before .before .before .least-travels .ensures in
+    let flags = c .flag-border .ensures in (
+      border-aimed (s .pre .0) (s .pre .1 .0) (c .before .before .before .before .before .before
+          .before .before .before .before .before .before .before .wide .ensures .0) (done .0),
+      flags .0,
+      omega arith,
+      flags .1 ∙ done .2,
+    )
+
+pub flags-to-spec : {M : Type 1} → statement M
+flags-to-spec =
+    tie.close
+    (tie.spec
+    mul-wide
+    element-copy-out-wide
+    wide-requires
+    least-travels-requires
+    flag-border-requires
+    same-length
+    returns)

@@ -1,0 +1,2 @@
+-- What the plain trip answers and leaves (Plain).
+pub mod Plain
