@@ -32,7 +32,7 @@ ghost use Rattle.network.specs.Town.{partitionOf};
 ghost use Rattle.network.specs.Valid.{ValidFile};
 ghost use Rattle.plan.specs.PlanDecode.{decodePlan};
 ghost use Rattle.plan_tests.specs.Tests.{fails20};
-ghost use Rattle.plan_check.specs.Check.{refusedAt, checked};
+ghost use Rattle.plan_check.specs.Check.{checked};
 ghost use Rattle.plan_check.specs.CheckPlan.{checkedBy, checking};
 ghost use Rattle.plan.specs.PlanValidate.{planned};
 ghost use Rattle.plan.specs.PlanValid.{ValidPlan};

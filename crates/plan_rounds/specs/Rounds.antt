@@ -15,9 +15,8 @@ use Rattle.theory_loops.specs.Total.{total, total-add, total-same, total-up, to
 use Rattle.theory_loops.specs.Grid.{gridAt, grid-in}
 use Rattle.theory_paths.specs.Partition.{Partition}
 use Rattle.theory_paths.specs.Earliest.{never}
-use Rattle.theory_paths.specs.Least.{leastTicks}
 use Rattle.theory_travel.specs.Table.{entryAt}
-use Rattle.theory_travel.specs.Turns.{turns, turnCount, turns-same, turn-count-same, turn-at, turn-rank}
+use Rattle.theory_travel.specs.Turns.{turns, turns-same, turn-count-same, turn-at, turn-rank}
 use Rattle.network.specs.declared.header.Layout.{Layout}
 use Rattle.network.specs.Limits.{mostNodes, mostPeriod}
 use Rattle.network.specs.Network.{Network, nodes}
@@ -27,7 +26,6 @@ use Rattle.search_chains.specs.Town.{Town}
 use Rattle.plan.specs.declared.header.PlanLayout.{PlanLayout}
 use Rattle.plan.specs.Border.{borderCount, borderAt, Listed}
 use Rattle.plan.specs.Borders.{at-node}
-use Rattle.plan.specs.Plan.{pointStart}
 use Rattle.plan.specs.PlanLimits.{mostProfilePoints, mostProfiles}
 use Rattle.plan.specs.PlanMatch.{borders-few}
 use Rattle.plan_encode.specs.Places.{PlanRoom}

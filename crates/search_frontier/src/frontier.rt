@@ -5,7 +5,7 @@ use network::limits::MOST_NODES;
 use search_arcs::is_before;
 use search_arcs::wide;
 ghost use mathlib.Core.Path.{_≡_};
-ghost use Prim.Native.Nat.{_-_, _^_, _≤_, _<_};
+ghost use Prim.Native.Nat.{_-_, _≤_, _<_};
 ghost use lib.ListN.{getD, set};
 ghost use Rattle.network.specs.Limits.{mostNodes};
 ghost use Rattle.search_frontier.specs.Frontier.{keyOf, nodeOf, lastEnd};

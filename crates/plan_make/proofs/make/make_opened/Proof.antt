@@ -4,7 +4,6 @@ use denote.Ref.{now}
 use native.Mathlib.Nat.{mul-le-mul}
 use native.Mathlib.Omega.{arith}
 use lib.ListN.{length-take}
-use lib.Seq.{length-take-le}
 use Rattle.toward_list.specs.Work.{valid-town, size-is}
 use Rattle.plan_make.specs.Making.{work-short, work-long}
 use borrow.Author.Needs.{needs}
