@@ -3,7 +3,8 @@
 // comparison serves all ticks. No tick is looked at by itself and nothing is divided. What comes out is
 // painted into a byte for each tick, many spans at once while it stays the same. Over one run of the arc node
 // and head go on side by side (`sweep`), so that a step waits for few reads.
-// It may call `day_walk` to walk along runs; it cites `day_runs` for runs and `theory_loops` for filled parts.
+// It may call `day_walk` to walk along runs; it cites `day_slopes` for runs and `theory_loops` for filled
+// parts.
 use day_walk::walk::ends;
 use day_walk::walk::lesser;
 use day_walk::walk::next;

@@ -1,5 +1,5 @@
-// Runs of a day walked along: the run that holds a tick, from one tick to a later one, and the span over which
-// neither the node's run, the arc's nor its head's changes. specs/Walk.antt.
+// Runs of a day walked along: the run that holds a tick, from one tick to a later one, and the span over
+// which neither the node's run, the arc's nor its head's changes. specs/Walk.antt.
 ghost use mathlib.Core.Path.{_≡_};
 ghost use Prim.Native.Nat.{_+_, _%_, _≤_, _<_, min};
 ghost use lib.ListN.{length, getD};

@@ -8,7 +8,8 @@ use network::limits::MOST_PERIOD;
 ghost use mathlib.Core.Path.{_≡_};
 ghost use Prim.Native.Nat.{_+_, _^_, _<_};
 ghost use Rattle.dimacs_reading.specs.Reading as readings;
-ghost use Rattle.dimacs_reading.specs.Reading.{outside, misfit, noted, passedBy, sizedBy, arcBy, stepped};
+ghost use Rattle.dimacs_reading.specs.Reading.{outside, misfit, noted};
+ghost use Rattle.dimacs_reading.specs.Reading.{passedBy, sizedBy, arcBy, stepped};
 
 const NODES: u32 = MOST_NODES as u32;
 

@@ -1,5 +1,5 @@
-// What is said of a text once all its lines are read: its sizes, or refusal 35 where its form or order is wrong,
-// 36 where a size, an end or a weight is.
+// What is said of a text once all its lines are read: its sizes, or refusal 35 where its form or order is
+// wrong, 36 where a size, an end or a weight is.
 use crate::reading::Reading;
 use dimacs_line::line::Sizes;
 use file_refusals::Refusal;

@@ -1,5 +1,5 @@
-// search_arcs: when an arc of a sound network file that is taken at a tick ends, by its points, read in place;
-// and numbers of tables and rows as those who search compare them.
+// search_arcs: when an arc of a sound network file that is taken at a tick ends, by its points, read in
+// place; and numbers of tables and rows as those who search compare them.
 // It may call `network` for the entries of the file and `theory_travel` for the straight line; it cites
 // `search_chains` for what it rests on, `theory_loops` and `theory_paths`.
 pub mod times;

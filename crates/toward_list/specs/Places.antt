@@ -1,5 +1,5 @@
--- Where a node's row stands, and the laws of the loops that copy one, fill one, and look for its least and its
--- greatest number.
+-- Where a node's row stands, and the laws of the loops that copy one, fill one, and look for its least and
+-- its greatest number.
 use mathlib.Core.Path.{_≡_, refl, sym, _∙_, ap}
 use mathlib.Core.List.{List}
 use Prim.Native.Nat.{ℕ, _+_, _-_, _*_, _≤_, _<_, min, max}

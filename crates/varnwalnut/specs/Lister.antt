@@ -15,7 +15,8 @@ use Rattle.plan_check.specs.CheckPlan.{checking}
 use Rattle.trip.specs.Calls.{plainCall, flaggedCall}
 use Rattle.day_arrivals.specs.Sheet.{listing, DaySheet}
 use Rattle.day_arrivals.specs.Numbers.{SheetNumber, sheet-numbers}
-use Rattle.day_arrivals.specs.Promise.{ArrivesAt, HoldsDay, sheet-listed, sheet-plain-call, sheet-flagged-call}
+use Rattle.day_arrivals.specs.Promise.{ArrivesAt, HoldsDay, sheet-listed, sheet-plain-call}
+use Rattle.day_arrivals.specs.Promise.{sheet-flagged-call}
 use Rattle.varnwalnut.specs.Replies.{SheetReply}
 use Rattle.varnwalnut.specs.Returned.{returned-count}
 use Rattle.varnwalnut.specs.Room.{kept}
