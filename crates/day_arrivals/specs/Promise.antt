@@ -321,10 +321,7 @@ module _ (network : List ℕ) {from to : ℕ} {work₀ work₁ list₀ list₁ :
     sheet-next-day t u l h =
         let day = sheet-listed .1 in
         let e = earliest-shift 1 .0 (day .earliest u h) in
-        omega (
-          arith,
-          earliest-later (small (passed .1) .lawful) (omega arith) (day .earliest t l) e,
-        )
+        omega (arith, earliest-later (small (passed .1) .lawful) (omega arith) (day .earliest t l) e)
 
   -- From a place to itself each entry is its tick.
   pub sheet-home : Passed before → from ≡ to

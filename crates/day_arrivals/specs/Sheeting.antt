@@ -145,10 +145,7 @@ module _ {file : List ℕ} {l : Layout} (town : Town file l) {from to p : ℕ} {
   pub row-none : {r : Listing} {list : List ℕ} → getD W p 0 ≡ never → r ≡ unlisted 28
       → Lists n from to list list r
   unfolding listed
-  row-none e f = record {
-    answer = rw (eq-eqb (leastTicks g to from 0) never (sym first ∙ e)) f;
-    list = rw f;
-  }
+  row-none e f = record { answer = rw (eq-eqb (leastTicks g to from 0) never (sym first ∙ e)) f; list = rw f }
 
   module _ (e : getD W p 0 ≢ never) where
     way : (t : ℕ) → t < g .period → leastTicks g to from t ≤ (g .nodes - 1) * g .period
@@ -218,11 +215,7 @@ module _ (network : List ℕ) (from to : ℕ) (work₀ list₀ : List ℕ) (b : 
   pub sheet-opened : {h : Header} {work₁ list₁ : List ℕ} {r : Listing} → b ≡ Opened h
       → SheetCall (Opened h) (decode network) from to work₀ work₁ list₀ list₁ r
       → DaySheet network from to work₀ work₁ list₀ list₁ r
-  sheet-opened f c = record {
-    answer = rw (← e, f) (c .answer);
-    work = rw (← e, f) (c .work);
-    list = c .list;
-  }
+  sheet-opened f c = record { answer = rw (← e, f) (c .answer); work = rw (← e, f) (c .work); list = c .list }
 
 -- for `search sheets` where the sheet answers
 pub ruleset sheets = (sheet-valid, sheet-asks, sheet-refused, sheet-opened)

@@ -74,12 +74,7 @@ module _ (f : ℕ → ℕ) where
   runs-none starts values e =
       record {
         grid =
-            record {
-              begun =
-                  e;
-              ended = e;
-              rise = λ i l. absurd (omega arith);
-            };
+            record { begun = e; ended = e; rise = λ i l. absurd (omega arith) };
         held = λ i x l. absurd (omega arith);
       }
 

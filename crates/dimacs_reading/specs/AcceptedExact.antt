@@ -87,15 +87,7 @@ before n = record { lines = n; stopped = false; sized = false; nodes = 0; arcs =
 
 abbrev after : ℕ → Sizes → ℕ → Reading
 after n k s =
-    record {
-      lines = n;
-      stopped = false;
-      sized = true;
-      nodes = k .nodes;
-      arcs = k .arcs;
-      seen = s;
-      wrong = 0;
-    }
+    record { lines = n; stopped = false; sized = true; nodes = k .nodes; arcs = k .arcs; seen = s; wrong = 0 }
 
 zero-one : _≡_ {A = ℕ} 0 1 → ⊥
 zero-one z = omega arith

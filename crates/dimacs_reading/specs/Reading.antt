@@ -28,15 +28,7 @@ use Rattle.dimacs_reading.specs.declared.verdict.Judgement.the-variants.
 
 -- before the first line
 abbrev pub begun : Reading
-begun = record {
-  lines = 0;
-  stopped = false;
-  sized = false;
-  nodes = 0;
-  arcs = 0;
-  seen = 0;
-  wrong = 0;
-}
+begun = record { lines = 0; stopped = false; sized = false; nodes = 0; arcs = 0; seen = 0; wrong = 0 }
 
 -- 36: sizes outside the limits; equal ends, an end that is none of the nodes, or a weight that is no travel
 unfoldable pub outside : Sizes → Bool

@@ -112,10 +112,7 @@ module _ (ticks travels : List ℕ) (period from m : ℕ) where
 
     pub scan-stop : b ≡ true
         → Scanned period (entryAt ticks from) (entryAt travels from) m (record { bad = i; late = 0 })
-    scan-stop h = record {
-      bad = stop _ m i (s .fine) l (sym told-bad ∙ h);
-      late = λ q. absurd (omega arith);
-    }
+    scan-stop h = record { bad = stop _ m i (s .fine) l (sym told-bad ∙ h); late = λ q. absurd (omega arith) }
 
     pub scan-more : (next : ℕ) → b ≡ false → next ≡ lateAt late i end (x + y)
         → Scanning period (entryAt ticks from) (entryAt travels from) m (i + 1) x (x + y) next

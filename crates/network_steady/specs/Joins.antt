@@ -228,12 +228,7 @@ module _ {file : List ℕ} {l : Layout} (s : Laid file l) where
   unfolding before
   counting-none R e =
       let z : min (l .points) (pointPer * 0) ≡ 0 = omega arith in
-      record {
-        blocks-are = e;
-        within = omega arith;
-        last-is = rw z;
-        counted = rw z (Count.count-none p);
-      }
+      record { blocks-are = e; within = omega arith; last-is = rw z; counted = rw z (Count.count-none p) }
 
   module _ (R j last c : ℕ) (i : Counting (decode file) l R j last c) (g : j < R) where
     h : j < blocks pointPer (l .points)

@@ -120,10 +120,7 @@ module _ {h : Header} {l : Layout} {t : Tables} (c : Cut h l t) where
 
   pub counted-bare : Counted (whole h t) → Counted (bare (l .period) (t .counts) (t .ticks) (t .travels))
   unfolding start
-  counted-bare s = record {
-    some = λ a m. s .some a (rw arcs-same at m);
-    sum = rw arcs-same (s .sum);
-  }
+  counted-bare s = record { some = λ a m. s .some a (rw arcs-same at m); sum = rw arcs-same (s .sum) }
 
   pub points-judged : {r : Judged} → r ≡ judgedPoints (bare (l .period) (t .counts) (t .ticks) (t .travels))
       → r ≡ judgedPoints (whole h t)

@@ -127,10 +127,7 @@ module _ {network plan : List ℕ} {l : Layouts} {points starts : List ℕ} {b :
     unfolding painted
     met-merged same old new q t O A H =
         let p = t .is (numbersOf plan l b u) (travelAt (decode network) a) (numbersOf plan l b y) O A H in
-        record {
-          long = p .long;
-          at = λ x h. p .written x (omega arith) h ∙ rw (q, ← adds-bits x);
-        }
+        record { long = p .long; at = λ x h. p .written x (omega arith) h ∙ rw (q, ← adds-bits x) }
 
     -- it is too far all day: even the least travel to the least value is more than the node's greatest
     pub met-far : (old : List ℕ) (low least top : ℕ) → top < low + least

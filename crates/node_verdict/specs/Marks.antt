@@ -103,11 +103,7 @@ module _ (marks : List ℕ) (period : ℕ) {o : ℕ} (e : o ≡ offs marks perio
       rw (any-tells marks number period, ← e, eq-eqb (bitAnd o (bitOf number)) 0 h)
 
   pub marked-21 : bitAnd o 8 ≢ 0 → Marked marks period 21
-  marked-21 h = record {
-    low = omega arith;
-    passed = λ m lo hi k. absurd (omega arith);
-    some = λ _. set 21 h;
-  }
+  marked-21 h = record { low = omega arith; passed = λ m lo hi k. absurd (omega arith); some = λ _. set 21 h }
 
   module _ (c1 : bitAnd o 8 ≡ 0) where
     pub marked-22 : bitAnd o 1 ≢ 0 → Marked marks period 22

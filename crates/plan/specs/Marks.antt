@@ -147,10 +147,7 @@ module _ (G : Partition) where
 
   pub count-no : (v c : ℕ) → Counted G v c → isBorder G v ≡ false → Counted G (v + 1) c
   unfolding select
-  count-no v c h t = record {
-    count = rw (add-one v, t, select) (h .count);
-    few = omega (arith, h .few);
-  }
+  count-no v c h t = record { count = rw (add-one v, t, select) (h .count); few = omega (arith, h .few) }
 
   pub count-end : (v m c : ℕ) → Counted G v c → v ≤ m → m ≤ v → m ≡ G .graph .nodes → c ≡ borderCount G
   unfolding borders

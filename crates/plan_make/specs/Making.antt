@@ -176,12 +176,7 @@ module _ {file : List ℕ} {h : Header} (v : ValidFile file h) {count points : �
 
   pub borders-fit : count ≤ 512
   borders-fit =
-      omega (
-        arith,
-        borders-few (partitionOf n),
-        valid-headed v .nodes-are,
-        v .within .nodes-most,
-      )
+      omega (arith, borders-few (partitionOf n), valid-headed v .nodes-are, v .within .nodes-most)
 
 -- its file's length
 pub file-long : {h : PlanHeader} {k : PlanLayout} (m : Network) → k ≡ planLayoutOf h → h ≡ madeHeader m

@@ -43,11 +43,7 @@ module _ {k : PlanLayout} {row : List ℕ} where
   -- a part without a point
   pub put-none : {a b q : ℕ} {s : List ℕ} → pointsBefore row b ≡ pointsBefore row a
       → PutPoints k row a b q s s q
-  put-none e = record {
-    next = omega arith;
-    long = refl;
-    entered = λ p from h z c₀ q₀ s₀ c n. n;
-  }
+  put-none e = record { next = omega arith; long = refl; entered = λ p from h z c₀ q₀ s₀ c n. n }
 
   -- one point
   pub put-one : {x q v : ℕ} {s t : List ℕ} → x < length row → isPoint row x ≡ true → q < k .points

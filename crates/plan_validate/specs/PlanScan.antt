@@ -78,10 +78,7 @@ module _ (p : Plan) (l : PlanLayout) (from m : ℕ) where
     pub scan-stop : b ≡ true → from + m ≤ l .points → Scanned p l from m (record { bad = from + i; at = c })
     scan-stop k room =
         let q : badTick (l .period) t i ≡ true = sym told-bad ∙ k in
-        record {
-          bad = rw (yes-any _ m i h q, ← (stop _ m i (s .fine) h q));
-          at = λ z. absurd (omega arith);
-        }
+        record { bad = rw (yes-any _ m i h q, ← (stop _ m i (s .fine) h q)); at = λ z. absurd (omega arith) }
 
     pub scan-more : (d : Walk) → b ≡ false → d ≡ pointAt (l .pointblock) (from + (i + 1))
         → Scanning p l from m (i + 1) (x + 1) (l .period) d

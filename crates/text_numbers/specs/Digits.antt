@@ -76,13 +76,7 @@ pub digits-none : (text : List ℕ) (at : ℕ) → DigitsAt text at at 0
 unfolding areDigits valueFrom
 digits-none text at =
     let z : at - at ≡ 0 = omega arith in
-    record {
-      after = omega arith;
-      few = omega arith;
-      digits = rw z;
-      is = rw z;
-      small = rw z (omega arith);
-    }
+    record { after = omega arith; few = omega arith; digits = rw z; is = rw z; small = rw z (omega arith) }
 
 pub digits-below : (text : List ℕ) (at i value : ℕ) → DigitsAt text at i value → i < at + 9 → value < 10 ^ 8
 digits-below text at i value h l =

@@ -13,14 +13,7 @@ use Rattle.text_numbers.specs.Spaced.{limit}
 -- not ruled out: so many numbers have ended, these two, and the next has so many digits and this value
 abbrev pub reading : ℕ → ℕ → ℕ → ℕ → ℕ → Scan
 reading fields digits value first second =
-    record {
-      bad = false;
-      fields = fields;
-      digits = digits;
-      value = value;
-      first = first;
-      second = second;
-    }
+    record { bad = false; fields = fields; digits = digits; value = value; first = first; second = second }
 
 -- before a line's first byte
 abbrev pub fresh : Scan

@@ -115,10 +115,7 @@ module _ {g : Graph} {p : Permit} {s x : ℕ} {L : ℕ → ℕ} (e : Exact g p s
     )
 
     pub exact-never : (t : ℕ) → L t ≤ never → (L t ≡ never) ↔ (¬ Reachable g p s t)
-    exact-never t h = (
-      λ q r. omega (arith, exact-bound r),
-      λ k. go k (decLt (L t) never),
-    )
+    exact-never t h = (λ q r. omega (arith, exact-bound r), λ k. go k (decLt (L t) never))
       where
         go : ¬ Reachable g p s t → Dec (L t < never) → L t ≡ never
         go k (yes l) = absurd (k (exact-reach t .0 l))

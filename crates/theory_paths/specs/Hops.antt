@@ -268,9 +268,5 @@ module _ {g : Graph} (ok : Lawful g) {p : Permit} {s x : ℕ} (n : s < g .nodes)
           let q = ap (label (hops g p s L)) (r .enters) in
           let o = counting-ends g a (driven (counting g) (r .before) 0) in (
             a,
-            record {
-              tight = k;
-              enters = r .enters;
-              fewer = omega (arith, r .at);
-            },
+            record { tight = k; enters = r .enters; fewer = omega (arith, r .at) },
           )

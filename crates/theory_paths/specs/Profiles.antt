@@ -253,10 +253,7 @@ module _ {g : Graph} (ok : Lawful g) (D : Profile) where
   -- a true profile has no number exactly where there is no path
   pub true-unreachable : {b : ℕ} → TrueProfile g b D → (u x : ℕ) → u < nodes → x < period
       → (D u x ≡ unreachable) ↔ (¬ Reachable g all u b)
-  true-unreachable {b} t u x n h = (
-    t .none u x n h,
-    λ k. go k (D u x) refl,
-  )
+  true-unreachable {b} t u x n h = (t .none u x n h, λ k. go k (D u x) refl)
     where
       go : ¬ Reachable g all u b → (d : Travel) → D u x ≡ d → d ≡ unreachable
       go k unreachable q = refl

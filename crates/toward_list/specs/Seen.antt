@@ -140,11 +140,7 @@ module _ {r : ℕ} {first : Bool} {W M : List ℕ} (wide u : ℕ) (w h : ℕ →
 
   pub row-most : (k : ℕ) → u * wide ≤ k → k < u * wide + wide → getD M k 0 ≤ offer w h wide (k - u * wide)
   row-most k lo hi =
-      omega (
-        arith,
-        row-given k lo hi,
-        lowest-most first (getD W k 0) (offer w h wide (k - u * wide)),
-      )
+      omega (arith, row-given k lo hi, lowest-most first (getD W k 0) (offer w h wide (k - u * wide)))
 
   pub row-first : first ≡ true → (x : ℕ) → x < wide → gridAt wide M u x ≡ offer w h wide x
   unfolding gridAt lowest
@@ -228,11 +224,7 @@ module _ {r : ℕ} {first : Bool} {W M : List ℕ} (wide u : ℕ) (w h : ℕ →
 -- FOR THE LOOP that fills the rows without a number
 module _ (wide from : ℕ) (H W : List ℕ) where
   pub shown-none : Shown wide from from H W W
-  shown-none = record {
-    long = refl;
-    row = λ u x lo hi h. absurd (omega arith);
-    after = λ u x l h. refl;
-  }
+  shown-none = record { long = refl; row = λ u x lo hi h. absurd (omega arith); after = λ u x l h. refl }
 
   module _ {M : List ℕ} (v : ℕ) (s : Shown wide from v H W M) where
     -- node v has numbers

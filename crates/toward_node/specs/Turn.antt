@@ -481,10 +481,7 @@ module _ {file : List ℕ} {l : Layout} {starts into next : List ℕ} (t : Ready
     bars = k;
     queue = queue-first (lawful town) (omega (arith, town .sizes .nodes)) home away
         (λ e. omega (arith, dirty));
-    found = record {
-      dirty = λ _ e. omega (arith, dirty);
-      none = λ m. absurd (omega arith);
-    };
+    found = record { dirty = λ _ e. omega (arith, dirty); none = λ m. absurd (omega arith) };
   }
     where
       only : List ℕ
@@ -563,11 +560,7 @@ module _ {file : List ℕ} {l : Layout} {starts into next : List ℕ} (t : Ready
             → never - bar ≤ gridAt (l .period) W u x
         far u x n y d =
             let o : u < l .nodes = omega (arith, town .sizes .nodes) in
-            omega (
-              arith,
-              w .heights .low u x o (omega (arith, town .sizes .period)) d,
-              w .found .none h u o,
-            )
+            omega (arith, w .heights .low u x o (omega (arith, town .sizes .period)) d, w .found .none h u o)
 
         -- the numbers that are wanted are not above the bar
         wanted : (u x : ℕ) → u < l .nodes → x < l .period → (goal < l .nodes → u ≡ goal)

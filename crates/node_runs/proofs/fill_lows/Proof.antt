@@ -17,21 +17,6 @@ Inv-loop plan l firsts i lows₀ nodes u₀ lows u =
 abbrev μ-loop : tie.MeasureT-loop
 μ-loop plan l firsts i lows₀ nodes u₀ lows u = nodes - u
 
-loop-holds : tie.Need-loop-holds Inv-loop μ-loop
-loop-holds c = (search needs, refl, lows-none _ _)
-
-low-value-requires : tie.Need-low-value-requires Inv-loop μ-loop
-low-value-requires c κs = search needs
-
-element-write-lows : tie.Need-element-write-lows Inv-loop μ-loop
-element-write-lows c = search needs
-
-add-u : tie.Need-add-u Inv-loop μ-loop
-add-u c = search needs
-
-loop-less : tie.Need-loop-less Inv-loop μ-loop
-loop-less c = search needs
-
 loop-again : tie.Need-loop-again Inv-loop μ-loop
 loop-again c = let s = c .before .before .before .before in
     let l = c .before .before .loop in (
@@ -51,10 +36,10 @@ fill-lows-spec =
     (tie.spec
     Inv-loop
     μ-loop
-    loop-holds
-    low-value-requires
-    element-write-lows
-    add-u
-    loop-less
+    (λ c. (search needs, refl, lows-none _ _))
+    (λ c κs. search needs)
+    (λ c. search needs)
+    (λ c. search needs)
+    (λ c. search needs)
     loop-again
     returns)

@@ -13,9 +13,6 @@ use borrow.Author.Needs.{needs}
 use Rattle.node_runs.proofs.judge_arc.Statement.{statement}
 use Rattle.node_runs.proofs.judge_arc.Tie as tie
 
-head-requires : tie.Need-head-requires
-head-requires c κs = search needs
-
 mul-point-count : tie.Need-mul-point-count
 mul-point-count c =
     let s =
@@ -65,12 +62,6 @@ element-copy-out-is-far c = let s = c .before .before .before .before .before .b
       head-in w (s .pre .1 .1 .0 .0) (c .before .before .before .before .before .head .ensures .0),
       w .check .formed .small .nodes-most,
     )
-
-least-requires : tie.Need-least-requires
-least-requires c κs = search needs
-
-is-far-requires : tie.Need-is-far-requires
-is-far-requires c κs = search needs
 
 returns-2 : tie.Need-returns-2
 returns-2 c = let s = c .before .before .before .before .before .before .before .before .before .before
@@ -124,43 +115,25 @@ meet-requires c κs = let s = c .before .before .before .before .before .before 
       ),
     )
 
-same-length : tie.Need-same-length
-same-length c = search needs
-
-same-length-2 : tie.Need-same-length-2
-same-length-2 c = search needs
-
-same-length-3 : tie.Need-same-length-3
-same-length-3 c = search needs
-
-same-length-4 : tie.Need-same-length-4
-same-length-4 c = search needs
-
-same-length-5 : tie.Need-same-length-5
-same-length-5 c = search needs
-
-returns-3 : tie.Need-returns-3
-returns-3 c = search needs
-
 pub judge-arc-spec : {M : Type 1} → statement M
 judge-arc-spec =
     tie.close
     (tie.spec
-    head-requires
+    (λ c κs. search needs)
     mul-point-count
     add-point-count
     point-count-requires
     returns
     element-copy-out-brief
     element-copy-out-is-far
-    least-requires
-    is-far-requires
+    (λ c κs. search needs)
+    (λ c κs. search needs)
     returns-2
     same-bits-requires
     meet-requires
-    same-length
-    same-length-2
-    same-length-3
-    same-length-4
-    same-length-5
-    returns-3)
+    (λ c. search needs)
+    (λ c. search needs)
+    (λ c. search needs)
+    (λ c. search needs)
+    (λ c. search needs)
+    (λ c. search needs))

@@ -34,9 +34,6 @@ element-copy-out-wide c =
     let s = c .before .before .before .before .before .before .before .before .before in
     omega (arith, s .pre .1 .1 .0 .0, s .pre .0 .prepared .check .town .small .nodes-most)
 
-wide-requires : tie.Need-wide-requires Inv-loop μ-loop
-wide-requires c κs = search needs
-
 loop-holds : tie.Need-loop-holds Inv-loop μ-loop
 loop-holds c =
     let s = c .before .before .before .before .before .before .before .before .before .before .before in (
@@ -97,9 +94,6 @@ element-copy-out-wide-2 c =
       s .pre .0 .prepared .check .town .small .arcs-most,
     )
 
-wide-requires-2 : tie.Need-wide-requires-2 Inv-loop μ-loop
-wide-requires-2 c κs = search needs
-
 loop-less : tie.Need-loop-less Inv-loop μ-loop
 loop-less c =
     judge-less (c .before .before .before .before .before .before .before .before .before .before .before
@@ -138,21 +132,6 @@ loop-again c =
       walk-next (l .inv .1) (l .inv .2) h _ (c .wide2 .ensures .0) (g .1),
     )
 
-same-length : tie.Need-same-length Inv-loop μ-loop
-same-length c = c .before .loop .inv .0 .arc-s
-
-same-length-2 : tie.Need-same-length-2 Inv-loop μ-loop
-same-length-2 c = c .before .loop .inv .0 .arc-v
-
-same-length-3 : tie.Need-same-length-3 Inv-loop μ-loop
-same-length-3 c = c .before .loop .inv .0 .head-s
-
-same-length-4 : tie.Need-same-length-4 Inv-loop μ-loop
-same-length-4 c = c .before .loop .inv .0 .head-v
-
-same-length-5 : tie.Need-same-length-5 Inv-loop μ-loop
-same-length-5 c = c .before .loop .inv .0 .bytes
-
 returns : tie.Need-returns Inv-loop μ-loop
 returns c =
     let s =
@@ -171,17 +150,17 @@ judge-arcs-spec =
     μ-loop
     mul-wide
     element-copy-out-wide
-    wide-requires
+    (λ c κs. search needs)
     loop-holds
     judge-arc-requires
     mul-wide-2
     element-copy-out-wide-2
-    wide-requires-2
+    (λ c κs. search needs)
     loop-less
     loop-again
-    same-length
-    same-length-2
-    same-length-3
-    same-length-4
-    same-length-5
+    (λ c. c .before .loop .inv .0 .arc-s)
+    (λ c. c .before .loop .inv .0 .arc-v)
+    (λ c. c .before .loop .inv .0 .head-s)
+    (λ c. c .before .loop .inv .0 .head-v)
+    (λ c. c .before .loop .inv .0 .bytes)
     returns)

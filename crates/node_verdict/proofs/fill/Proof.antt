@@ -13,27 +13,12 @@ Inv-loop marks₀ a b byte x₀ marks x = (a ≤ x) × (x ≤ b) × Filled a x (
 abbrev μ-loop : tie.MeasureT-loop
 μ-loop marks₀ a b byte x₀ marks x = b - x
 
-loop-holds : tie.Need-loop-holds Inv-loop μ-loop
-loop-holds c = (search needs, search needs, fill-none _ _ _)
-
-slice-write-marks : tie.Need-slice-write-marks Inv-loop μ-loop
-slice-write-marks c = omega (arith, c .before .loop .inv .2 .long)
-
-add-x : tie.Need-add-x Inv-loop μ-loop
-add-x c = search needs
-
-loop-less : tie.Need-loop-less Inv-loop μ-loop
-loop-less c = search needs
-
 loop-again : tie.Need-loop-again Inv-loop μ-loop
 loop-again c = let l = c .before .loop in (
   omega arith,
   omega arith,
   fill-up _ _ _ _ _ _ (l .inv .2) (l .inv .0) (omega arith) refl,
 )
-
-same-length : tie.Need-same-length Inv-loop μ-loop
-same-length c = search needs
 
 returns : tie.Need-returns Inv-loop μ-loop
 returns c = let l = c .before .loop in fill-end _ _ _ _ _ _ (l .inv .2) (l .inv .1) (c .loop-test .left)
@@ -44,10 +29,10 @@ fill-spec =
     (tie.spec
     Inv-loop
     μ-loop
-    loop-holds
-    slice-write-marks
-    add-x
-    loop-less
+    (λ c. (search needs, search needs, fill-none _ _ _))
+    (λ c. omega (arith, c .before .loop .inv .2 .long))
+    (λ c. search needs)
+    (λ c. search needs)
     loop-again
-    same-length
+    (λ c. search needs)
     returns)

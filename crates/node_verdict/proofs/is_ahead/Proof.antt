@@ -22,21 +22,9 @@ Inv-loop network plan l first next i node arcs a₀ a =
 abbrev μ-loop : tie.MeasureT-loop
 μ-loop network plan l first next i node arcs a₀ a = arcs - a
 
-mul-wide : tie.Need-mul-wide Inv-loop μ-loop
-mul-wide c = search needs
-
-element-copy-out-wide : tie.Need-element-copy-out-wide Inv-loop μ-loop
-element-copy-out-wide c = search needs
-
-wide-requires : tie.Need-wide-requires Inv-loop μ-loop
-wide-requires c κs = search needs
-
 loop-holds : tie.Need-loop-holds Inv-loop μ-loop
 loop-holds c = let s = c .before .before .before .before in
     walk-first _ (s .pre .1 .0) (ahead-elsewhere _ _ _ _) (s .pre .1 .1 .1) (c .wide .ensures .0)
-
-head-requires : tie.Need-head-requires Inv-loop μ-loop
-head-requires c κs = search needs
 
 mul-point-count : tie.Need-mul-point-count Inv-loop μ-loop
 mul-point-count c = let s = c .before .before .before .before .before .before .before .before in
@@ -93,9 +81,6 @@ element-copy-out-wide-2 c = omega (
       .before .before .before .before .before .before .before .before .before .pre .0 .town .small .arcs-most,
 )
 
-wide-requires-2 : tie.Need-wide-requires-2 Inv-loop μ-loop
-wide-requires-2 c κs = search needs
-
 loop-less : tie.Need-loop-less Inv-loop μ-loop
 loop-less c = walk-less (c .before .before .before .before .before .before .before .loop .inv) (c .before
     .before .before .before .before .before .loop-test .taken) _ (c .wide2 .ensures .0)
@@ -118,18 +103,18 @@ is-ahead-spec =
     (tie.spec
     Inv-loop
     μ-loop
-    mul-wide
-    element-copy-out-wide
-    wide-requires
+    (λ c. search needs)
+    (λ c. search needs)
+    (λ c κs. search needs)
     loop-holds
-    head-requires
+    (λ c κs. search needs)
     mul-point-count
     add-point-count
     point-count-requires
     returns
     mul-wide-2
     element-copy-out-wide-2
-    wide-requires-2
+    (λ c κs. search needs)
     loop-less
     loop-again
     returns-2)

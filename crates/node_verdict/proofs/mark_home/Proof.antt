@@ -21,12 +21,6 @@ point-count-requires : tie.Need-point-count-requires
 point-count-requires c κs = let s = c .before .before .before .before .before in
     (s .pre .0 .laid, profile-in (s .pre .0) _ _ (s .pre .1 .1 .0 .0) (s .pre .1 .1 .0 .1))
 
-fill-requires : tie.Need-fill-requires
-fill-requires c κs = search needs
-
-same-length : tie.Need-same-length
-same-length c = search needs
-
 returns : tie.Need-returns
 returns c =
     let z = sym (c .before .before .before .before .before .point-count .ensures .0) ∙ c .before .before
@@ -61,15 +55,6 @@ mark-runs-requires c κs = let h = c .before .before .before .before .before .be
       ),
     )
 
-same-length-2 : tie.Need-same-length-2
-same-length-2 c = search needs
-
-same-length-3 : tie.Need-same-length-3
-same-length-3 c = search needs
-
-same-length-4 : tie.Need-same-length-4
-same-length-4 c = search needs
-
 returns-2 : tie.Need-returns-2
 returns-2 c = let f = c .before .before .before .before .before .before .before .before .before .before
     .fill-profile .ensures in (
@@ -93,12 +78,12 @@ mark-home-spec =
     mul-point-count
     add-point-count
     point-count-requires
-    fill-requires
-    same-length
+    (λ c κs. search needs)
+    (λ c. search needs)
     returns
     fill-profile-requires
     mark-runs-requires
-    same-length-2
-    same-length-3
-    same-length-4
+    (λ c. search needs)
+    (λ c. search needs)
+    (λ c. search needs)
     returns-2)

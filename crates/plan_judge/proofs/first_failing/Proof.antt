@@ -230,9 +230,6 @@ places-again c = let w = c .before .before .before .before .before .before .befo
       row-more _ _ _ (p .4) _ (rw (w .nodes, t .sizes .nodes)) (told .1) (omega arith) (p .2 .high),
     )
 
-ticks-holds : tie.Need-ticks-holds Inv-ticks μ-ticks Inv-places μ-places Inv-borders μ-borders
-ticks-holds c = (search needs, refl, refl, none-yet _)
-
 fails-at-requires : tie.Need-fails-at-requires Inv-ticks μ-ticks Inv-places μ-places Inv-borders μ-borders
 fails-at-requires c κs = let k = c .before .before .before .before .before .before .before .before .before
     .before .before .before .before .before .before .before .before .before .before .judge .kept .1 .1 .1 .1
@@ -340,9 +337,6 @@ add-tick c = omega (
       .period-most,
 )
 
-ticks-less : tie.Need-ticks-less Inv-ticks μ-ticks Inv-places μ-places Inv-borders μ-borders
-ticks-less c = omega (arith, c .before .before .before .ticks-test .taken)
-
 ticks-again : tie.Need-ticks-again Inv-ticks μ-ticks Inv-places μ-places Inv-borders μ-borders
 ticks-again c = let i = c .before .before .before .before .ticks .inv in (
   omega (arith, c .before .before .before .ticks-test .taken),
@@ -431,27 +425,6 @@ borders-again c = let s = c .before .before .before .before .before .before .bef
       stands-row (p .2) (omega (arith, e)),
       tally-more _ _ (λ a m. t .sound .arc a m .tail-node) (b .4) (rw e at (p .4)) (p .3) (b .3 .high),
     )
-
-same-length : tie.Need-same-length Inv-ticks μ-ticks Inv-places μ-places Inv-borders μ-borders
-same-length c = search needs
-
-same-length-2 : tie.Need-same-length-2 Inv-ticks μ-ticks Inv-places μ-places Inv-borders μ-borders
-same-length-2 c = search needs
-
-same-length-3 : tie.Need-same-length-3 Inv-ticks μ-ticks Inv-places μ-places Inv-borders μ-borders
-same-length-3 c = search needs
-
-same-length-4 : tie.Need-same-length-4 Inv-ticks μ-ticks Inv-places μ-places Inv-borders μ-borders
-same-length-4 c = search needs
-
-same-length-5 : tie.Need-same-length-5 Inv-ticks μ-ticks Inv-places μ-places Inv-borders μ-borders
-same-length-5 c = search needs
-
-same-length-6 : tie.Need-same-length-6 Inv-ticks μ-ticks Inv-places μ-places Inv-borders μ-borders
-same-length-6 c = search needs
-
-same-length-7 : tie.Need-same-length-7 Inv-ticks μ-ticks Inv-places μ-places Inv-borders μ-borders
-same-length-7 c = search needs
 
 returns : tie.Need-returns Inv-ticks μ-ticks Inv-places μ-places Inv-borders μ-borders
 returns c = let i = c .before .borders .inv in
@@ -561,13 +534,13 @@ first-failing-spec =
     add-node
     places-less
     places-again
-    ticks-holds
+    (λ c. (search needs, refl, refl, none-yet _))
     fails-at-requires
     add-node-2
     places-less-2
     places-again-2
     add-tick
-    ticks-less
+    (λ c. omega (arith, c .before .before .before .ticks-test .taken))
     ticks-again
     add-node-3
     places-less-3
@@ -575,13 +548,13 @@ first-failing-spec =
     add-i
     borders-less
     borders-again
-    same-length
-    same-length-2
-    same-length-3
-    same-length-4
-    same-length-5
-    same-length-6
-    same-length-7
+    (λ c. search needs)
+    (λ c. search needs)
+    (λ c. search needs)
+    (λ c. search needs)
+    (λ c. search needs)
+    (λ c. search needs)
+    (λ c. search needs)
     returns
     same-length-8
     same-length-9

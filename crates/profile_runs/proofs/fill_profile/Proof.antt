@@ -8,24 +8,6 @@ use borrow.Author.Needs.{needs}
 use Rattle.profile_runs.proofs.fill_profile.Statement.{statement}
 use Rattle.profile_runs.proofs.fill_profile.Tie as tie
 
-mul-wide : tie.Need-mul-wide
-mul-wide c = search needs
-
-element-copy-out-wide : tie.Need-element-copy-out-wide
-element-copy-out-wide c = search needs
-
-wide-requires : tie.Need-wide-requires
-wide-requires c κs = search needs
-
-mul-point-count : tie.Need-mul-point-count
-mul-point-count c = search starting
-
-add-point-count : tie.Need-add-point-count
-add-point-count c = search starting
-
-point-count-requires : tie.Need-point-count-requires
-point-count-requires c κs = search (starting, needs)
-
 fill-points-requires : tie.Need-fill-points-requires
 fill-points-requires c κs =
     let s = c .before .before .before .before .before .before .before .before .before .before in
@@ -41,12 +23,6 @@ fill-points-requires c κs =
         (s .pre .1 .1 .1 .0, omega (arith, count, s .pre .1 .1 .1 .1)),
       ),
     )
-
-same-length : tie.Need-same-length
-same-length c = search needs
-
-same-length-2 : tie.Need-same-length-2
-same-length-2 c = search needs
 
 returns : tie.Need-returns
 returns c =
@@ -66,13 +42,13 @@ pub fill-profile-spec : {M : Type 1} → statement M
 fill-profile-spec =
     tie.close
     (tie.spec
-    mul-wide
-    element-copy-out-wide
-    wide-requires
-    mul-point-count
-    add-point-count
-    point-count-requires
+    (λ c. search needs)
+    (λ c. search needs)
+    (λ c κs. search needs)
+    (λ c. search starting)
+    (λ c. search starting)
+    (λ c κs. search (starting, needs))
     fill-points-requires
-    same-length
-    same-length-2
+    (λ c. search needs)
+    (λ c. search needs)
     returns)

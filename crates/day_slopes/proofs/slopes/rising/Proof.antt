@@ -18,21 +18,6 @@ Inv-loop starts₀ values₀ n a v b w rise step parts₀ j₀ starts values par
 abbrev μ-loop : tie.MeasureT-loop
 μ-loop starts₀ values₀ n a v b w rise step parts₀ j₀ starts values parts j = rise - j
 
-sub-rise : tie.Need-sub-rise Inv-loop μ-loop
-sub-rise c = search needs
-
-cast-rise : tie.Need-cast-rise Inv-loop μ-loop
-cast-rise c = search needs
-
-sub-step-up : tie.Need-sub-step-up Inv-loop μ-loop
-sub-step-up c = search needs
-
-cast-step-up : tie.Need-cast-step-up Inv-loop μ-loop
-cast-step-up c = search needs
-
-step-up-requires : tie.Need-step-up-requires Inv-loop μ-loop
-step-up-requires c κs = search needs
-
 loop-holds : tie.Need-loop-holds Inv-loop μ-loop
 loop-holds c =
     let s = c .before .before .before in (
@@ -41,12 +26,6 @@ loop-holds c =
       rise-start (s .pre .0) _ _ _ (s .pre .1 .0) (s .pre .1 .1)
           (c .step-up .ensures),
     )
-
-add-e : tie.Need-add-e Inv-loop μ-loop
-add-e c = search needs
-
-wholes-requires : tie.Need-wholes-requires Inv-loop μ-loop
-wholes-requires c κs = search needs
 
 add-e-2 : tie.Need-add-e-2 Inv-loop μ-loop
 add-e-2 c =
@@ -59,15 +38,6 @@ add-e-2 c =
           (c .before .before .before .step-up .ensures) (l .j) _ _ (l .inv .1) (c .before .loop-test .taken)
           (c .wholes .ensures),
     )
-
-add-put : tie.Need-add-put Inv-loop μ-loop
-add-put c = search needs
-
-cast-put : tie.Need-cast-put Inv-loop μ-loop
-cast-put c = search needs
-
-add-put-2 : tie.Need-add-put-2 Inv-loop μ-loop
-add-put-2 c = search needs
 
 put-requires : tie.Need-put-requires Inv-loop μ-loop
 put-requires c κs =
@@ -99,12 +69,6 @@ add-parts c =
     (c .before .before .before .before .before .before .before .before .before .before .step-up .ensures)
     (l .j) _ (l .inv .1) (c .before .before .before .before .before .before .before .before .loop-test .taken)
 
-add-j : tie.Need-add-j Inv-loop μ-loop
-add-j c = search needs
-
-loop-less : tie.Need-loop-less Inv-loop μ-loop
-loop-less c = search needs
-
 loop-again : tie.Need-loop-again Inv-loop μ-loop
 loop-again c =
     let s =
@@ -122,15 +86,6 @@ loop-again c =
           (c .before .before .before .before .put .ensures .1),
     )
 
-add-result : tie.Need-add-result Inv-loop μ-loop
-add-result c = search needs
-
-same-length : tie.Need-same-length Inv-loop μ-loop
-same-length c = search needs
-
-same-length-2 : tie.Need-same-length-2 Inv-loop μ-loop
-same-length-2 c = search needs
-
 returns : tie.Need-returns Inv-loop μ-loop
 returns c =
     let s = c .before .before .before .before .before in
@@ -144,24 +99,24 @@ rising-spec =
     (tie.spec
     Inv-loop
     μ-loop
-    sub-rise
-    cast-rise
-    sub-step-up
-    cast-step-up
-    step-up-requires
+    (λ c. search needs)
+    (λ c. search needs)
+    (λ c. search needs)
+    (λ c. search needs)
+    (λ c κs. search needs)
     loop-holds
-    add-e
-    wholes-requires
+    (λ c. search needs)
+    (λ c κs. search needs)
     add-e-2
-    add-put
-    cast-put
-    add-put-2
+    (λ c. search needs)
+    (λ c. search needs)
+    (λ c. search needs)
     put-requires
     add-parts
-    add-j
-    loop-less
+    (λ c. search needs)
+    (λ c. search needs)
     loop-again
-    add-result
-    same-length
-    same-length-2
+    (λ c. search needs)
+    (λ c. search needs)
+    (λ c. search needs)
     returns)

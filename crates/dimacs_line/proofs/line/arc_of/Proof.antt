@@ -6,9 +6,6 @@ use borrow.Author.Needs.{needs}
 use Rattle.dimacs_line.proofs.line.arc_of.Statement.{statement}
 use Rattle.dimacs_line.proofs.line.arc_of.Tie as tie
 
-is-whole-requires : tie.Need-is-whole-requires
-is-whole-requires c κs = search needs
-
 returns : tie.Need-returns
 unfolding arcShape
 returns c = search (picks, not-true, not-false) depth 6
@@ -18,4 +15,4 @@ unfolding arcShape
 returns-2 c = search (picks, not-true, not-false) depth 6
 
 pub arc-of-spec : {M : Type 1} → statement M
-arc-of-spec = tie.close (tie.spec is-whole-requires returns returns-2)
+arc-of-spec = tie.close (tie.spec (λ c κs. search needs) returns returns-2)

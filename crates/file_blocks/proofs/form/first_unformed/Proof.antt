@@ -14,34 +14,10 @@ Inv-loop file from kind per size n m j₀ j = (j ≤ m) × (first j (unformed fi
 abbrev μ-loop : tie.MeasureT-loop
 μ-loop file from kind per size n m j₀ j = m - j
 
-blocks-requires : tie.Need-blocks-requires Inv-loop μ-loop
-blocks-requires c κs = (c .before .pre .0 .pos, search needs)
-
-loop-holds : tie.Need-loop-holds Inv-loop μ-loop
-loop-holds c = (search needs, search firsts)
-
-is-unformed-requires : tie.Need-is-unformed-requires Inv-loop μ-loop
-is-unformed-requires c κs = (search needs, omega arith)
-
-add-result : tie.Need-add-result Inv-loop μ-loop
-add-result c = search needs
-
 returns : tie.Need-returns Inv-loop μ-loop
 returns c =
     ap (λ j. c .before .before .before .before .before .before .args .from + j)
     (stop _ _ _ (c .before .before .before .loop .inv .1) (omega arith) (search firsts))
-
-add-j : tie.Need-add-j Inv-loop μ-loop
-add-j c = search needs
-
-loop-less : tie.Need-loop-less Inv-loop μ-loop
-loop-less c = search needs
-
-loop-again : tie.Need-loop-again Inv-loop μ-loop
-loop-again c = (search needs, search firsts)
-
-add-result-2 : tie.Need-add-result-2 Inv-loop μ-loop
-add-result-2 c = search needs
 
 returns-2 : tie.Need-returns-2 Inv-loop μ-loop
 returns-2 c =
@@ -54,13 +30,13 @@ first-unformed-spec =
     (tie.spec
     Inv-loop
     μ-loop
-    blocks-requires
-    loop-holds
-    is-unformed-requires
-    add-result
+    (λ c κs. (c .before .pre .0 .pos, search needs))
+    (λ c. (search needs, search firsts))
+    (λ c κs. (search needs, omega arith))
+    (λ c. search needs)
     returns
-    add-j
-    loop-less
-    loop-again
-    add-result-2
+    (λ c. search needs)
+    (λ c. search needs)
+    (λ c. (search needs, search firsts))
+    (λ c. search needs)
     returns-2)

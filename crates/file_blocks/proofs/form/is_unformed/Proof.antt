@@ -7,12 +7,6 @@ use borrow.Author.Needs.{needs}
 use Rattle.file_blocks.proofs.form.is_unformed.Statement.{statement}
 use Rattle.file_blocks.proofs.form.is_unformed.Tie as tie
 
-entries-in-requires : tie.Need-entries-in-requires
-entries-in-requires c κs = search block-starts
-
-add-is-formed : tie.Need-add-is-formed
-add-is-formed c = search needs
-
 mul-is-formed : tie.Need-mul-is-formed
 mul-is-formed c = record {
   fits = omega (
@@ -41,16 +35,13 @@ is-formed-requires c κs = (
   ),
 )
 
-returns : tie.Need-returns
-returns c = search run-unformed
-
 pub is-unformed-spec : {M : Type 1} → statement M
 is-unformed-spec =
     tie.close
     (tie.spec
-    entries-in-requires
-    add-is-formed
+    (λ c κs. search block-starts)
+    (λ c. search needs)
     mul-is-formed
     add-is-formed-2
     is-formed-requires
-    returns)
+    (λ c. search run-unformed))

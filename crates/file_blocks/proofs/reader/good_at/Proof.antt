@@ -4,14 +4,5 @@ use borrow.Author.Needs.{needs}
 use Rattle.file_blocks.proofs.reader.good_at.Statement.{statement}
 use Rattle.file_blocks.proofs.reader.good_at.Tie as tie
 
-is-good-requires : tie.Need-is-good-requires
-is-good-requires c κs = search needs
-
-returns : tie.Need-returns
-returns c = search picks
-
-returns-2 : tie.Need-returns-2
-returns-2 c = search picks
-
 pub good-at-spec : {M : Type 1} → statement M
-good-at-spec = tie.close (tie.spec is-good-requires returns returns-2)
+good-at-spec = tie.close (tie.spec (λ c κs. search needs) (λ c. search picks) (λ c. search picks))

@@ -15,22 +15,10 @@ Inv-loop file n b₀ b = (b ≤ n) × (first b (bad file) ≡ b)
 abbrev μ-loop : tie.MeasureT-loop
 μ-loop file n b₀ b = n - b
 
-loop-holds : tie.Need-loop-holds Inv-loop μ-loop
-loop-holds c = (search needs, search firsts)
-
-is-good-requires : tie.Need-is-good-requires Inv-loop μ-loop
-is-good-requires c κs = omega arith
-
 returns : tie.Need-returns Inv-loop μ-loop
 returns c =
     stop _ _ _ (c .before .before .before .loop .inv .1) (omega arith)
     (told _ _ _ (ap not (c .before .is-good .ensures)) (c .if1 .taken))
-
-add-b : tie.Need-add-b Inv-loop μ-loop
-add-b c = search needs
-
-loop-less : tie.Need-loop-less Inv-loop μ-loop
-loop-less c = search needs
 
 loop-again : tie.Need-loop-again Inv-loop μ-loop
 loop-again c = (
@@ -39,19 +27,16 @@ loop-again c = (
       (told _ _ _ (ap not (c .before .is-good .ensures)) (c .if1 .left)),
 )
 
-returns-2 : tie.Need-returns-2 Inv-loop μ-loop
-returns-2 c = search firsts
-
 pub first-bad-before-spec : {M : Type 1} → statement M
 first-bad-before-spec =
     tie.close
     (tie.spec
     Inv-loop
     μ-loop
-    loop-holds
-    is-good-requires
+    (λ c. (search needs, search firsts))
+    (λ c κs. omega arith)
     returns
-    add-b
-    loop-less
+    (λ c. search needs)
+    (λ c. search needs)
     loop-again
-    returns-2)
+    (λ c. search firsts))

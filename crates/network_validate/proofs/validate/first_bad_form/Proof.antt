@@ -7,12 +7,6 @@ use borrow.Author.Needs.{needs}
 use Rattle.network_validate.proofs.validate.first_bad_form.Statement.{statement}
 use Rattle.network_validate.proofs.validate.first_bad_form.Tie as tie
 
-first-bad-nodes-requires : tie.Need-first-bad-nodes-requires
-first-bad-nodes-requires c κs = search needs
-
-returns : tie.Need-returns
-returns c = search forms
-
 first-unformed-requires : tie.Need-first-unformed-requires
 first-unformed-requires c κs =
     (search forms, omega (arith, laid-small (c .before .before .before .before .pre)))
@@ -44,8 +38,8 @@ pub first-bad-form-spec : {M : Type 1} → statement M
 first-bad-form-spec =
     tie.close
     (tie.spec
-    first-bad-nodes-requires
-    returns
+    (λ c κs. search needs)
+    (λ c. search forms)
     first-unformed-requires
     returns-2
     first-unformed-requires-2

@@ -28,9 +28,6 @@ Inv-loop network out₀ marks count₀ v₀ v-end out count v =
 abbrev μ-loop : tie.MeasureT-loop
 μ-loop network out₀ marks count₀ v₀ v-end out count v = v-end - v
 
-mark-heads-requires : tie.Need-mark-heads-requires Inv-loop μ-loop
-mark-heads-requires c κs = (search needs, (search needs, mark-none _))
-
 loop-holds : tie.Need-loop-holds Inv-loop μ-loop
 loop-holds c = let s = c .before .before .before .pre .0 in (
   search needs,
@@ -40,27 +37,6 @@ loop-holds c = let s = c .before .before .before .pre .0 in (
   c .before .before .before .pre .1 .1,
   search chooses,
 )
-
-array-read-if1 : tie.Need-array-read-if1 Inv-loop μ-loop
-array-read-if1 c = search needs
-
-cast-out : tie.Need-cast-out Inv-loop μ-loop
-cast-out c = search needs
-
-mul-out : tie.Need-mul-out Inv-loop μ-loop
-mul-out c = search needs
-
-element-write-out : tie.Need-element-write-out Inv-loop μ-loop
-element-write-out c = search needs
-
-add-count : tie.Need-add-count Inv-loop μ-loop
-add-count c = search needs
-
-add-v : tie.Need-add-v Inv-loop μ-loop
-add-v c = search needs
-
-loop-less : tie.Need-loop-less Inv-loop μ-loop
-loop-less c = search needs
 
 loop-again : tie.Need-loop-again Inv-loop μ-loop
 loop-again c =
@@ -89,14 +65,14 @@ list-borders-spec =
     (tie.spec
     Inv-loop
     μ-loop
-    mark-heads-requires
+    (λ c κs. (search needs, (search needs, mark-none _)))
     loop-holds
-    array-read-if1
-    cast-out
-    mul-out
-    element-write-out
-    add-count
-    add-v
-    loop-less
+    (λ c. search needs)
+    (λ c. search needs)
+    (λ c. search needs)
+    (λ c. search needs)
+    (λ c. search needs)
+    (λ c. search needs)
+    (λ c. search needs)
     loop-again
     returns)

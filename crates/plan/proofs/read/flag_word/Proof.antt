@@ -9,13 +9,10 @@ offset-requires : tie.Need-offset-requires
 offset-requires c κs = let e = flag-in (c .before .pre .0) (c .before .pre .1) in
     (e .pos, e .fit, e .near)
 
-le64-requires : tie.Need-le64-requires
-le64-requires c κs = omega (arith, flag-in (c .before .before .pre .0) (c .before .before .pre .1))
-
 returns : tie.Need-returns
 returns c =
     flag-is (c .before .before .before .pre .0) (c .before .before .before .pre .1)
     (rw add-zero (rw (c .before .offset .ensures) at (c .le64 .ensures)))
 
 pub flag-word-spec : {M : Type 1} → statement M
-flag-word-spec = tie.close (tie.spec offset-requires le64-requires returns)
+flag-word-spec = tie.close (tie.spec offset-requires (λ c κs. omega (arith, flag-in (c .before .before .pre .0) (c .before .before .pre .1))) returns)

@@ -29,9 +29,6 @@ mul-long c =
           (header-within (s .pre .0 .0) (s .pre .1 .1 .0) (s .pre .1 .1 .1) (s .pre .1 .1 .2)),
     )
 
-unwritten-requires : tie.Need-unwritten-requires
-unwritten-requires c κs = search needs
-
 returns : tie.Need-returns
 returns c =
     let s = c .before .before .before .before .before .before .before in
@@ -70,12 +67,6 @@ cast-t24 c =
           (header-within (s .pre .0 .0) (s .pre .1 .1 .0) (s .pre .1 .1 .1) (s .pre .1 .1 .2)),
     )
 
-same-length : tie.Need-same-length
-same-length c = search needs
-
-same-length-2 : tie.Need-same-length-2
-same-length-2 c = search needs
-
 returns-2 : tie.Need-returns-2
 returns-2 c =
     let s = c .before .before .before .before .before .before .before .before .before .before .before
@@ -95,10 +86,10 @@ make-counted-spec =
     cast-t16
     layout-requires
     mul-long
-    unwritten-requires
+    (λ c κs. search needs)
     returns
     write-plan-requires
     cast-t24
-    same-length
-    same-length-2
+    (λ c. search needs)
+    (λ c. search needs)
     returns-2)

@@ -52,12 +52,6 @@ count-points-requires c κs =
       (borders .0, s .pre .1),
     )
 
-unwritten-requires : tie.Need-unwritten-requires
-unwritten-requires c κs = search needs
-
-same-length : tie.Need-same-length
-same-length c = search needs
-
 returns : tie.Need-returns
 returns c =
     let s = c .before .before .before .before .before .before .before .before .before .before .before
@@ -94,15 +88,6 @@ make-counted-requires c κs =
       ),
     )
 
-same-length-2 : tie.Need-same-length-2
-same-length-2 c = search needs
-
-same-length-3 : tie.Need-same-length-3
-same-length-3 c = search needs
-
-returns-2 : tie.Need-returns-2
-returns-2 c = search needs
-
 pub make-listed-spec : {M : Type 1} → statement M
 make-listed-spec =
     tie.close
@@ -112,10 +97,10 @@ make-listed-spec =
     least-of-arcs-requires
     list-borders-requires
     count-points-requires
-    unwritten-requires
-    same-length
+    (λ c κs. search needs)
+    (λ c. search needs)
     returns
     make-counted-requires
-    same-length-2
-    same-length-3
-    returns-2)
+    (λ c. search needs)
+    (λ c. search needs)
+    (λ c. search needs))

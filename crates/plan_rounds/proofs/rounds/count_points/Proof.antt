@@ -55,9 +55,6 @@ add-seen c =
           (c .before .before .before .before .travels-to .ensures .0) (c .count-rows .ensures),
     )
 
-same-length : tie.Need-same-length Inv-loop μ-loop
-same-length c = search needs
-
 returns : tie.Need-returns Inv-loop μ-loop
 returns c =
     let s = c .before .before .before .before .before .before .before .before .before .before .before .before
@@ -69,12 +66,6 @@ returns c =
     (c .before .before .before .before .before .travels-to .ensures .0) (at .inv .2) (c .before .count-rows
     .ensures))
     (omega arith) (c .if1 .taken)
-
-add-i : tie.Need-add-i Inv-loop μ-loop
-add-i c = search needs
-
-loop-less : tie.Need-loop-less Inv-loop μ-loop
-loop-less c = search needs
 
 loop-again : tie.Need-loop-again Inv-loop μ-loop
 loop-again c =
@@ -91,9 +82,6 @@ loop-again c =
       omega (arith, told .2, at .inv .4),
     )
 
-same-length-2 : tie.Need-same-length-2 Inv-loop μ-loop
-same-length-2 c = search needs
-
 returns-2 : tie.Need-returns-2 Inv-loop μ-loop
 returns-2 c =
     let s = c .before .before .before .before in
@@ -109,10 +97,10 @@ count-points-spec =
     travels-to-requires
     count-rows-requires
     add-seen
-    same-length
+    (λ c. search needs)
     returns
-    add-i
-    loop-less
+    (λ c. search needs)
+    (λ c. search needs)
     loop-again
-    same-length-2
+    (λ c. search needs)
     returns-2)

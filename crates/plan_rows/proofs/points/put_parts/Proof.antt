@@ -13,12 +13,6 @@ Inv-loop row last out₀ k q at₀ x₀ out at x = (1 ≤ x) × (x ≤ last) × 
 abbrev μ-loop : tie.MeasureT-loop
 μ-loop row last out₀ k q at₀ x₀ out at x = last - x
 
-loop-holds : tie.Need-loop-holds Inv-loop μ-loop
-loop-holds c = (search needs, search needs, put-none refl)
-
-part-end-requires : tie.Need-part-end-requires Inv-loop μ-loop
-part-end-requires c κs = search needs
-
 put-part-requires : tie.Need-put-part-requires Inv-loop μ-loop
 put-part-requires c κs =
     let s = c .before .before .before .before .before .before in
@@ -33,9 +27,6 @@ put-part-requires c κs =
       ),
     )
 
-loop-less : tie.Need-loop-less Inv-loop μ-loop
-loop-less c = search needs
-
 loop-again : tie.Need-loop-again Inv-loop μ-loop
 loop-again c = (
   omega arith,
@@ -43,9 +34,6 @@ loop-again c = (
   put-join (c .before .before .before .before .before .before .loop .inv .2) (c .before .before .put-part
       .ensures),
 )
-
-same-length : tie.Need-same-length Inv-loop μ-loop
-same-length c = c .before .loop .inv .2 .long
 
 returns : tie.Need-returns Inv-loop μ-loop
 returns c =
@@ -58,10 +46,10 @@ put-parts-spec =
     (tie.spec
     Inv-loop
     μ-loop
-    loop-holds
-    part-end-requires
+    (λ c. (search needs, search needs, put-none refl))
+    (λ c κs. search needs)
     put-part-requires
-    loop-less
+    (λ c. search needs)
     loop-again
-    same-length
+    (λ c. c .before .loop .inv .2 .long)
     returns)

@@ -8,8 +8,5 @@ count-borders-requires : tie.Need-count-borders-requires
 count-borders-requires c κs = let v = c .before .pre .0 in
     (rw (c .before .pre .1) (valid-laid v), v .sound)
 
-returns : tie.Need-returns
-returns c = search needs
-
 pub count-borders-spec : {M : Type 1} → statement M
-count-borders-spec = tie.close (tie.spec count-borders-requires returns)
+count-borders-spec = tie.close (tie.spec count-borders-requires (λ c. search needs))

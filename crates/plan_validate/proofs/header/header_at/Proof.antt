@@ -3,27 +3,6 @@ use borrow.Author.Needs.{needs}
 use Rattle.plan_validate.proofs.header.header_at.Statement.{statement}
 use Rattle.plan_validate.proofs.header.header_at.Tie as tie
 
-le32-requires : tie.Need-le32-requires
-le32-requires c κs = search needs
-
-le16-requires : tie.Need-le16-requires
-le16-requires c κs = search needs
-
-le16-requires-2 : tie.Need-le16-requires-2
-le16-requires-2 c κs = search needs
-
-le16-requires-3 : tie.Need-le16-requires-3
-le16-requires-3 c κs = search needs
-
-le16-requires-4 : tie.Need-le16-requires-4
-le16-requires-4 c κs = search needs
-
-le16-requires-5 : tie.Need-le16-requires-5
-le16-requires-5 c κs = search needs
-
-le32-requires-2 : tie.Need-le32-requires-2
-le32-requires-2 c κs = search needs
-
 returns : tie.Need-returns
 returns c =
     let f = c .before in
@@ -45,11 +24,11 @@ pub header-at-spec : {M : Type 1} → statement M
 header-at-spec =
     tie.close
     (tie.spec
-    le32-requires
-    le16-requires
-    le16-requires-2
-    le16-requires-3
-    le16-requires-4
-    le16-requires-5
-    le32-requires-2
+    (λ c κs. search needs)
+    (λ c κs. search needs)
+    (λ c κs. search needs)
+    (λ c κs. search needs)
+    (λ c κs. search needs)
+    (λ c κs. search needs)
+    (λ c κs. search needs)
     returns)

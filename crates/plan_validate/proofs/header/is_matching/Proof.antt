@@ -25,9 +25,6 @@ returns-5 : tie.Need-returns-5
 unfolding matching
 returns-5 c = search picks depth 10
 
-cast-count : tie.Need-cast-count
-cast-count c = search needs
-
 returns-6 : tie.Need-returns-6
 unfolding matching
 returns-6 c = search picks depth 10
@@ -39,4 +36,4 @@ returns-7 c = search picks depth 10
 pub is-matching-spec : {M : Type 1} → statement M
 is-matching-spec =
     tie.close
-    (tie.spec returns returns-2 returns-3 returns-4 returns-5 cast-count returns-6 returns-7)
+    (tie.spec returns returns-2 returns-3 returns-4 returns-5 (λ c. search needs) returns-6 returns-7)

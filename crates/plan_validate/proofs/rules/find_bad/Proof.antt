@@ -34,36 +34,15 @@ read : (c : tie.After-field16 Inv-loop μ-loop)
 read c = tick-read (start (c .before) .pre .0) (inside (c .before)) (c .before .before .loop .inv .at)
     (c .field16 .ensures .0)
 
-loop-holds : tie.Need-loop-holds Inv-loop μ-loop
-loop-holds c = search scans
-
-field16-requires : tie.Need-field16-requires Inv-loop μ-loop
-field16-requires c κs = tick-there (start c .pre .0) (inside c) (c .before .loop .inv .at)
-
-is-outside-requires : tie.Need-is-outside-requires Inv-loop μ-loop
-is-outside-requires c κs = search needs
-
-add-t13 : tie.Need-add-t13 Inv-loop μ-loop
-add-t13 c = search needs
-
 returns : tie.Need-returns Inv-loop μ-loop
 returns c = let d = c .before .before .before in
     scan-stop _ _ _ _ _ _ _ _ _ _ (plan-small (start d .pre .0) .period-some) (d .before .loop .inv)
     (d .loop-test .taken) (read (c .before .before)) (c .before .is-outside .ensures) (c .if1 .taken)
     (start d .pre .1 .0)
 
-add-low : tie.Need-add-low Inv-loop μ-loop
-add-low c = search needs
-
 next-requires : tie.Need-next-requires Inv-loop μ-loop
 next-requires c κs = let d = c .before .before .before in
     point-may (start d .pre .0) _ _ (inside d) (d .before .loop .inv .at)
-
-add-i : tie.Need-add-i Inv-loop μ-loop
-add-i c = search needs
-
-loop-less : tie.Need-loop-less Inv-loop μ-loop
-loop-less c = search needs
 
 loop-again : tie.Need-loop-again Inv-loop μ-loop
 loop-again c = let d = c .before .before .before .before in
@@ -72,23 +51,20 @@ loop-again c = let d = c .before .before .before .before in
     (c .before .if1 .left)
     (point-on (start d .pre .0) _ _ (inside d) (d .before .loop .inv .at) (c .next .ensures))
 
-returns-2 : tie.Need-returns-2 Inv-loop μ-loop
-returns-2 c = search scans
-
 pub find-bad-spec : {M : Type 1} → statement M
 find-bad-spec =
     tie.close
     (tie.spec
     Inv-loop
     μ-loop
-    loop-holds
-    field16-requires
-    is-outside-requires
-    add-t13
+    (λ c. search scans)
+    (λ c κs. tick-there (start c .pre .0) (inside c) (c .before .loop .inv .at))
+    (λ c κs. search needs)
+    (λ c. search needs)
     returns
-    add-low
+    (λ c. search needs)
     next-requires
-    add-i
-    loop-less
+    (λ c. search needs)
+    (λ c. search needs)
     loop-again
-    returns-2)
+    (λ c. search scans))

@@ -5,14 +5,5 @@ use Rattle.plan.specs.PlanRules.{no-high, high-shift}
 use Rattle.plan_validate.proofs.rules.has_high_bit.Statement.{statement}
 use Rattle.plan_validate.proofs.rules.has_high_bit.Tie as tie
 
-returns : tie.Need-returns
-returns c = no-high _ _ (c .if1 .taken) (c .before .pre) (c .before .fits .word .fits)
-
-shr-result : tie.Need-shr-result
-shr-result c = search needs
-
-returns-2 : tie.Need-returns-2
-returns-2 c = high-shift (c .before .args .cells) (c .before .args .word)
-
 pub has-high-bit-spec : {M : Type 1} → statement M
-has-high-bit-spec = tie.close (tie.spec returns shr-result returns-2)
+has-high-bit-spec = tie.close (tie.spec (λ c. no-high _ _ (c .if1 .taken) (c .before .pre) (c .before .fits .word .fits)) (λ c. search needs) (λ c. high-shift (c .before .args .cells) (c .before .args .word)))

@@ -8,21 +8,9 @@ use Rattle.plan.specs.PlanRules.{judgedFlags}
 use Rattle.plan_validate.proofs.rules.judge_plan.Statement.{statement}
 use Rattle.plan_validate.proofs.rules.judge_plan.Tie as tie
 
-first-bad-word-requires : tie.Need-first-bad-word-requires
-first-bad-word-requires c κs = search needs
-
-cast-faulty : tie.Need-cast-faulty
-cast-faulty c = omega (arith, plan-small (c .before .before .before .before .pre))
-
-faulty-requires : tie.Need-faulty-requires
-faulty-requires c κs = search needs
-
 returns : tie.Need-returns
 unfolding judgedFlags
 returns c = search picks
-
-judge-profiles-requires : tie.Need-judge-profiles-requires
-judge-profiles-requires c κs = search needs
 
 returns-2 : tie.Need-returns-2
 unfolding judgedFlags
@@ -32,9 +20,9 @@ pub judge-plan-spec : {M : Type 1} → statement M
 judge-plan-spec =
     tie.close
     (tie.spec
-    first-bad-word-requires
-    cast-faulty
-    faulty-requires
+    (λ c κs. search needs)
+    (λ c. omega (arith, plan-small (c .before .before .before .before .pre)))
+    (λ c κs. search needs)
     returns
-    judge-profiles-requires
+    (λ c κs. search needs)
     returns-2)

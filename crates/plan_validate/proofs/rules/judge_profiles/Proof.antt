@@ -52,12 +52,6 @@ loop-holds c =
 field16-requires : tie.Need-field16-requires Inv-loop μ-loop
 field16-requires c κs = count-there (start c .pre) (c .loop-test .taken) (c .before .loop .inv .counts-at)
 
-cast-faulty : tie.Need-cast-faulty Inv-loop μ-loop
-cast-faulty c = let d = c .before .before .before in omega (arith, few d)
-
-faulty-requires : tie.Need-faulty-requires Inv-loop μ-loop
-faulty-requires c κs = search needs
-
 returns : tie.Need-returns Inv-loop μ-loop
 returns c = let d = c .before .before .before .before in
     count-taken _ _ _ _ _ _ _ (d .before .loop .inv) (d .loop-test .taken)
@@ -76,12 +70,6 @@ next-requires : tie.Need-next-requires Inv-loop μ-loop
 next-requires c κs = let d = c .before .before .before .before in
     count-may (start d .pre) (d .loop-test .taken) (d .before .loop .inv .counts-at)
 
-add-k : tie.Need-add-k Inv-loop μ-loop
-add-k c = search needs
-
-loop-less : tie.Need-loop-less Inv-loop μ-loop
-loop-less c = search needs
-
 loop-again : tie.Need-loop-again Inv-loop μ-loop
 loop-again c = let d = c .before .before .before .before .before in
     pass-more _ _ _ _ _ _ _ (d .before .loop .inv) (d .loop-test .taken)
@@ -92,9 +80,6 @@ loop-again c = let d = c .before .before .before .before .before in
 cast-faulty-2 : tie.Need-cast-faulty-2 Inv-loop μ-loop
 cast-faulty-2 c = omega (arith, plan-small (c .before .before .before .before .before .before .before .pre))
 
-faulty-requires-2 : tie.Need-faulty-requires-2 Inv-loop μ-loop
-faulty-requires-2 c κs = search needs
-
 returns-2 : tie.Need-returns-2 Inv-loop μ-loop
 returns-2 c =
     sum-taken _ _ _ _ _ _ (c .before .before .before .before .loop .inv)
@@ -103,9 +88,6 @@ returns-2 c =
 cast-faulty-3 : tie.Need-cast-faulty-3 Inv-loop μ-loop
 cast-faulty-3 c =
     omega (arith, plan-small (c .before .before .before .before .before .before .before .before .before .pre))
-
-faulty-requires-3 : tie.Need-faulty-requires-3 Inv-loop μ-loop
-faulty-requires-3 c κs = search needs
 
 returns-3 : tie.Need-returns-3 Inv-loop μ-loop
 returns-3 c =
@@ -128,19 +110,19 @@ judge-profiles-spec =
     new-requires-2
     loop-holds
     field16-requires
-    cast-faulty
-    faulty-requires
+    (λ c. let d = c .before .before .before in omega (arith, few d))
+    (λ c κs. search needs)
     returns
     scan-on-requires
     add-from
     next-requires
-    add-k
-    loop-less
+    (λ c. search needs)
+    (λ c. search needs)
     loop-again
     cast-faulty-2
-    faulty-requires-2
+    (λ c κs. search needs)
     returns-2
     cast-faulty-3
-    faulty-requires-3
+    (λ c κs. search needs)
     returns-3
     returns-4)

@@ -7,9 +7,6 @@ use Rattle.plan.specs.PlanValidate.{forms, flags-end, counts-end, points-end, u
 use Rattle.plan_validate.proofs.validate.first_bad_form.Statement.{statement}
 use Rattle.plan_validate.proofs.validate.first_bad_form.Tie as tie
 
-first-unformed-requires : tie.Need-first-unformed-requires
-first-unformed-requires c κs = (search forms, omega (arith, plan-small (c .before .pre)))
-
 returns : tie.Need-returns
 returns c = let s = c .before .before .before .before .pre in
     unformed-told s _
@@ -47,7 +44,7 @@ pub first-bad-form-spec : {M : Type 1} → statement M
 first-bad-form-spec =
     tie.close
     (tie.spec
-    first-unformed-requires
+    (λ c κs. (search forms, omega (arith, plan-small (c .before .pre))))
     returns
     first-unformed-requires-2
     returns-2

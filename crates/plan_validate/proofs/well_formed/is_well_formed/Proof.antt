@@ -35,36 +35,18 @@ laid c =
     now-laid (file m) _ _ (c .before .before .layout .ensures) (within m)
     (m .before .before .header-at .ensures) (c .if3 .left)
 
-is-first-formed-requires : tie.Need-is-first-formed-requires
-is-first-formed-requires c κs = search needs
-
 returns : tie.Need-returns
 returns c e = absurd (true≢false (sym e))
-
-header-at-requires : tie.Need-header-at-requires
-header-at-requires c κs = search needs
-
-is-matching-requires : tie.Need-is-matching-requires
-is-matching-requires c κs = search needs
 
 returns-2 : tie.Need-returns-2
 returns-2 c e = absurd (true≢false (sym e))
 
-layout-requires : tie.Need-layout-requires
-layout-requires c κs = within c
-
 mul-if3 : tie.Need-mul-if3
 mul-if3 c = let m = c .before .before in
-    omega (
-      arith,
-      blocks-few (file m) _ _ (c .before .layout .ensures) (within m),
-    )
+    omega (arith, blocks-few (file m) _ _ (c .before .layout .ensures) (within m))
 
 returns-3 : tie.Need-returns-3
 returns-3 c e = absurd (true≢false (sym e))
-
-is-sound-requires : tie.Need-is-sound-requires
-is-sound-requires c κs = laid c
 
 returns-4 : tie.Need-returns-4
 returns-4 c e =
@@ -81,13 +63,13 @@ pub is-well-formed-spec : {M : Type 1} → statement M
 is-well-formed-spec =
     tie.close
     (tie.spec
-    is-first-formed-requires
+    (λ c κs. search needs)
     returns
-    header-at-requires
-    is-matching-requires
+    (λ c κs. search needs)
+    (λ c κs. search needs)
     returns-2
-    layout-requires
+    (λ c κs. within c)
     mul-if3
     returns-3
-    is-sound-requires
+    (λ c κs. laid c)
     returns-4)

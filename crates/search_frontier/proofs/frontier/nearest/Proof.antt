@@ -23,28 +23,10 @@ Inv-loop keys size least₀ i₀ least i = (i ≤ size) × Least keys i least
 abbrev μ-loop : tie.MeasureT-loop
 μ-loop keys size least₀ i₀ least i = size - i
 
-element-copy-out-least : tie.Need-element-copy-out-least Inv-loop μ-loop
-element-copy-out-least c = search needs
-
-loop-holds : tie.Need-loop-holds Inv-loop μ-loop
-loop-holds c = (search needs, search (least-one, needs))
-
-mul-key : tie.Need-mul-key Inv-loop μ-loop
-mul-key c = search needs
-
-element-copy-out-key : tie.Need-element-copy-out-key Inv-loop μ-loop
-element-copy-out-key c = search needs
-
 is-before-requires : tie.Need-is-before-requires Inv-loop μ-loop
 is-before-requires c κs = let s = c .before .before .before .before .pre .2 in
     let i = c .before .before .loop .inv in
     (s .below _ (c .before .loop-test .taken), least-small s (i .1) (i .0))
-
-add-i : tie.Need-add-i Inv-loop μ-loop
-add-i c = search needs
-
-loop-less : tie.Need-loop-less Inv-loop μ-loop
-loop-less c = search needs
 
 loop-again : tie.Need-loop-again Inv-loop μ-loop
 loop-again c =
@@ -58,21 +40,18 @@ loop-again c =
           (c .if1 .came),
     )
 
-returns : tie.Need-returns Inv-loop μ-loop
-returns c = search (least-end, needs)
-
 pub nearest-spec : {M : Type 1} → statement M
 nearest-spec =
     tie.close
     (tie.spec
     Inv-loop
     μ-loop
-    element-copy-out-least
-    loop-holds
-    mul-key
-    element-copy-out-key
+    (λ c. search needs)
+    (λ c. (search needs, search (least-one, needs)))
+    (λ c. search needs)
+    (λ c. search needs)
     is-before-requires
-    add-i
-    loop-less
+    (λ c. search needs)
+    (λ c. search needs)
     loop-again
-    returns)
+    (λ c. search (least-end, needs)))

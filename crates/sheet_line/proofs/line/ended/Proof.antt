@@ -6,9 +6,6 @@ use Rattle.sheet_line.specs.Line.{ended}
 use Rattle.sheet_line.proofs.line.ended.Statement.{statement}
 use Rattle.sheet_line.proofs.line.ended.Tie as tie
 
-is-whole-requires : tie.Need-is-whole-requires
-is-whole-requires c κs = search needs
-
 returns : tie.Need-returns
 unfolding ended
 returns c = search (picks, not-true, not-false) depth 6
@@ -18,4 +15,4 @@ unfolding ended
 returns-2 c = search (picks, not-true, not-false) depth 6
 
 pub ended-spec : {M : Type 1} → statement M
-ended-spec = tie.close (tie.spec is-whole-requires returns returns-2)
+ended-spec = tie.close (tie.spec (λ c κs. search needs) returns returns-2)

@@ -10,15 +10,9 @@ returns : tie.Need-returns
 unfolding scanned
 returns c = search (picks, not-true, not-false) depth 8
 
-scan-space-requires : tie.Need-scan-space-requires
-scan-space-requires c κs = search needs
-
 returns-2 : tie.Need-returns-2
 unfolding scanned
 returns-2 c = search (picks, not-true, not-false) depth 8
-
-scan-digit-requires : tie.Need-scan-digit-requires
-scan-digit-requires c κs = search needs
 
 returns-3 : tie.Need-returns-3
 unfolding scanned
@@ -26,4 +20,4 @@ returns-3 c = search (picks, not-true, not-false) depth 8
 
 pub scan-byte-spec : {M : Type 1} → statement M
 scan-byte-spec =
-    tie.close (tie.spec returns scan-space-requires returns-2 scan-digit-requires returns-3)
+    tie.close (tie.spec returns (λ c κs. search needs) returns-2 (λ c κs. search needs) returns-3)
