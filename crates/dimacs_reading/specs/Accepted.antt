@@ -1,13 +1,10 @@
 -- The texts that are accepted, in the wish's words: remarks anywhere, one `p` line before every `a` line, as
 -- many `a` lines as it says, and sizes, ends and weights that a network may hold.
-use mathlib.Core.Path.{_≡_}
-use mathlib.Core.Logic.{_≢_}
-use mathlib.Core.List.{List, [], _∷_}
+use mathlib.Core.{Path._≡_, Logic._≢_, List.List, List.[], List._∷_}
 use Prim.Native.Nat.{ℕ, _≤_}
 use lib.ListN.{length}
 use Rattle.network.specs.Limits.{mostNodes, mostArcs, mostPeriod}
-use Rattle.dimacs_line.specs.declared.line.Sizes.{Sizes}
-use Rattle.dimacs_line.specs.declared.line.Arc.{Arc}
+use Rattle.dimacs_line.specs.declared.line.{Sizes.Sizes, Arc.Arc}
 use Rattle.dimacs_line.specs.Shape.{IsRemark, IsSizes, IsArc}
 
 -- sizes within the limits

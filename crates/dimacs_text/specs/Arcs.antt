@@ -1,13 +1,10 @@
 -- The arcs of a text, in the order of its lines, and that an accepted text's are those that it is described
 -- by, each fit for a network.
-use mathlib.Core.Path.{_≡_, refl, _∙_, ap}
-use mathlib.Core.List.{List, [], _∷_}
+use mathlib.Core.{Path._≡_, Path.refl, Path._∙_, Path.ap, List.List, List.[], List._∷_}
 use Prim.Native.Nat.{ℕ, zero, suc, _<_}
 use native.Mathlib.Omega.{arith}
 use lib.ListN.{length, getD}
-use Rattle.dimacs_line.specs.declared.line.Sizes.{Sizes}
-use Rattle.dimacs_line.specs.declared.line.Arc.{Arc}
-use Rattle.dimacs_line.specs.declared.line.Shape.{Shape}
+use Rattle.dimacs_line.specs.declared.line.{Sizes.Sizes, Arc.Arc, Shape.Shape}
 use Rattle.dimacs_line.specs.declared.line.Shape.the-variants.{Remark, Other}
 use Rattle.dimacs_line.specs.declared.line.Shape.the-variants.{Sizes as SizesLine, Arc as ArcLine}
 use Rattle.dimacs_line.specs.Shape.{shapeOf}

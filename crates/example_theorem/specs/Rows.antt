@@ -7,14 +7,11 @@ use lib.ListN.{length, take, replicate}
 use Rattle.theory_paths.specs.Graph.{driven}
 use Rattle.file_refusals.specs.Says as says
 use Rattle.file_fields.specs.Block.{blockSize}
-use Rattle.network.specs.Answer.{openingSays}
-use Rattle.network.specs.Decode.{decode}
-use Rattle.network.specs.Tables.{Tables, tables}
+use Rattle.network.specs.{Answer.openingSays, Decode.decode, Tables.Tables, Tables.tables}
 use Rattle.network.specs.Town.{travelAt, graphOf, partitionOf}
 use Rattle.network_open.specs.Open.{opening}
 use Rattle.plan.specs.Border.{borders}
-use Rattle.plan_check.specs.Answer.{checkingSays}
-use Rattle.plan_check.specs.CheckPlan.{checking}
+use Rattle.plan_check.specs.{Answer.checkingSays, CheckPlan.checking}
 use Rattle.search_path.specs.declared.answer.Answer.{Answer}
 use Rattle.search_path.specs.Says.{tripSays, tripCount}
 use Rattle.trip.specs.Calls.{plainCall, plainPath, flaggedCall, flaggedPath}

@@ -2,15 +2,12 @@
 -- last four bytes of each block are the check of the others. The laws go both ways between a list and
 -- `fileOf`. They are equations of bytes, so it does no harm that the check cannot tell word 0 from word
 -- 65,535: a file with the one in the place of the other has good sums and another body.
-use mathlib.Core.Path.{_≡_, sym, ap, _∙_}
-use mathlib.Core.Bool.{true, cond, and-eq-true-iff}
+use mathlib.Core.{Path._≡_, Path.sym, Path.ap, Path._∙_, Bool.true, Bool.cond, Bool.and-eq-true-iff}
 use mathlib.Core.List.{List}
 use Prim.Native.Nat.{ℕ, _+_, _-_, _*_, _/_, _%_, _≤_, _<_}
-use native.Mathlib.Decide.{decLt}
-use native.Mathlib.Omega.{arith}
-use lib.ListN.{length, getD, drop, length-drop}
+use native.Mathlib.{Decide.decLt, Omega.arith}
+use lib.{ListN.length, ListN.getD, ListN.drop, ListN.length-drop, Dec.ltb, Dec.eqb}
 use lib.Seq.{ext-getD, getD-take, getD-drop, length-take-le}
-use lib.Dec.{ltb, eqb}
 use borrow.Author.Tests.{lt-ltb, le-ltb, eq-eqb, eqb-true}
 use Rattle.theory_loops.specs.Fill.{tab, length-tab, getD-tab}
 use Rattle.file_fields.specs.Fields.{Bytes, le16, le32, byteOf, byteOf-below, le32-byte, le32-is}

@@ -1,20 +1,16 @@
 -- A block's form: its kind, a zero byte, its number of entries, its own number, and zeros from its last entry
 -- up to its check; the form of a run of blocks; and a file's length. Every test is executable, and nested as
 -- the code makes it.
-use mathlib.Core.Path.{_≡_, refl, sym, _∙_, ap}
+use mathlib.Core.{Path._≡_, Path.refl, Path.sym, Path._∙_, Path.ap, List.List}
 use mathlib.Core.Bool.{Bool, true, false, not, _&&_, _||_, and-eq-true-iff}
-use mathlib.Core.List.{List}
 use Prim.Native.Nat.{ℕ, _+_, _-_, _*_, _%_, _≤_, _<_}
-use native.Mathlib.Decide.{decLt}
-use native.Mathlib.Omega.{arith}
-use lib.ListN.{getD}
-use lib.Dec.{ltb, eqb}
+use native.Mathlib.{Decide.decLt, Omega.arith}
+use lib.{ListN.getD, Dec.ltb, Dec.eqb}
 use borrow.Author.Tests.{eq-eqb, ne-eqb, eqb-true, eqb-false, le-ltb, ltb-false, not-true, not-false}
 use Rattle.theory_loops.specs.First.{first, any, First, some, none, none-yet, pass, clear, first-le, first-is}
 use Rattle.theory_loops.specs.Pick.{firstRung, at-first, past-first, rung-passed, rung-clear, or-passed}
-use Rattle.file_fields.specs.Fields.{le16, le32}
+use Rattle.file_fields.specs.{Fields.le16, Fields.le32, Block.blockSize, Block.summedSize, Block.headSize}
 use Rattle.file_blocks.specs.Place.{blocks, entriesIn}
-use Rattle.file_fields.specs.Block.{blockSize, summedSize, headSize}
 
 -- byte k from a on is no zero
 abbrev pub nonzero : List ℕ → ℕ → ℕ → Bool

@@ -1,17 +1,12 @@
 -- What a reader of blocks finds at a block number: whether the file has that block, and its check is right.
-use mathlib.Core.Bool.{Bool, true, false, not, _&&_, and-eq-true-iff}
-use mathlib.Core.List.{List}
+use mathlib.Core.{Bool.Bool, Bool.true, Bool.false, Bool.not, Bool._&&_, Bool.and-eq-true-iff, List.List}
 use mathlib.Core.Path.{_≡_, ap}
 use Prim.Native.Nat.{ℕ, _/_, _+_, _≤_, _<_}
-use native.Mathlib.Decide.{decLe}
-use native.Mathlib.Omega.{arith}
+use native.Mathlib.{Decide.decLe, Omega.arith}
 use borrow.Author.Tests.{ltb-true, lt-ltb}
-use lib.ListN.{length}
-use lib.Dec.{ltb}
-use Rattle.theory_loops.specs.First.{first, pass, stop, done}
-use Rattle.theory_loops.specs.Pick.{and-clear}
-use Rattle.file_fields.specs.Block.{blockSize}
-use Rattle.file_fields.specs.Sum.{good}
+use lib.{ListN.length, Dec.ltb}
+use Rattle.theory_loops.specs.{First.first, First.pass, First.stop, First.done, Pick.and-clear}
+use Rattle.file_fields.specs.{Block.blockSize, Sum.good}
 
 -- the file has block b, and its check is right
 abbrev pub goodAt : List ℕ → ℕ → Bool

@@ -1,14 +1,10 @@
 -- The bytes of a run of blocks: n entries of a kind from block `from` on, entry i with the bytes f i 0, ..
 -- f i (size - 1). Said once over the kind; a header is a run of one entry.
-use mathlib.Core.Path.{_≡_}
-use mathlib.Core.Bool.{cond}
-use mathlib.Core.List.{List}
+use mathlib.Core.{Path._≡_, Bool.cond, List.List}
 use Prim.Native.Nat.{ℕ, _+_, _-_, _*_, _/_, _%_, _≤_, _<_}
-use lib.ListN.{getD}
-use lib.Dec.{ltb, eqb}
-use Rattle.file_fields.specs.Fields.{byteOf}
+use lib.{ListN.getD, Dec.ltb, Dec.eqb}
+use Rattle.file_fields.specs.{Fields.byteOf, Block.blockSize, Block.summedSize, Block.headSize}
 use Rattle.file_blocks.specs.Place.{entriesIn}
-use Rattle.file_fields.specs.Block.{blockSize, summedSize, headSize}
 
 -- byte o of a head, o below 8
 unfoldable pub headByte : ℕ → ℕ → ℕ → ℕ → ℕ

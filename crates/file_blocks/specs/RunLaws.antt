@@ -1,24 +1,18 @@
 -- The laws of a run's bytes, both ways between a block's form and fields and these bytes.
-use mathlib.Core.Path.{_≡_, refl, sym, ap, _∙_}
-use mathlib.Core.Bool.{true, cond}
-use mathlib.Core.List.{List}
+use mathlib.Core.{Path._≡_, Path.refl, Path.sym, Path.ap, Path._∙_, Bool.true, Bool.cond, List.List}
 use Prim.Native.Nat.{ℕ, zero, suc, _+_, _-_, _*_, _/_, _%_, _^_, _≤_, _<_}
 use native.Mathlib.Nat.{mul-add-div, mul-add-mod-self-left, div-eq-of-lt, mod-eq-of-lt, mul-le-mul-left}
 use native.Mathlib.Nat.{mul-le-mul-right, mod-lt, div-add-mod, min-le-left, le-div-iff-mul-le, mul-comm}
-use native.Mathlib.Decide.{decLt}
-use native.Mathlib.Omega.{arith}
-use lib.ListN.{length, getD}
-use lib.Seq.{ext-getD}
-use lib.Dec.{ltb}
+use native.Mathlib.{Decide.decLt, Omega.arith}
+use lib.{ListN.length, ListN.getD, Seq.ext-getD, Dec.ltb}
 use borrow.Author.Tests.{lt-ltb, le-ltb}
 use Rattle.theory_loops.specs.Fill.{tab, length-tab, getD-tab}
 use Rattle.file_fields.specs.Fields.{Bytes, number, byteOf, number-byteOf, number-same}
 use Rattle.file_fields.specs.Fields.{le16-byte, le32-byte, le16-is, le32-is}
 use Rattle.file_blocks.specs.Place.{offset, blocks, entriesIn, index-in, index-below, offset-at}
-use Rattle.file_blocks.specs.Place.{block-below}
+use Rattle.file_blocks.specs.{Place.block-below, Bytes.fileOf, Bytes.body-byte}
 use Rattle.file_blocks.specs.Form.{formed, runFormed, Formed, formed-parts, parts-formed}
 use Rattle.file_fields.specs.Block.{blockSize, summedSize, headSize, entriesSize}
-use Rattle.file_blocks.specs.Bytes.{fileOf, body-byte}
 use Rattle.file_blocks.specs.Run.{headByte, entryByte, runBody, BlockLaid, RunLaid}
 
 -- a head's bytes, field by field

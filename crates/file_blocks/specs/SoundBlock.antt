@@ -1,17 +1,13 @@
 -- A block of a run that has a right check and its form: what one look at it tells, and what follows for the
 -- whole run where all of its blocks are so.
-use mathlib.Core.Path.{_≡_, refl}
+use mathlib.Core.{Path._≡_, Path.refl, List.List}
 use mathlib.Core.Bool.{Bool, true, false, not, _&&_, and-eq-true-iff}
-use mathlib.Core.List.{List}
 use Prim.Native.Nat.{ℕ, _+_, _-_, _<_}
-use native.Mathlib.Decide.{decLt}
-use native.Mathlib.Omega.{arith}
+use native.Mathlib.{Decide.decLt, Omega.arith}
 use borrow.Author.Tests.{not-false}
 use Rattle.theory_loops.specs.First.{first, clear}
 use Rattle.file_fields.specs.Sum.{good}
-use Rattle.file_blocks.specs.Place.{blocks}
-use Rattle.file_blocks.specs.Form.{runFormed, unformed, RunFormed}
-use Rattle.file_blocks.specs.Read.{bad}
+use Rattle.file_blocks.specs.{Place.blocks, Form.runFormed, Form.unformed, Form.RunFormed, Read.bad}
 
 -- block j of a run of n entries, whose first block is `from`
 abbrev pub soundBlock : List ℕ → ℕ → ℕ → ℕ → ℕ → ℕ → ℕ → Bool

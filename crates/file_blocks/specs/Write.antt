@@ -1,19 +1,16 @@
 -- A block written: its head, and its check once all its other bytes stand. Each is said by the list that it
 -- leaves, and by which bytes change and to what; a file is written from its start on, so what is written so
 -- far is a part of `fileByte`, and each step writes the part further.
-use mathlib.Core.Path.{_≡_, sym, ap, _∙_}
-use mathlib.Core.List.{List}
+use mathlib.Core.{Path._≡_, Path.sym, Path.ap, Path._∙_, List.List}
 use Prim.Native.Nat.{ℕ, _+_, _-_, _*_, _≤_, _<_}
 use native.Mathlib.Omega.{arith}
 use lib.ListN.{length, take, drop}
 use Rattle.theory_loops.specs.Fill.{Filled, tab, fill-none, fill-within, fill-join}
-use Rattle.file_fields.specs.Fields.{byteOf}
-use Rattle.file_fields.specs.Put.{put, put-filled, put-join, fill-put}
+use Rattle.file_fields.specs.{Fields.byteOf, Put.put, Put.put-filled, Put.put-join, Put.fill-put}
 use Rattle.file_fields.specs.Sum.{sums, summedPart, sums-below, sums-at}
 use Rattle.file_fields.specs.declared.sum.Sums.{Sums}
 use Rattle.file_blocks.specs.Bytes.{check, fileByte, fileByte-at, stored-body, stored-check}
-use Rattle.file_blocks.specs.Bytes.{checked-body}
-use Rattle.file_blocks.specs.Run.{headByte}
+use Rattle.file_blocks.specs.{Bytes.checked-body, Run.headByte}
 use Rattle.file_blocks.specs.RunLaws.{head-first, head-entries, head-number}
 use Rattle.file_fields.specs.Block.{blockSize, summedSize, headSize, summedWords}
 

@@ -1,7 +1,6 @@
 -- The checks of a file whose other bytes stand: each block in its order (`sealedTo`). A file in the making is
 -- the body's file then (`laid-sealed`).
-use mathlib.Core.Path.{_≡_, refl, sym, _∙_}
-use mathlib.Core.List.{List}
+use mathlib.Core.{Path._≡_, Path.refl, Path.sym, Path._∙_, List.List}
 use Prim.Native.Nat.{ℕ, zero, suc, _+_, _-_, _*_, _≤_}
 use native.Mathlib.Omega.{arith}
 use lib.ListN.{length, getD}

@@ -1,17 +1,14 @@
 -- One pass over the points that judges rules 9 and 10 together: the invariant of the loop over an arc's
 -- points and of the loop over the arcs, with the laws of each step in the shape of the code's needs. Rule 10
 -- is judged of a point once the next one is read.
-use mathlib.Core.Path.{_≡_, refl, sym, _∙_}
+use mathlib.Core.{Path._≡_, Path.refl, Path.sym, Path._∙_, List.List}
 use mathlib.Core.Bool.{Bool, true, false, cond, not, _||_}
-use mathlib.Core.List.{List}
 use Prim.Native.Nat.{ℕ, zero, suc, _+_, _-_, _≤_, _<_}
 use native.Mathlib.Omega.{arith}
-use lib.ListN.{getD}
-use lib.Dec.{leb, ltb, eqb}
+use lib.{ListN.getD, Dec.leb, Dec.ltb, Dec.eqb}
 use borrow.Author.Tests.{ne-eqb}
 use Rattle.theory_loops.specs.First.{first, none-yet, pass, stop, done, first-more}
-use Rattle.theory_travel.specs.Day.{closed-in, closed-end}
-use Rattle.theory_travel.specs.Ticks.{badTick}
+use Rattle.theory_travel.specs.{Day.closed-in, Day.closed-end, Ticks.badTick}
 use Rattle.theory_travel.specs.Table.{entryAt, entry-first}
 use Rattle.network_scan.specs.declared.scan.Scan.{Scan}
 use Rattle.network.specs.Rules.{badPoint, overtaken}

@@ -1,29 +1,19 @@
 -- What an arc gives at a tick, and whether it passes what is asked of an arc: that it gives less than a
 -- value, gives it, or gives it and has the flag of a cell. The definitions are those of specs/Tests.antt with
 -- what is asked as a parameter. And what the code rests on that reads what arcs give towards a border.
-use mathlib.Core.Path.{_≡_}
-use mathlib.Core.Bool.{Bool, true, _&&_}
-use mathlib.Core.List.{List}
+use mathlib.Core.{Path._≡_, Bool.Bool, Bool.true, Bool._&&_, List.List}
 use Prim.Native.Nat.{ℕ, _+_, _*_, _<_}
 use native.Mathlib.Omega.{arith}
-use lib.ListN.{getD}
-use lib.Dec.{eqb}
-use Rattle.theory_paths.specs.Partition.{Partition}
-use Rattle.theory_paths.specs.Profiles.{Travel}
-use Rattle.network.specs.Limits.{mostCells}
-use Rattle.network.specs.Network.{head, cell, start}
-use Rattle.network.specs.Decode.{decode}
+use lib.{ListN.getD, Dec.eqb}
+use Rattle.theory_paths.specs.{Partition.Partition, Profiles.Travel}
+use Rattle.network.specs.{Limits.mostCells, Network.head, Network.cell, Network.start, Decode.decode}
 use Rattle.network.specs.Town.{graphOf, partitionOf}
 use Rattle.search_chains.specs.Town.{head-node}
-use Rattle.plan_tests.specs.declared.tests.Layouts.{Layouts}
-use Rattle.plan_tests.specs.declared.tests.Target.{Target}
-use Rattle.plan.specs.Border.{borderAt}
-use Rattle.plan.specs.Plan.{Plan, flag, profile, profileValue}
+use Rattle.plan_tests.specs.declared.tests.{Layouts.Layouts, Target.Target}
+use Rattle.plan.specs.{Border.borderAt, Plan.Plan, Plan.flag, Plan.profile, Plan.profileValue}
 use Rattle.plan.specs.PlanDecode.{decodePlan}
-use Rattle.plan_values.specs.Compare.{same, less}
-use Rattle.plan_values.specs.Starts.{Started}
-use Rattle.plan_tests.specs.Tests.{giving}
-use Rattle.plan_tests.specs.Checkable.{Checkable}
+use Rattle.plan_values.specs.{Compare.same, Compare.less, Starts.Started}
+use Rattle.plan_tests.specs.{Tests.giving, Checkable.Checkable}
 
 -- what is asked of an arc: that it gives less than a value, gives it, or gives it and has the flag of a cell
 pub data Asked : Type 0 where

@@ -9,15 +9,12 @@ use native.Mathlib.Omega.{arith}
 use lib.Dec.{leb, ltb, eqb}
 use borrow.Author.Tests.{le-ltb, le-leb, lt-leb, ne-eqb}
 use Rattle.theory_loops.specs.First.{first, any, none-yet, pass, stop, yes-any, no-any}
-use Rattle.theory_travel.specs.Ticks.{badTick}
-use Rattle.theory_travel.specs.Table.{entryAt}
+use Rattle.theory_travel.specs.{Ticks.badTick, Table.entryAt}
 use Rattle.file_blocks.specs.Walk.{walk-first}
 use Rattle.file_blocks.specs.declared.walk.Walk.{Walk}
 use Rattle.plan.specs.declared.header.PlanLayout.{PlanLayout}
 use Rattle.plan_validate.specs.declared.rules.Scan.{Scan}
-use Rattle.plan.specs.Plan.{Plan}
-use Rattle.plan.specs.PlanDecode.{pointTick}
-use Rattle.plan.specs.PlanWalk.{pointAt}
+use Rattle.plan.specs.{Plan.Plan, PlanDecode.pointTick, PlanWalk.pointAt}
 
 -- WHAT A SCAN TELLS of m points from number `from` on, the ticks of one profile: the first bad one by its
 -- number, or the count of all points; and where there is none, the walk stands after them

@@ -4,9 +4,7 @@
 use mathlib.Core.Path.{_≡_, refl, sym, _∙_, ap}
 use mathlib.Core.Bool.{Bool, true, false, cond}
 use Prim.Native.Nat.{ℕ, suc, _+_, _*_, _≤_, _<_}
-use native.Mathlib.Numerals.{add-one}
-use native.Mathlib.Omega.{arith}
-use native.Mathlib.Decide.{decLt}
+use native.Mathlib.{Numerals.add-one, Omega.arith, Decide.decLt}
 use lib.Dec.{ltb}
 use borrow.Author.Tests.{lt-ltb, le-ltb, eq-eqb, ne-eqb, ltb-true}
 use Rattle.theory_loops.specs.First.{first, any, first-le, found, none-yet, pass, stop, done, first-more}
@@ -19,11 +17,9 @@ use Rattle.file_refusals.specs.declared.Judged.the-variants.{Sound}
 use Rattle.file_blocks.specs.declared.walk.Walk.{Walk}
 use Rattle.plan.specs.declared.header.PlanLayout.{PlanLayout}
 use Rattle.plan_validate.specs.declared.rules.Scan.{Scan}
-use Rattle.plan.specs.Plan.{Plan, pointCount, pointStart, pointTicks}
-use Rattle.plan.specs.PlanDecode.{pointTotal}
-use Rattle.plan.specs.PlanWalk.{countAt, pointAt}
+use Rattle.plan.specs.{Plan.Plan, Plan.pointCount, Plan.pointStart, Plan.pointTicks, PlanDecode.pointTotal}
+use Rattle.plan.specs.{PlanWalk.countAt, PlanWalk.pointAt, PlanRules.judgedCounts}
 use Rattle.plan.specs.PlanRules.{badCount, badProfile, firstBadPoint, judgedTicks, judgedSum}
-use Rattle.plan.specs.PlanRules.{judgedCounts}
 use Rattle.plan_validate.specs.PlanScan.{Scanned}
 
 -- ONE PROFILE MORE

@@ -1,22 +1,16 @@
 -- The rows as they read while the work goes on (`seen`): that of a node with 0 in H has no number, whatever
 -- stands in the list. So no row need be filled before it gets its first numbers, but those that got none and
 -- are wanted are filled in the end (`ShownFor`).
-use mathlib.Core.Path.{_≡_, refl, sym, _∙_}
-use mathlib.Core.Bool.{Bool, true, false, true≢false}
-use mathlib.Core.Logic.{_≢_}
-use mathlib.Core.List.{List}
+use mathlib.Core.{Path._≡_, Path.refl, Path.sym, Path._∙_, Bool.Bool, Bool.true, Bool.false, Bool.true≢false}
+use mathlib.Core.{Logic._≢_, List.List}
 use Prim.Native.Nat.{ℕ, zero, suc, _+_, _-_, _*_, _/_, _≤_, _<_}
 use native.Mathlib.Nat.{div-eq-of-lt-le, div-mul-le-self, lt-div-mul-add, mul-le-mul-right}
-use native.Mathlib.Omega.{arith}
-use native.Mathlib.Decide.{ℕ-discrete, decLt}
+use native.Mathlib.{Omega.arith, Decide.ℕ-discrete, Decide.decLt}
 use lib.ListN.{length, getD, List·getD-eq-default}
-use Rattle.theory_loops.specs.Fill.{Filled, tab, length-tab, getD-tab}
-use Rattle.theory_loops.specs.Grid.{gridAt}
-use Rattle.theory_paths.specs.Graph.{Graph}
-use Rattle.theory_paths.specs.Earliest.{never}
+use Rattle.theory_loops.specs.{Fill.Filled, Fill.tab, Fill.length-tab, Fill.getD-tab, Grid.gridAt}
+use Rattle.theory_paths.specs.{Graph.Graph, Earliest.never}
 use Rattle.network.specs.declared.header.Layout.{Layout}
-use Rattle.toward_row.specs.Cut.{Cut, Fallen}
-use Rattle.toward_row.specs.Lower.{offer, lowest, Known}
+use Rattle.toward_row.specs.{Cut.Cut, Cut.Fallen, Lower.offer, Lower.lowest, Lower.Known}
 use Rattle.toward_list.specs.Heights.{Heights, Near, Highest, Bounds}
 use Rattle.toward_list.specs.Rows.{rowLowered, WorkedFor}
 

@@ -1,39 +1,27 @@
 -- The laws of the code: an arc's turn, a node's turn, and turn after turn until no dirty node is near enough.
 -- `bar` is on the scale of the tables: what is not below never less `bar` is not wanted.
-use mathlib.Core.Path.{_≡_, refl, sym, _∙_, ap}
-use mathlib.Core.Bool.{Bool, true, false}
-use mathlib.Core.Logic.{_≢_}
-use mathlib.Core.List.{List}
+use mathlib.Core.{Path._≡_, Path.refl, Path.sym, Path._∙_, Path.ap, Bool.Bool, Bool.true, Bool.false}
+use mathlib.Core.{Logic._≢_, List.List}
 use Prim.Native.Nat.{ℕ, _+_, _-_, _*_, _%_, _^_, _≤_, _<_, max, zero-le}
-use native.Mathlib.Nat.{mul-le-mul, mul-le-mul-right, mod-lt}
-use native.Mathlib.Omega.{arith}
+use native.Mathlib.{Nat.mul-le-mul, Nat.mul-le-mul-right, Nat.mod-lt, Omega.arith}
 use native.Mathlib.Decide.{ℕ-discrete, decLt}
-use lib.ListN.{length, getD, set, replicate}
-use lib.Seq.{getD-set-same, getD-set-other}
-use Rattle.theory_loops.specs.Fill.{Filled}
-use Rattle.theory_loops.specs.Grid.{gridAt, grid-in}
-use Rattle.theory_paths.specs.Graph.{Graph}
-use Rattle.theory_paths.specs.Earliest.{never}
-use Rattle.theory_paths.specs.Least.{Travels, Modest, least-is}
-use Rattle.theory_paths.specs.Settled.{givesTicks}
+use lib.{ListN.length, ListN.getD, ListN.set, ListN.replicate, Seq.getD-set-same, Seq.getD-set-other}
+use Rattle.theory_loops.specs.{Fill.Filled, Grid.gridAt, Grid.grid-in}
+use Rattle.theory_paths.specs.{Graph.Graph, Earliest.never, Least.Travels, Least.Modest, Least.least-is}
+use Rattle.theory_paths.specs.{Settled.givesTicks, Queue.queue-first, Queue.queue-bar, Queue.Lowering}
 use Rattle.network.specs.declared.header.Layout.{Layout}
-use Rattle.network.specs.Network.{tail, head}
-use Rattle.network.specs.Decode.{decode}
+use Rattle.network.specs.{Network.tail, Network.head, Decode.decode}
 use Rattle.network.specs.Town.{graphOf, travelAt, town-bounded}
 use Rattle.search_chains.specs.Town.{Town, lawful, tail-node, head-node}
 use Rattle.search_chains.specs.Chain.{Chained, NextArc}
-use Rattle.toward_row.specs.Arcs.{Primed}
-use Rattle.toward_row.specs.Cut.{Cut}
-use Rattle.toward_row.specs.Lower.{entries, offer, Numbers}
+use Rattle.toward_row.specs.{Arcs.Primed, Cut.Cut, Lower.entries, Lower.offer, Lower.Numbers}
 use Rattle.theory_paths.specs.Queue.{Queue, queue-begin, queue-skip, queue-quiet, queue-lower, queue-least}
-use Rattle.theory_paths.specs.Queue.{queue-first, queue-bar, Lowering}
-use Rattle.toward_list.specs.Burden.{burden, burden-clear, burden-lower}
+use Rattle.toward_list.specs.{Burden.burden, Burden.burden-clear, Burden.burden-lower, Leasts.LeastTravel}
 use Rattle.toward_list.specs.Heights.{Heights, Held, Near, NearFirst, Highest, numbered}
 use Rattle.toward_list.specs.Heights.{number-early, heights-held, held-capped}
 use Rattle.toward_list.specs.Heights.{heights-clear, heights-lower, heights-first, numbered-early}
 use Rattle.toward_list.specs.Heights.{only-same, only-other, Lows, Bounds}
 use Rattle.toward_list.specs.Heights.{lows-taken, lows-bounds, lows-first}
-use Rattle.toward_list.specs.Leasts.{LeastTravel}
 use Rattle.toward_list.specs.Rows.{rowsOf, WorkedFor, rowLowered, row-lower, row-same, row-lowering}
 use Rattle.toward_list.specs.Rows.{row-quiet, row-held}
 use Rattle.toward_list.specs.Seen.{seen, seen-long, seen-size, seen-some, seen-bare}

@@ -1,6 +1,5 @@
 -- `network_hours::open_from` meets its contract.
-use native.Mathlib.Nat.{mod-lt}
-use native.Mathlib.Omega.{arith}
+use native.Mathlib.{Nat.mod-lt, Omega.arith}
 use Rattle.theory_loops.specs.Pick.{picks}
 use Rattle.network_hours.specs.Hours.{openFrom}
 use borrow.Author.Needs.{needs}

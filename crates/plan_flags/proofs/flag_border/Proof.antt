@@ -4,8 +4,7 @@ use Prim.Native.Nat.{_-_, _≤_}
 use native.Mathlib.Omega.{arith}
 use lib.ListN.{length}
 use Rattle.theory_loops.specs.Fill.{Filled, fill-none, fill-up, fill-end}
-use Rattle.network.specs.Network.{cell}
-use Rattle.network.specs.Decode.{decode}
+use Rattle.network.specs.{Network.cell, Decode.decode}
 use Rattle.plan_flags.specs.Words.{wordAfter, cell-below, cell-few, word-next, flags-more}
 use borrow.Author.Needs.{needs}
 use Rattle.plan_flags.proofs.flag_border.Statement.{statement}

@@ -4,8 +4,7 @@ use mathlib.Core.Path.{_≡_, refl, _∙_}
 use Prim.Native.Nat.{_+_, _-_, _≤_, _<_}
 use native.Mathlib.Omega.{arith}
 use denote.Ref.{now}
-use lib.ListN.{length, length-set}
-use lib.Seq.{getD-set-same}
+use lib.{ListN.length, ListN.length-set, Seq.getD-set-same}
 use Rattle.theory_travel.specs.Table.{entryAt, entry-start}
 use Rattle.plan.specs.PlanDecode.{decodePlan, pointTick, pointTravel}
 use Rattle.day_runs.specs.Filling.{Space, Filling, space-on, filling-start, room-next, room-last}

@@ -1,8 +1,6 @@
 -- `profile_runs::fill_profile` meets its contract: the points are read where the table says.
 use native.Mathlib.Omega.{arith}
-use Rattle.plan_values.specs.Starts.{starting}
-use Rattle.plan_values.specs.Formed.{profile-in}
-use Rattle.plan_values.specs.Starts.{start-read}
+use Rattle.plan_values.specs.{Starts.starting, Formed.profile-in, Starts.start-read}
 use Rattle.profile_runs.specs.Numbers.{points-day, points-in, runs-number}
 use borrow.Author.Needs.{needs}
 use Rattle.profile_runs.proofs.fill_profile.Statement.{statement}

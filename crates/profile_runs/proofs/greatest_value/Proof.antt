@@ -1,7 +1,5 @@
 -- `profile_runs::greatest_value` meets its contract: the points are read where the table says.
-use Rattle.plan_values.specs.Starts.{starting}
-use Rattle.plan_values.specs.Formed.{profile-in}
-use Rattle.plan_values.specs.Starts.{start-read}
+use Rattle.plan_values.specs.{Starts.starting, Formed.profile-in, Starts.start-read}
 use Rattle.profile_runs.specs.Numbers.{points-day, points-in, ceiling-number}
 use borrow.Author.Needs.{needs}
 use Rattle.profile_runs.proofs.greatest_value.Statement.{statement}

@@ -4,11 +4,10 @@ use mathlib.Core.Path.{_≡_}
 use Prim.Native.Nat.{_+_, _-_, _≤_, _<_}
 use native.Mathlib.Omega.{arith}
 use Rattle.theory_travel.specs.Table.{entryAt, entry-start}
-use Rattle.plan.specs.PlanDecode.{decodePlan}
+use Rattle.plan.specs.{PlanDecode.decodePlan, PlanWalk.travel-there, PlanWalk.travel-read}
 use Rattle.day_runs.specs.Bounds.{Least, least-one, least-more}
 use Rattle.file_blocks.specs.Walk.{walk-first}
 use Rattle.plan.specs.PlanWalk.{pointAt, point-may, point-on, point-near}
-use Rattle.plan.specs.PlanWalk.{travel-there, travel-read}
 use borrow.Author.Needs.{needs}
 use Rattle.profile_runs.proofs.least_point.Statement.{statement}
 use Rattle.profile_runs.proofs.least_point.Tie as tie

@@ -1,6 +1,5 @@
 -- `search_arcs::is_before` meets its contract: below 2 ^ 31 a number is its own signed number.
-use mir.Syntax.{w32}
-use mir.ValLaws.{toZ-pos}
+use mir.{Syntax.w32, ValLaws.toZ-pos}
 use borrow.Author.Needs.{needs}
 use Rattle.search_arcs.proofs.is_before.Statement.{statement}
 use Rattle.search_arcs.proofs.is_before.Tie as tie

@@ -1,8 +1,7 @@
 -- `search_path::search` meets its contract: what holds of the lent part of the arrivals holds of the whole
 -- list.
 use native.Mathlib.Omega.{arith}
-use lib.Seq.{length-take-le}
-use lib.ListN.{length-take}
+use lib.{Seq.length-take-le, ListN.length-take}
 use Rattle.network.specs.Decode.{laid-sizes}
 use Rattle.search_path.specs.Answering.{answered-front}
 use Rattle.search_chains.specs.Town.{town-of}

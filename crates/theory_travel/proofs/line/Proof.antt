@@ -3,8 +3,7 @@
 -- values, so it fits 32.
 use mathlib.Core.Path.{refl}
 use Prim.Native.Nat.{_-_, _*_, _≤_}
-use native.Mathlib.Nat.{mul-le-mul-left}
-use native.Mathlib.Omega.{arith}
+use native.Mathlib.{Nat.mul-le-mul-left, Omega.arith}
 use Rattle.theory_travel.specs.Line.{line, line-most}
 use borrow.Author.Needs.{needs}
 use Rattle.theory_travel.proofs.line.Statement.{statement}

@@ -3,8 +3,7 @@
 use mathlib.Core.Bool.{false}
 use Prim.Native.Nat.{_+_, _-_, _≤_, _<_}
 use native.Mathlib.Omega.{arith}
-use Rattle.toward_row.specs.Cut.{Cut}
-use Rattle.toward_row.specs.Lower.{shifted, runs}
+use Rattle.toward_row.specs.{Cut.Cut, Lower.shifted, Lower.runs}
 use borrow.Author.Needs.{needs}
 use Rattle.toward_row.proofs.fold_run.Statement.{statement}
 use Rattle.toward_row.proofs.fold_run.Tie as tie

@@ -1,8 +1,7 @@
 -- `toward_row::lesser` meets its contract.
 use mathlib.Core.Path.{sym, _∙_}
-use borrow.Author.Tests.{ltb-true, ltb-false}
+use borrow.Author.{Tests.ltb-true, Tests.ltb-false, Needs.needs}
 use Rattle.toward_row.specs.Lower.{least-left, least-right}
-use borrow.Author.Needs.{needs}
 use Rattle.toward_row.proofs.lesser.Statement.{statement}
 use Rattle.toward_row.proofs.lesser.Tie as tie
 

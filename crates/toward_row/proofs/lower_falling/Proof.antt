@@ -2,8 +2,7 @@
 use Prim.Native.Nat.{_+_, _-_, _≤_}
 use native.Mathlib.Omega.{arith}
 use Rattle.theory_travel.specs.Pieces.{lineAt}
-use Rattle.toward_row.specs.Cut.{Cut}
-use Rattle.toward_row.specs.Lower.{entries, lowered, known-on}
+use Rattle.toward_row.specs.{Cut.Cut, Lower.entries, Lower.lowered, Lower.known-on}
 use Rattle.toward_row.specs.Pieces.{FallingAt, fall-run, falls}
 use borrow.Author.Needs.{needs}
 use Rattle.toward_row.proofs.lower_falling.Statement.{statement}

@@ -8,8 +8,7 @@ use denote.Ref.{now}
 use Rattle.theory_travel.specs.Table.{entryAt, valueAt, entry-start}
 use Rattle.theory_travel.specs.Pieces.{tick-first, tick-rises, tick-below}
 use Rattle.network.specs.Decode.{decode}
-use Rattle.toward_row.specs.Cut.{Cut, cut-none}
-use Rattle.toward_row.specs.Lower.{entries, lowered, known-on}
+use Rattle.toward_row.specs.{Cut.Cut, Cut.cut-none, Lower.entries, Lower.lowered, Lower.known-on}
 use Rattle.toward_row.specs.Arcs.{Flat, flat-none, flat-more, flat-lowered, ready-next, ready-last}
 use Rattle.toward_row.specs.Arcs.{arc-next, arc-last}
 use borrow.Author.Needs.{needs}

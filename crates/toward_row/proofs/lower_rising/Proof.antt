@@ -3,10 +3,9 @@
 use Prim.Native.Nat.{ℕ, _+_, _-_, _≤_, _<_}
 use native.Mathlib.Omega.{arith}
 use Rattle.theory_travel.specs.Pieces.{lineAt}
-use Rattle.toward_row.specs.Cut.{Cut, cut-none}
+use Rattle.toward_row.specs.{Cut.Cut, Cut.cut-none, Pieces.rise-rises}
 use Rattle.toward_row.specs.Lower.{entries, lowered, known-part, known-on}
 use Rattle.toward_row.specs.Pieces.{RisingAt, rise-start, rise-still, rise-fits, rise-within}
-use Rattle.toward_row.specs.Pieces.{rise-rises}
 use Rattle.toward_row.specs.Pieces.{rise-next, rise-run, rise-end}
 use borrow.Author.Needs.{needs}
 use Rattle.toward_row.proofs.lower_rising.Statement.{statement}

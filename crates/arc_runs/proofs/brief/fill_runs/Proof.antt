@@ -3,8 +3,7 @@ use Prim.Native.Nat.{ℕ, _+_, _≤_, _<_}
 use native.Mathlib.Omega.{arith}
 use lib.ListN.{length}
 use denote.Ref.{now}
-use Rattle.arc_runs.specs.Travels.{most-travel}
-use Rattle.arc_runs.specs.Brief.{steady-runs, steady-short}
+use Rattle.arc_runs.specs.{Travels.most-travel, Brief.steady-runs, Brief.steady-short}
 use borrow.Author.Needs.{needs}
 use Rattle.arc_runs.proofs.brief.fill_runs.Statement.{statement}
 use Rattle.arc_runs.proofs.brief.fill_runs.Tie as tie

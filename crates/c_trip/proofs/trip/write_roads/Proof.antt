@@ -1,10 +1,7 @@
 -- `c_replies::trip::write_roads` meets its contract.
 use native.Mathlib.Omega.{arith}
-use lib.ListN.{length}
-use Rattle.c_trip.specs.Writing.{roads-none, roads-next, roads-end}
-use Rattle.c_trip.specs.Reply.{roadBytes}
-use lib.Seq.{sets}
-use lib.ListN.{take}
+use lib.{ListN.length, Seq.sets, ListN.take}
+use Rattle.c_trip.specs.{Writing.roads-none, Writing.roads-next, Writing.roads-end, Reply.roadBytes}
 use Prim.Native.Nat.{_-_, _≤_}
 use mathlib.Core.Path.{_≡_}
 use borrow.Author.Needs.{needs}

@@ -1,7 +1,6 @@
 -- `day_sheet::begin::ask_sheet` meets its contract.
 use Prim.Native.Nat.{_≤_}
-use native.Mathlib.Nat.{mul-le-mul}
-use native.Mathlib.Omega.{arith}
+use native.Mathlib.{Nat.mul-le-mul, Omega.arith}
 use Rattle.theory_loops.specs.Pick.{picks}
 use Rattle.day_arrivals.specs.Sheet.{sheetAsked}
 use borrow.Author.Needs.{needs}

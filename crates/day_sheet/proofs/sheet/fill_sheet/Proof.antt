@@ -1,7 +1,6 @@
 -- `day_sheet::sheet::fill_sheet` meets its contract.
 use mathlib.Core.Path.{refl}
-use native.Mathlib.Nat.{mul-le-mul}
-use native.Mathlib.Omega.{arith}
+use native.Mathlib.{Nat.mul-le-mul, Omega.arith}
 use lib.ListN.{length-take}
 use Rattle.toward_list.specs.Work.{valid-town}
 use Rattle.day_arrivals.specs.Sheeting.{asked-laid, sheet-filled}

@@ -1,8 +1,7 @@
 -- `day_runs::slopes::climb` meets its contract.
-use native.Mathlib.Nat.{le-of-lt}
+use native.Mathlib.{Nat.le-of-lt, Omega.arith}
 use mathlib.Core.Path.{_≡_, refl}
 use Prim.Native.Nat.{_+_, _-_, _*_, _≤_, _<_}
-use native.Mathlib.Omega.{arith}
 use Rattle.theory_travel.specs.Pieces.{lineAt}
 use Rattle.day_slopes.specs.Walk.{climb-may, climbing, climb-next, climb-fits, climb-entry, walks}
 use Rattle.day_slopes.specs.Held.{Held, held-room}

@@ -4,9 +4,8 @@ use Prim.Native.Nat.{_+_, _-_, _*_, _≤_}
 use native.Mathlib.Omega.{arith}
 use Rattle.travel_runs.specs.Fixed.{ceiled}
 use Rattle.theory_travel.specs.Pieces.{lineAt}
-use Rattle.day_slopes.specs.Held.{Held, held-room}
+use Rattle.day_slopes.specs.{Held.Held, Held.held-room, Falling.fall-end}
 use Rattle.day_slopes.specs.Falling.{fall-start, fall-fits, fall-below, fall-within, fall-more}
-use Rattle.day_slopes.specs.Falling.{fall-end}
 use borrow.Author.Needs.{needs}
 use Rattle.day_slopes.proofs.slopes.falling.Statement.{statement}
 use Rattle.day_slopes.proofs.slopes.falling.Tie as tie

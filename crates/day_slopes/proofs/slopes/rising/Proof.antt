@@ -3,9 +3,8 @@ use mathlib.Core.Path.{_≡_}
 use Prim.Native.Nat.{_+_, _-_, _*_, _≤_}
 use native.Mathlib.Omega.{arith}
 use Rattle.theory_travel.specs.Pieces.{lineAt}
-use Rattle.day_slopes.specs.Held.{Held, held-room}
+use Rattle.day_slopes.specs.{Held.Held, Held.held-room, Rising.rise-end}
 use Rattle.day_slopes.specs.Rising.{risen, rise-start, rise-fits, rise-below, rise-within, rise-more}
-use Rattle.day_slopes.specs.Rising.{rise-end}
 use borrow.Author.Needs.{needs}
 use Rattle.day_slopes.proofs.slopes.rising.Statement.{statement}
 use Rattle.day_slopes.proofs.slopes.rising.Tie as tie

@@ -1,6 +1,5 @@
 -- `dimacs_import::import::import_dimacs` meets its contract.
-use Rattle.dimacs_import.specs.Import.{import-refused}
-use Rattle.dimacs_import.specs.Roads.{accepted-within, roads-imported}
+use Rattle.dimacs_import.specs.{Import.import-refused, Roads.accepted-within, Roads.roads-imported}
 use borrow.Author.Needs.{needs}
 use Rattle.dimacs_import.proofs.import.import_dimacs.Statement.{statement}
 use Rattle.dimacs_import.proofs.import.import_dimacs.Tie as tie

@@ -1,8 +1,7 @@
 -- `dimacs_line::line::arc_of` meets its contract.
-use borrow.Author.Tests.{not-true, not-false}
+use borrow.Author.{Tests.not-true, Tests.not-false, Needs.needs}
 use Rattle.theory_loops.specs.Pick.{picks}
 use Rattle.dimacs_line.specs.Shape.{arcShape}
-use borrow.Author.Needs.{needs}
 use Rattle.dimacs_line.proofs.line.arc_of.Statement.{statement}
 use Rattle.dimacs_line.proofs.line.arc_of.Tie as tie
 

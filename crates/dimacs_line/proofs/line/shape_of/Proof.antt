@@ -1,10 +1,9 @@
 -- `dimacs_line::line::shape_of` meets its contract.
 use native.Mathlib.Omega.{arith}
 use denote.Ref.{now}
-use borrow.Author.Tests.{not-true, not-false}
+use borrow.Author.{Tests.not-true, Tests.not-false, Needs.needs}
 use Rattle.theory_loops.specs.Pick.{picks}
 use Rattle.dimacs_line.specs.Shape.{shapeOf, starts-long, arc-told, sizes-told, whole-tail}
-use borrow.Author.Needs.{needs}
 use Rattle.dimacs_line.proofs.line.shape_of.Statement.{statement}
 use Rattle.dimacs_line.proofs.line.shape_of.Tie as tie
 

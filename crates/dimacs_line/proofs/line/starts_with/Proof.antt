@@ -4,9 +4,8 @@ use Prim.Native.Nat.{ℕ, _-_, _≤_, _<_}
 use native.Mathlib.Omega.{arith}
 use lib.ListN.{length, getD}
 use denote.Ref.{now}
-use borrow.Author.Count.{below-more}
+use borrow.Author.{Count.below-more, Needs.needs}
 use Rattle.dimacs_line.specs.Shape.{starts-short, starts-differ, starts-alike}
-use borrow.Author.Needs.{needs}
 use Rattle.dimacs_line.proofs.line.starts_with.Statement.{statement}
 use Rattle.dimacs_line.proofs.line.starts_with.Tie as tie
 

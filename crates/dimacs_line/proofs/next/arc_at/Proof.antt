@@ -1,7 +1,6 @@
 -- `dimacs_line::next::arc_at` meets its contract.
-use borrow.Author.Tests.{not-false}
+use borrow.Author.{Tests.not-false, Needs.needs}
 use Rattle.dimacs_line.specs.Next.{arc-next, unmet}
-use borrow.Author.Needs.{needs}
 use Rattle.dimacs_line.proofs.next.arc_at.Statement.{statement}
 use Rattle.dimacs_line.proofs.next.arc_at.Tie as tie
 

@@ -1,7 +1,6 @@
 -- `dimacs_line::next::is_arc_start` meets its contract.
-use borrow.Author.Tests.{eqb-true}
+use borrow.Author.{Tests.eqb-true, Needs.needs}
 use Rattle.dimacs_line.specs.Next.{never, starts-so}
-use borrow.Author.Needs.{needs}
 use Rattle.dimacs_line.proofs.next.is_arc_start.Statement.{statement}
 use Rattle.dimacs_line.proofs.next.is_arc_start.Tie as tie
 

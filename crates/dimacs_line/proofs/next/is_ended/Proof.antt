@@ -1,8 +1,7 @@
 -- `dimacs_line::next::is_ended` meets its contract.
 use native.Mathlib.Omega.{arith}
-use borrow.Author.Tests.{ltb-true}
+use borrow.Author.{Tests.ltb-true, Needs.needs}
 use Rattle.dimacs_line.specs.Next.{ended-so}
-use borrow.Author.Needs.{needs}
 use Rattle.dimacs_line.proofs.next.is_ended.Statement.{statement}
 use Rattle.dimacs_line.proofs.next.is_ended.Tie as tie
 

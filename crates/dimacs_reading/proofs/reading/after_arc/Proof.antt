@@ -1,8 +1,7 @@
 -- `dimacs_text::reading::after_arc` meets its contract.
-use borrow.Author.Tests.{not-true, not-false}
+use borrow.Author.{Tests.not-true, Tests.not-false, Needs.needs}
 use Rattle.theory_loops.specs.Pick.{picks}
 use Rattle.dimacs_reading.specs.Reading.{arcBy, arc-told}
-use borrow.Author.Needs.{needs}
 use Rattle.dimacs_reading.proofs.reading.after_arc.Statement.{statement}
 use Rattle.dimacs_reading.proofs.reading.after_arc.Tie as tie
 

@@ -1,8 +1,7 @@
 -- `dimacs_text::reading::after_sizes` meets its contract.
-use borrow.Author.Tests.{not-true, not-false}
+use borrow.Author.{Tests.not-true, Tests.not-false, Needs.needs}
 use Rattle.theory_loops.specs.Pick.{picks}
 use Rattle.dimacs_reading.specs.Reading.{sizedBy, sized-told}
-use borrow.Author.Needs.{needs}
 use Rattle.dimacs_reading.proofs.reading.after_sizes.Statement.{statement}
 use Rattle.dimacs_reading.proofs.reading.after_sizes.Tie as tie
 

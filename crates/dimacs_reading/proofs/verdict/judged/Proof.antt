@@ -1,8 +1,7 @@
 -- `dimacs_text::verdict::judged` meets its contract.
-use borrow.Author.Tests.{not-true, not-false}
+use borrow.Author.{Tests.not-true, Tests.not-false, Needs.needs}
 use Rattle.theory_loops.specs.Pick.{picks}
 use Rattle.dimacs_reading.specs.Reading.{judged, judged-form, judged-value}
-use borrow.Author.Needs.{needs}
 use Rattle.dimacs_reading.proofs.verdict.judged.Statement.{statement}
 use Rattle.dimacs_reading.proofs.verdict.judged.Tie as tie
 

@@ -1,7 +1,6 @@
 -- `file_blocks::form::is_unformed` meets its contract: the block stands in the file, and its entries before
 -- its check.
-use Rattle.file_blocks.specs.Form.{run-unformed}
-use Rattle.file_blocks.specs.Place.{block-starts, block-in, block-fits}
+use Rattle.file_blocks.specs.{Form.run-unformed, Place.block-starts, Place.block-in, Place.block-fits}
 use native.Mathlib.Omega.{arith}
 use borrow.Author.Needs.{needs}
 use Rattle.file_blocks.proofs.form.is_unformed.Statement.{statement}

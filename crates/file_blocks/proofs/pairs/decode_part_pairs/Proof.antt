@@ -1,7 +1,6 @@
 -- `file_blocks::pairs::decode_part_pairs` meets its contract.
 use Prim.Native.Nat.{_≤_, _+_, _-_}
-use Rattle.file_blocks.specs.Table.{part16}
-use Rattle.file_blocks.specs.Pairs.{pairSize, pairs}
+use Rattle.file_blocks.specs.{Table.part16, Pairs.pairSize, Pairs.pairs}
 use Rattle.theory_loops.specs.Fill.{Filled}
 use borrow.Author.Needs.{needs}
 use Rattle.file_blocks.proofs.pairs.decode_part_pairs.Statement.{statement}

@@ -1,9 +1,8 @@
 -- `file_blocks::place::decode16` meets its contract.
-use native.Mathlib.Nat.{mul-le-mul-right}
+use native.Mathlib.{Nat.mul-le-mul-right, Omega.arith}
 use Rattle.file_blocks.specs.Table.{entry16, whole-more, whole-end, wholes}
 use Rattle.file_blocks.specs.Place.{blocks, entriesIn, block-starts, block-in, block-fits}
 use Rattle.theory_loops.specs.Fill.{Filled}
-use native.Mathlib.Omega.{arith}
 use mathlib.Core.Path.{_≡_}
 use lib.ListN.{length}
 use denote.Ref.{now}

@@ -4,8 +4,7 @@ use denote.Ref.{now}
 use lib.ListN.{length}
 use Rattle.file_blocks.specs.Table.{part16, parts}
 use Rattle.theory_loops.specs.Fill.{Filled}
-use native.Mathlib.Omega.{arith}
-use native.Mathlib.Nat.{mul-le-mul-left}
+use native.Mathlib.{Omega.arith, Nat.mul-le-mul-left}
 use borrow.Author.Needs.{needs}
 use Rattle.file_blocks.proofs.place.decode_part16.Statement.{statement}
 use Rattle.file_blocks.proofs.place.decode_part16.Tie as tie

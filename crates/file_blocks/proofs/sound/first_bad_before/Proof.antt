@@ -1,6 +1,5 @@
 -- `file_blocks::sound::first_bad_before` meets its contract.
-use mathlib.Core.Path.{_≡_, ap}
-use mathlib.Core.Bool.{not}
+use mathlib.Core.{Path._≡_, Path.ap, Bool.not}
 use Prim.Native.Nat.{_≤_, _-_}
 use native.Mathlib.Omega.{arith}
 use Rattle.theory_loops.specs.First.{first, pass, stop, told, firsts}

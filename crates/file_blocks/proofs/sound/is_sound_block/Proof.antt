@@ -1,7 +1,6 @@
 -- `file_blocks::sound::is_sound_block` meets its contract: the check decides, or leaves the answer to the
 -- form.
-use Rattle.file_blocks.specs.Place.{block-in}
-use Rattle.file_blocks.specs.SoundBlock.{check-decides, form-decides}
+use Rattle.file_blocks.specs.{Place.block-in, SoundBlock.check-decides, SoundBlock.form-decides}
 use borrow.Author.Needs.{needs}
 use Rattle.file_blocks.proofs.sound.is_sound_block.Statement.{statement}
 use Rattle.file_blocks.proofs.sound.is_sound_block.Tie as tie

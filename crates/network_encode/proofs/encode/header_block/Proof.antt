@@ -2,9 +2,7 @@
 use mathlib.Core.Path.{refl}
 use native.Mathlib.Omega.{arith}
 use lib.Dec.{lit<, lit≤}
-use Rattle.network_encode.specs.Encode.{headerByte}
-use Rattle.network_encode.specs.BlockWritten.{block-written}
-use Rattle.network_encode.specs.Written.{header-entry}
+use Rattle.network_encode.specs.{Encode.headerByte, BlockWritten.block-written, Written.header-entry}
 use borrow.Author.Needs.{needs}
 use Rattle.network_encode.proofs.encode.header_block.Statement.{statement}
 use Rattle.network_encode.proofs.encode.header_block.Tie as tie

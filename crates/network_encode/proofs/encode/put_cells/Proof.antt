@@ -1,9 +1,8 @@
 -- `network_encode::encode::put_cells` meets its contract.
 use Prim.Native.Nat.{_+_, _-_, _*_, _≤_}
 use Rattle.theory_loops.specs.Fill.{Filled}
-use Rattle.network_encode.specs.Encode.{cellByte}
+use Rattle.network_encode.specs.{Encode.cellByte, Written.cell-put}
 use Rattle.network_encode.specs.Entries.{partByte, entry-none, entry-end}
-use Rattle.network_encode.specs.Written.{cell-put}
 use borrow.Author.Needs.{needs}
 use Rattle.network_encode.proofs.encode.put_cells.Statement.{statement}
 use Rattle.network_encode.proofs.encode.put_cells.Tie as tie

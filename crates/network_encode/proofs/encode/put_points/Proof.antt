@@ -1,9 +1,8 @@
 -- `network_encode::encode::put_points` meets its contract.
 use Prim.Native.Nat.{_+_, _-_, _*_, _≤_}
 use Rattle.theory_loops.specs.Fill.{Filled}
-use Rattle.network_encode.specs.Encode.{pointByte}
+use Rattle.network_encode.specs.{Encode.pointByte, Written.point-put}
 use Rattle.network_encode.specs.Entries.{partByte, entry-none, entry-end}
-use Rattle.network_encode.specs.Written.{point-put}
 use borrow.Author.Needs.{needs}
 use Rattle.network_encode.proofs.encode.put_points.Statement.{statement}
 use Rattle.network_encode.proofs.encode.put_points.Tie as tie

@@ -1,9 +1,8 @@
 -- `network_encode::encode::put_triples` meets its contract.
 use Prim.Native.Nat.{_+_, _-_, _*_, _≤_}
 use Rattle.theory_loops.specs.Fill.{Filled}
-use Rattle.network_encode.specs.Encode.{tripleByte}
+use Rattle.network_encode.specs.{Encode.tripleByte, Written.triple-put}
 use Rattle.network_encode.specs.Entries.{partByte, entry-none, entry-end}
-use Rattle.network_encode.specs.Written.{triple-put}
 use borrow.Author.Needs.{needs}
 use Rattle.network_encode.proofs.encode.put_triples.Statement.{statement}
 use Rattle.network_encode.proofs.encode.put_triples.Tie as tie

@@ -2,8 +2,7 @@
 use mathlib.Core.Path.{_≡_}
 use Prim.Native.Nat.{_≤_, _-_}
 use Rattle.theory_loops.specs.First.{first, firsts}
-use Rattle.network.specs.Decode.{decode}
-use Rattle.network.specs.Rules.{badHoursOf}
+use Rattle.network.specs.{Decode.decode, Rules.badHoursOf}
 use Rattle.network_rules.specs.Hours.{hours-none}
 use borrow.Author.Needs.{needs}
 use Rattle.network_rules.proofs.rules.first_bad_hours.Statement.{statement}

@@ -3,10 +3,8 @@
 use mathlib.Core.Path.{_≡_, sym}
 use Prim.Native.Nat.{_-_, _*_, _≤_, min}
 use native.Mathlib.Omega.{arith}
-use Rattle.file_blocks.specs.Kind.{arcPer}
-use Rattle.file_blocks.specs.Place.{blocks}
-use Rattle.network.specs.Limits.{mostArcs}
-use Rattle.network.specs.Decode.{decode, laid-small}
+use Rattle.file_blocks.specs.{Kind.arcPer, Place.blocks}
+use Rattle.network.specs.{Limits.mostArcs, Decode.decode, Decode.laid-small}
 use Rattle.network_rules.specs.ScanArcs.{ArcsPassed, arcs-none, arcs-at, arcs-found}
 use borrow.Author.Needs.{needs}
 use Rattle.network_rules.proofs.rules.scan_arcs.Statement.{statement}

@@ -4,8 +4,7 @@ use mathlib.Core.Path.{_≡_, sym, _∙_}
 use Prim.Native.Nat.{_+_, _-_, _*_, _≤_}
 use native.Mathlib.Omega.{arith}
 use Rattle.file_blocks.specs.Kind.{arcPer}
-use Rattle.network.specs.Decode.{decode, laid-small}
-use Rattle.network.specs.Rules.{badArc, arc-judged}
+use Rattle.network.specs.{Decode.decode, Decode.laid-small, Rules.badArc, Rules.arc-judged}
 use Rattle.network_rules.specs.ScanArcs.{ArcsPassed, arcs-at, arcs-more, arcs-stop, arcs-end}
 use borrow.Author.Needs.{needs}
 use Rattle.network_rules.proofs.rules.scan_block.Statement.{statement}

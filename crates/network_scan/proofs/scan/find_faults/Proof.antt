@@ -1,13 +1,9 @@
 -- `network_scan::scan::find_faults` meets its contract.
-use Prim.Native.Nat.{_≤_}
+use Prim.Native.{Nat._≤_, Nat._-_}
 use native.Mathlib.Omega.{arith}
-use Rattle.network.specs.Limits.{mostPeriod}
-use Rattle.network.specs.Decode.{laid-small}
-use Rattle.network_scan.specs.Scan.{scan-more}
-use Prim.Native.Nat.{_-_}
+use Rattle.network.specs.{Limits.mostPeriod, Decode.laid-small, Decode.decode}
+use Rattle.network_scan.specs.{Scan.scan-more, Scan.Scanning, Scan.scans}
 use Rattle.theory_travel.specs.Table.{entryAt}
-use Rattle.network.specs.Decode.{decode}
-use Rattle.network_scan.specs.Scan.{Scanning, scans}
 use borrow.Author.Needs.{needs}
 use Rattle.network_scan.proofs.scan.find_faults.Statement.{statement}
 use Rattle.network_scan.proofs.scan.find_faults.Tie as tie

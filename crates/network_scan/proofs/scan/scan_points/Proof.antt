@@ -1,10 +1,8 @@
 -- `network_scan::scan::scan_points` meets its contract.
 use native.Mathlib.Omega.{arith}
-use Rattle.network.specs.Decode.{laid-small}
-use Rattle.network_scan.specs.ScanAll.{all-few}
+use Rattle.network.specs.{Decode.laid-small, Decode.decode, Decode.laid-sizes}
+use Rattle.network_scan.specs.{ScanAll.all-few, ScanAll.ScanningAll, ScanAll.all-start, ScanAll.alls}
 use Prim.Native.Nat.{_-_}
-use Rattle.network.specs.Decode.{decode, laid-sizes}
-use Rattle.network_scan.specs.ScanAll.{ScanningAll, all-start, alls}
 use borrow.Author.Needs.{needs}
 use Rattle.network_scan.proofs.scan.scan_points.Statement.{statement}
 use Rattle.network_scan.proofs.scan.scan_points.Tie as tie

@@ -3,13 +3,10 @@
 use mathlib.Core.Path.{_≡_}
 use Prim.Native.Nat.{_-_, _*_, _≤_, min}
 use native.Mathlib.Omega.{arith}
-use borrow.Author.Tests.{not-false}
-use Rattle.file_blocks.specs.Kind.{arcPer}
-use Rattle.file_blocks.specs.Place.{blocks}
-use Rattle.network.specs.Limits.{mostArcs}
-use Rattle.network.specs.Decode.{decode, laid-sizes, laid-small}
+use borrow.Author.{Tests.not-false, Needs.needs}
+use Rattle.file_blocks.specs.{Kind.arcPer, Place.blocks}
+use Rattle.network.specs.{Limits.mostArcs, Decode.decode, Decode.laid-sizes, Decode.laid-small}
 use Rattle.network_steady.specs.Closes.{Closing, closing-none, closing-at, closing-end, not-so}
-use borrow.Author.Needs.{needs}
 use Rattle.network_steady.proofs.closes.are_closed.Statement.{statement}
 use Rattle.network_steady.proofs.closes.are_closed.Tie as tie
 

@@ -4,8 +4,7 @@ use Prim.Native.Nat.{_≤_}
 use native.Mathlib.Omega.{arith}
 use denote.Ref.{now}
 use Rattle.file_refusals.specs.declared.Judged.{Judged}
-use Rattle.network.specs.Network.{Network, start}
-use Rattle.network.specs.Rules.{judgedArcs, judged}
+use Rattle.network.specs.{Network.Network, Network.start, Rules.judgedArcs, Rules.judged}
 use Rattle.network.specs.Tables.{Tables, tables}
 use Rattle.network_rules.specs.Judge.{cell-taken, cells-passed, hours-taken, hours-passed, arc-taken}
 use Rattle.network_rules.specs.Judge.{arcs-passed, sum-taken, sum-passed, counted}

@@ -2,8 +2,7 @@
 use mathlib.Core.Path.{_≡_}
 use Prim.Native.Nat.{_-_, _*_, _≤_}
 use lib.ListN.{length, getD}
-use Rattle.theory_loops.specs.First.{first, firsts}
-use Rattle.theory_loops.specs.Total.{total, totals}
+use Rattle.theory_loops.specs.{First.first, First.firsts, Total.total, Total.totals}
 use Rattle.network_tables.specs.Cut.{badArcIn}
 use borrow.Author.Needs.{needs}
 use Rattle.network_tables.proofs.rules.scan_arcs.Statement.{statement}

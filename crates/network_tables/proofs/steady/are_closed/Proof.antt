@@ -1,12 +1,10 @@
 -- `network_tables::steady::are_closed` meets its contract.
 use native.Mathlib.Omega.{arith}
-use borrow.Author.Tests.{not-false}
+use borrow.Author.{Tests.not-false, Needs.needs}
 use Rattle.network_tables.specs.Steady.{closing-some, closing-room, closing-more}
 use Prim.Native.Nat.{_-_, _≤_}
 use lib.ListN.{length}
-use Rattle.network_tables.specs.Cut.{bare}
-use Rattle.network_tables.specs.Steady.{Closing, closings}
-use borrow.Author.Needs.{needs}
+use Rattle.network_tables.specs.{Cut.bare, Steady.Closing, Steady.closings}
 use Rattle.network_tables.proofs.steady.are_closed.Statement.{statement}
 use Rattle.network_tables.proofs.steady.are_closed.Tie as tie
 

@@ -1,8 +1,7 @@
 -- `network_tables::steady::is_closed` meets its contract.
 use native.Mathlib.Omega.{arith}
-use borrow.Author.Tests.{leb-true}
+use borrow.Author.{Tests.leb-true, Needs.needs}
 use Rattle.network_tables.specs.Steady.{not-closed}
-use borrow.Author.Needs.{needs}
 use Rattle.network_tables.proofs.steady.is_closed.Statement.{statement}
 use Rattle.network_tables.proofs.steady.is_closed.Tie as tie
 

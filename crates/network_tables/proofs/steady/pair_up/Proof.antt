@@ -1,9 +1,8 @@
 -- `network_tables::steady::pair_up` meets its contract.
 use native.Mathlib.Omega.{arith}
-use Rattle.network_tables.specs.Pairs.{pair-more}
+use Rattle.network_tables.specs.{Pairs.pair-more, Pairs.Paired, Pairs.pair-few, Pairs.pairs}
 use Prim.Native.Nat.{_-_, _≤_}
 use lib.ListN.{length}
-use Rattle.network_tables.specs.Pairs.{Paired, pair-few, pairs}
 use borrow.Author.Needs.{needs}
 use Rattle.network_tables.proofs.steady.pair_up.Statement.{statement}
 use Rattle.network_tables.proofs.steady.pair_up.Tie as tie

@@ -1,7 +1,6 @@
 -- `network_validate::validate::validate_form` meets its contract.
 use native.Mathlib.Omega.{arith}
-use Rattle.network.specs.Decode.{laid-few}
-use Rattle.network.specs.Validate.{form-taken, form-passed}
+use Rattle.network.specs.{Decode.laid-few, Validate.form-taken, Validate.form-passed}
 use borrow.Author.Needs.{needs}
 use Rattle.network_validate.proofs.validate.validate_form.Statement.{statement}
 use Rattle.network_validate.proofs.validate.validate_form.Tie as tie

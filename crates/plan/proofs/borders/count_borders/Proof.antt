@@ -1,14 +1,11 @@
 -- `plan::borders::count_borders` meets its contract: the marked nodes passed are counted. The two arms of the
 -- branch meet, so each is taken by itself.
-use mathlib.Core.Logic.{⊎-elim}
-use mathlib.Core.Path.{_≡_}
+use mathlib.Core.{Logic.⊎-elim, Path._≡_}
 use Prim.Native.Nat.{_≤_, _-_}
 use native.Mathlib.Omega.{arith}
 use borrow.Author.Needs.{needs}
-use Rattle.network.specs.Limits.{mostNodes}
-use Rattle.network.specs.Network.{nodes, arcs}
+use Rattle.network.specs.{Limits.mostNodes, Network.nodes, Network.arcs, Town.partitionOf}
 use Rattle.network.specs.Decode.{decode, laid-sizes, laid-small}
-use Rattle.network.specs.Town.{partitionOf}
 use Rattle.plan.specs.Marks.{
   Marked,
   mark-none,

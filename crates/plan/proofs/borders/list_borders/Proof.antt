@@ -1,16 +1,13 @@
 -- `plan::borders::list_borders` meets its contract: the marked nodes passed are listed. The two arms of the
 -- branch meet, so each is taken by itself.
-use mathlib.Core.Logic.{⊎-elim}
-use mathlib.Core.Path.{_≡_}
+use mathlib.Core.{Logic.⊎-elim, Path._≡_}
 use Prim.Native.Nat.{_≤_, _-_}
 use native.Mathlib.Omega.{arith}
 use lib.ListN.{length}
 use borrow.Author.Needs.{needs}
 use Rattle.theory_loops.specs.Select.{Chosen, chooses, choose-yes, choose-no, choose-end}
-use Rattle.network.specs.Limits.{mostNodes}
-use Rattle.network.specs.Network.{nodes, arcs}
+use Rattle.network.specs.{Limits.mostNodes, Network.nodes, Network.arcs, Town.partitionOf}
 use Rattle.network.specs.Decode.{decode, laid-sizes, laid-small}
-use Rattle.network.specs.Town.{partitionOf}
 use Rattle.plan.specs.Border.{isBorder}
 use Rattle.plan.specs.Marks.{Marked, mark-none, border-yes, border-no, borders-listed}
 use Rattle.plan.proofs.borders.list_borders.Statement.{statement}

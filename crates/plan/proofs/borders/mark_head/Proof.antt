@@ -3,8 +3,7 @@
 use Prim.Native.Nat.{_<_}
 use native.Mathlib.Omega.{arith}
 use borrow.Author.Needs.{needs}
-use Rattle.network.specs.Limits.{mostNodes}
-use Rattle.network.specs.Decode.{laid-small}
+use Rattle.network.specs.{Limits.mostNodes, Decode.laid-small}
 use Rattle.plan.specs.Marks.{markings, head-below, mark-set}
 use Rattle.plan.proofs.borders.mark_head.Statement.{statement}
 use Rattle.plan.proofs.borders.mark_head.Tie as tie

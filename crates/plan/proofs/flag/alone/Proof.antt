@@ -1,7 +1,6 @@
 -- `plan::flag::alone` meets its contract: nothing is shifted out.
 use mathlib.Core.Path.{_∙_}
-use native.Mathlib.Nat.{one-mul}
-use native.Mathlib.Omega.{arith}
+use native.Mathlib.{Nat.one-mul, Omega.arith}
 use lib.Pow.{shl-exact}
 use borrow.Author.Needs.{needs}
 use Rattle.plan.proofs.flag.alone.Statement.{statement}

@@ -1,6 +1,5 @@
 -- `plan::read::flag_word` meets its contract: the entry stands in the file, and its field is the plan's.
-use native.Mathlib.Nat.{add-zero}
-use native.Mathlib.Omega.{arith}
+use native.Mathlib.{Nat.add-zero, Omega.arith}
 use Rattle.plan.specs.PlanDecode.{flag-in, flag-is}
 use Rattle.plan.proofs.read.flag_word.Statement.{statement}
 use Rattle.plan.proofs.read.flag_word.Tie as tie

@@ -1,7 +1,6 @@
 -- `plan_check::check::check_plan` meets its contract.
-use Rattle.plan_check.specs.Checking.{checks}
+use Rattle.plan_check.specs.{Checking.checks, Finds.finds-none}
 use mathlib.Core.Path.{_∙_}
-use Rattle.plan_check.specs.Finds.{finds-none}
 use borrow.Author.Needs.{needs}
 use Rattle.plan_check.proofs.check.check_plan.Statement.{statement}
 use Rattle.plan_check.proofs.check.check_plan.Tie as tie

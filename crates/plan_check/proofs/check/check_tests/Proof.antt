@@ -1,9 +1,8 @@
 -- `plan_check::check::check_tests` meets its contract: 20 is tried first, and the tables that are filled then
 -- are those that the other tests ask for.
 use Rattle.search_chains.specs.Town.{fresh-tables}
-use Rattle.plan_check.specs.Ladder.{checks, equipped-of}
+use Rattle.plan_check.specs.{Ladder.checks, Ladder.equipped-of, Finds.finds-none}
 use mathlib.Core.Path.{_∙_}
-use Rattle.plan_check.specs.Finds.{finds-none}
 use borrow.Author.Needs.{needs}
 use Rattle.plan_check.proofs.check.check_tests.Statement.{statement}
 use Rattle.plan_check.proofs.check.check_tests.Tie as tie

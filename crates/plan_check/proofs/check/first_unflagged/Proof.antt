@@ -1,8 +1,7 @@
 -- `plan_check::check::first_unflagged` meets its contract: 20 fails at no arc that was passed.
 use Rattle.plan_tests.specs.Tests.{fails20}
 use Rattle.plan.specs.PlanDecode.{decodePlan}
-use Rattle.network.specs.Decode.{decode}
-use Rattle.network.specs.Town.{partitionOf}
+use Rattle.network.specs.{Decode.decode, Town.partitionOf}
 use Prim.Native.Nat.{_≤_, _-_}
 use mathlib.Core.Path.{_≡_}
 use Rattle.theory_loops.specs.First.{first, firsts}

@@ -4,8 +4,7 @@ use native.Mathlib.Omega.{arith}
 use denote.Ref.{now}
 use Rattle.network.specs.Decode.{decode}
 use Rattle.plan_make.specs.Making.{borders-fit, header-within, header-made, points-few, file-few}
-use Rattle.plan_make.specs.Making.{file-long}
-use Rattle.plan_make.specs.Making.{made-short, made-whole}
+use Rattle.plan_make.specs.{Making.file-long, Making.made-short, Making.made-whole}
 use borrow.Author.Needs.{needs}
 use Rattle.plan_make.proofs.make.make_counted.Statement.{statement}
 use Rattle.plan_make.proofs.make.make_counted.Tie as tie

@@ -1,8 +1,7 @@
 -- `plan_make::make::make_opened` meets its contract.
 use mathlib.Core.Path.{refl}
 use denote.Ref.{now}
-use native.Mathlib.Nat.{mul-le-mul}
-use native.Mathlib.Omega.{arith}
+use native.Mathlib.{Nat.mul-le-mul, Omega.arith}
 use lib.ListN.{length-take}
 use Rattle.toward_list.specs.Work.{valid-town, size-is}
 use Rattle.plan_make.specs.Making.{work-short, work-long}

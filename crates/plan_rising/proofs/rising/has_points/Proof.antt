@@ -1,6 +1,5 @@
 -- `plan_rising::rising::has_points` meets its contract.
-use borrow.Author.Needs.{needs}
-use borrow.Author.Tests.{lt-ltb, le-ltb}
+use borrow.Author.{Needs.needs, Tests.lt-ltb, Tests.le-ltb}
 use Rattle.plan_rising.proofs.rising.has_points.Statement.{statement}
 use Rattle.plan_rising.proofs.rising.has_points.Tie as tie
 

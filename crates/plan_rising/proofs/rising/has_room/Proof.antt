@@ -1,6 +1,5 @@
 -- `plan_rising::rising::has_room` meets its contract.
-use mathlib.Core.Path.{sym}
-use mathlib.Core.Bool.{true≢false}
+use mathlib.Core.{Path.sym, Bool.true≢false}
 use borrow.Author.Needs.{needs}
 use Rattle.plan_rising.proofs.rising.has_room.Statement.{statement}
 use Rattle.plan_rising.proofs.rising.has_room.Tie as tie

@@ -1,10 +1,9 @@
 -- `plan_rising::rising::is_kept` meets its contract.
 use Prim.Native.Nat.{_+_, _≤_}
 use native.Mathlib.Omega.{arith}
-use borrow.Author.Tests.{not-false}
+use borrow.Author.{Tests.not-false, Needs.needs}
 use Rattle.plan.specs.PlanDecode.{plan-small}
 use Rattle.plan_rising.specs.Rising.{keeps}
-use borrow.Author.Needs.{needs}
 use Rattle.plan_rising.proofs.rising.is_kept.Statement.{statement}
 use Rattle.plan_rising.proofs.rising.is_kept.Tie as tie
 

@@ -4,15 +4,12 @@ use Prim.Native.Nat.{_-_}
 use native.Mathlib.Omega.{arith}
 use lib.Dec.{lit<, lit≤}
 use denote.Ref.{now}
-use borrow.Author.Tests.{not-false}
+use borrow.Author.{Tests.not-false, Needs.needs}
 use Rattle.theory_travel.specs.Table.{entryAt}
-use Rattle.plan.specs.Plan.{pointCount}
-use Rattle.plan.specs.PlanDecode.{decodePlan, laid-plan, plan-small}
+use Rattle.plan.specs.{Plan.pointCount, PlanDecode.decodePlan, PlanDecode.laid-plan, PlanDecode.plan-small}
 use Rattle.plan.specs.PlanWalk.{count-there, count-read, count-may, count-on}
-use Rattle.plan_rising.specs.Progress.{walked-none}
+use Rattle.plan_rising.specs.{Progress.walked-none, Rising.holding-end}
 use Rattle.plan_rising.specs.Rising.{Holding, Kept, risen-no, holding-none, holding-few, holding-more}
-use Rattle.plan_rising.specs.Rising.{holding-end}
-use borrow.Author.Needs.{needs}
 use Rattle.plan_rising.proofs.rising.is_rising.Statement.{statement}
 use Rattle.plan_rising.proofs.rising.is_rising.Tie as tie
 

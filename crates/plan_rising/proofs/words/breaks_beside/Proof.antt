@@ -1,7 +1,6 @@
 -- `plan_rising::words::breaks_beside` meets its contract.
 use native.Mathlib.Omega.{arith}
-use Rattle.plan_rising.specs.Breaks.{both-few, both-all}
-use Rattle.plan_rising.specs.Words.{wordPoints}
+use Rattle.plan_rising.specs.{Breaks.both-few, Breaks.both-all, Words.wordPoints}
 use borrow.Author.Needs.{needs}
 use Rattle.plan_rising.proofs.words.breaks_beside.Statement.{statement}
 use Rattle.plan_rising.proofs.words.breaks_beside.Tie as tie

@@ -1,12 +1,10 @@
 use mathlib.Core.Path.{_≡_, refl, _∙_}
 use denote.Ref.{now}
-use Rattle.network.specs.Town.{partitionOf}
-use Rattle.plan.specs.Border.{borderCount}
+use Rattle.network.specs.{Town.partitionOf, Decode.decode}
+use Rattle.plan.specs.{Border.borderCount, PlanLimits.mostProfilePoints}
 use Prim.Native.Nat.{_-_, _≤_, _<_}
 use native.Mathlib.Omega.{arith}
 use lib.ListN.{length}
-use Rattle.network.specs.Decode.{decode}
-use Rattle.plan.specs.PlanLimits.{mostProfilePoints}
 use Rattle.plan_rounds.specs.Rounds.{pointsBefore, counted-none, counted-all, counted-many}
 use Rattle.plan_rounds.specs.Rounds.{rows-low, counted-more, counted-few}
 use borrow.Author.Needs.{needs}

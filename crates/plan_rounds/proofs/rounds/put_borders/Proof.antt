@@ -6,8 +6,7 @@ use lib.ListN.{length}
 use Rattle.network.specs.Decode.{decode}
 use Rattle.plan_rounds.specs.Rounds.{pointsBefore, PutTo, counted-none, put-none, put-more, rows-low}
 use Rattle.plan_rounds.specs.Rounds.{profiles-few, profiles-room, points-room, listed, put-kept}
-use Rattle.plan_rounds.specs.Rounds.{put-end}
-use Rattle.plan_rounds.specs.Rounds.{border-index}
+use Rattle.plan_rounds.specs.{Rounds.put-end, Rounds.border-index}
 use borrow.Author.Needs.{needs}
 use Rattle.plan_rounds.proofs.rounds.put_borders.Statement.{statement}
 use Rattle.plan_rounds.proofs.rounds.put_borders.Tie as tie

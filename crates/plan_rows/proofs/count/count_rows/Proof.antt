@@ -1,7 +1,6 @@
 use mathlib.Core.Path.{_≡_}
 use Prim.Native.Nat.{_-_, _≤_}
-use native.Mathlib.Omega.{arith}
-use native.Mathlib.Nat.{mul-le-mul}
+use native.Mathlib.{Omega.arith, Nat.mul-le-mul}
 use denote.Ref.{now}
 use Rattle.theory_loops.specs.Total.{total, totals}
 use Rattle.network.specs.Limits.{mostNodes}

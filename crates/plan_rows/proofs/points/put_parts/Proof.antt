@@ -1,7 +1,6 @@
 use mathlib.Core.Path.{refl}
 use Prim.Native.Nat.{_-_, _≤_}
-use native.Mathlib.Nat.{le-of-lt}
-use native.Mathlib.Omega.{arith}
+use native.Mathlib.{Nat.le-of-lt, Omega.arith}
 use Rattle.plan_rows.specs.Points.{PutPoints, put-none, put-join, put-end, room-kept, part-room}
 use borrow.Author.Needs.{needs}
 use Rattle.plan_rows.proofs.points.put_parts.Statement.{statement}

@@ -1,7 +1,6 @@
-use mathlib.Core.Path.{refl}
+use mathlib.Core.{Path.refl, Logic._≢_}
 use native.Mathlib.Omega.{arith}
 use denote.Ref.{now}
-use mathlib.Core.Logic.{_≢_}
 use Rattle.theory_loops.specs.Grid.{gridAt}
 use Rattle.theory_paths.specs.Earliest.{never}
 use Rattle.plan_rows.specs.Rows.{at-place, at-row, points-few, row-low, row-turns, row-next, row-put}

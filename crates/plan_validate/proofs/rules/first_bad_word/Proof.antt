@@ -3,8 +3,7 @@ use mathlib.Core.Path.{_≡_}
 use Prim.Native.Nat.{_≤_, _-_}
 use borrow.Author.Needs.{needs}
 use Rattle.theory_loops.specs.First.{first, firsts}
-use Rattle.plan.specs.PlanDecode.{decodePlan}
-use Rattle.plan.specs.PlanRules.{badFlags}
+use Rattle.plan.specs.{PlanDecode.decodePlan, PlanRules.badFlags}
 use Rattle.plan_validate.proofs.rules.first_bad_word.Statement.{statement}
 use Rattle.plan_validate.proofs.rules.first_bad_word.Tie as tie
 

@@ -3,8 +3,7 @@
 use native.Mathlib.Omega.{arith}
 use borrow.Author.Needs.{needs}
 use Rattle.theory_loops.specs.Pick.{picks}
-use Rattle.plan.specs.PlanDecode.{plan-small}
-use Rattle.plan.specs.PlanRules.{judgedFlags}
+use Rattle.plan.specs.{PlanDecode.plan-small, PlanRules.judgedFlags}
 use Rattle.plan_validate.proofs.rules.judge_plan.Statement.{statement}
 use Rattle.plan_validate.proofs.rules.judge_plan.Tie as tie
 

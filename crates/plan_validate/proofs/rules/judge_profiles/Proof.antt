@@ -6,8 +6,7 @@ use native.Mathlib.Omega.{arith}
 use lib.Dec.{lit<, lit≤}
 use denote.Ref.{now}
 use borrow.Author.Needs.{needs}
-use Rattle.plan.specs.PlanLimits.{mostProfiles}
-use Rattle.plan.specs.Plan.{pointCount}
+use Rattle.plan.specs.{PlanLimits.mostProfiles, Plan.pointCount}
 use Rattle.plan.specs.PlanDecode.{decodePlan, laid-plan, plan-small, plan-sizes}
 use Rattle.plan.specs.PlanWalk.{count-there, count-read, count-may, count-on}
 use Rattle.plan_validate.specs.PlanScanAll.{Passing, pass-start, count-taken, pass-more, sum-taken}

@@ -2,8 +2,7 @@
 -- answer to the rules.
 use native.Mathlib.Omega.{arith}
 use borrow.Author.Needs.{needs}
-use Rattle.plan.specs.PlanDecode.{plan-small}
-use Rattle.plan.specs.PlanValidate.{form-taken, form-passed}
+use Rattle.plan.specs.{PlanDecode.plan-small, PlanValidate.form-taken, PlanValidate.form-passed}
 use Rattle.plan_validate.proofs.validate.validate_form.Statement.{statement}
 use Rattle.plan_validate.proofs.validate.validate_form.Tie as tie
 

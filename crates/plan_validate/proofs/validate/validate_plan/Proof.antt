@@ -1,19 +1,15 @@
 -- `plan_validate::validate::validate_plan` meets its contract: the length decides, then whether the file is
 -- well-formed, then the first bad sum, or the answer is left to the first block.
-use mathlib.Core.Path.{_≡_, sym}
-use mathlib.Core.Bool.{false}
+use mathlib.Core.{Path._≡_, Path.sym, Bool.false}
 use Prim.Native.Nat.{_≤_}
 use native.Mathlib.Omega.{arith}
 use lib.ListN.{length}
 use denote.Ref.{now}
 use borrow.Author.Needs.{needs}
-use Rattle.theory_loops.specs.First.{told}
-use Rattle.theory_loops.specs.Pick.{picks, passed, at-first, past-first}
+use Rattle.theory_loops.specs.{First.told, Pick.picks, Pick.passed, Pick.at-first, Pick.past-first}
 use Rattle.file_fields.specs.Block.{blockSize}
 use Rattle.file_blocks.specs.Form.{badLength, length-fine}
-use Rattle.plan.specs.PlanLimits.{mostPlanBytes}
-use Rattle.plan.specs.PlanValidate.{planned}
-use Rattle.plan.specs.PlanValid.{plan-exactly}
+use Rattle.plan.specs.{PlanLimits.mostPlanBytes, PlanValidate.planned, PlanValid.plan-exactly}
 use Rattle.plan_validate.proofs.validate.validate_plan.Statement.{statement}
 use Rattle.plan_validate.proofs.validate.validate_plan.Tie as tie
 

@@ -1,9 +1,7 @@
 -- `plan_validate::well_formed::is_sound` meets its contract.
-use mathlib.Core.Path.{sym}
-use mathlib.Core.Bool.{true≢false}
-use borrow.Author.Tests.{not-false}
+use mathlib.Core.{Path.sym, Bool.true≢false}
+use borrow.Author.{Tests.not-false, Needs.needs}
 use Rattle.plan_validate.specs.Good.{plan-sound}
-use borrow.Author.Needs.{needs}
 use Rattle.plan_validate.proofs.well_formed.is_sound.Statement.{statement}
 use Rattle.plan_validate.proofs.well_formed.is_sound.Tie as tie
 

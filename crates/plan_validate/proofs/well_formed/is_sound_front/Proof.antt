@@ -1,9 +1,7 @@
 -- `plan_validate::well_formed::is_sound_front` meets its contract.
-use mathlib.Core.Path.{sym}
-use mathlib.Core.Bool.{true≢false}
+use mathlib.Core.{Path.sym, Bool.true≢false}
 use native.Mathlib.Omega.{arith}
-use Rattle.plan.specs.PlanDecode.{laid-plan, plan-small}
-use Rattle.plan.specs.PlanValidate.{forms}
+use Rattle.plan.specs.{PlanDecode.laid-plan, PlanDecode.plan-small, PlanValidate.forms}
 use Rattle.plan_validate.specs.Good.{front-sound}
 use Rattle.plan_validate.proofs.well_formed.is_sound_front.Statement.{statement}
 use Rattle.plan_validate.proofs.well_formed.is_sound_front.Tie as tie

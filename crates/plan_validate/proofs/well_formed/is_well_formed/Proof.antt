@@ -1,19 +1,14 @@
 -- `plan_validate::well_formed::is_well_formed` meets its contract: a header with the network's numbers is
 -- within the limits, and a plan of the length that it calls for is laid out.
-use mathlib.Core.Path.{sym}
-use mathlib.Core.Bool.{true≢false}
-use mathlib.Core.List.{List}
+use mathlib.Core.{Path.sym, Bool.true≢false, List.List}
 use Prim.Native.Nat.{ℕ}
 use native.Mathlib.Omega.{arith}
 use denote.Ref.{now}
-use borrow.Author.Tests.{not-false}
+use borrow.Author.{Tests.not-false, Needs.needs}
 use Rattle.theory_loops.specs.First.{told}
-use Rattle.plan.specs.PlanHeader.{PlanWithin}
-use Rattle.plan.specs.PlanDecode.{PlanLaid}
-use Rattle.plan.specs.PlanMatch.{header-within}
+use Rattle.plan.specs.{PlanHeader.PlanWithin, PlanDecode.PlanLaid, PlanMatch.header-within}
 use Rattle.plan.specs.PlanValidate.{blocks-few, now-laid}
 use Rattle.plan_validate.specs.Good.{sound-valid, matching-at}
-use borrow.Author.Needs.{needs}
 use Rattle.plan_validate.proofs.well_formed.is_well_formed.Statement.{statement}
 use Rattle.plan_validate.proofs.well_formed.is_well_formed.Tie as tie
 

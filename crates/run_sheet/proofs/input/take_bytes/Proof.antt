@@ -2,8 +2,7 @@
 use mathlib.Core.Path.{_≡_}
 use Prim.Native.Nat.{_-_, _≤_}
 use lib.ListN.{length, take}
-use Rattle.sheet.specs.Reading.{steppedAll}
-use Rattle.sheet.specs.Pieces.{pieces}
+use Rattle.sheet.specs.{Reading.steppedAll, Pieces.pieces}
 use borrow.Author.Needs.{needs}
 use Rattle.run_sheet.proofs.input.take_bytes.Statement.{statement}
 use Rattle.run_sheet.proofs.input.take_bytes.Tie as tie

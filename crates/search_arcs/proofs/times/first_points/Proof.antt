@@ -2,10 +2,8 @@
 -- bits, since all points do.
 use mathlib.Core.Path.{_≡_}
 use Prim.Native.Nat.{_≤_, _-_}
-use Rattle.theory_loops.specs.Total.{total, totals}
-use Rattle.theory_loops.specs.Fill.{Filled, fills}
-use Rattle.network.specs.Decode.{decode}
-use Rattle.network.specs.Network.{count, start}
+use Rattle.theory_loops.specs.{Total.total, Total.totals, Fill.Filled, Fill.fills}
+use Rattle.network.specs.{Decode.decode, Network.count, Network.start}
 use Rattle.search_arcs.specs.Times.{start-small, sum-fits}
 use borrow.Author.Needs.{needs}
 use Rattle.search_arcs.proofs.times.first_points.Statement.{statement}

@@ -1,8 +1,7 @@
 -- `search_arcs::times::segment` meets its contract: the first point that is left is at or before x, the one
 -- behind the last is after it, and they come together by halves.
 use Prim.Native.Nat.{_+_}
-use Rattle.theory_travel.specs.Table.{entryAt}
-use Rattle.theory_travel.specs.Search.{Between}
+use Rattle.theory_travel.specs.{Table.entryAt, Search.Between}
 use Rattle.network.specs.Decode.{decode}
 use Rattle.search_arcs.specs.Halves.{halving}
 use borrow.Author.Needs.{needs}

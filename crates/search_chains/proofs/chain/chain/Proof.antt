@@ -1,8 +1,7 @@
 -- `search_arcs::chain::chain` meets its contract: the invariant is that both tables are as they should be for
 -- the arcs passed, from the last on.
 use Prim.Native.Nat.{_≤_, _-_}
-use Rattle.network.specs.Limits.{mostArcs}
-use Rattle.network.specs.Decode.{decode}
+use Rattle.network.specs.{Limits.mostArcs, Decode.decode}
 use Rattle.search_chains.specs.Chain.{endOf, Chained, chains}
 use borrow.Author.Needs.{needs}
 use Rattle.search_chains.proofs.chain.chain.Statement.{statement}

@@ -3,8 +3,7 @@
 use mathlib.Core.Path.{_≡_}
 use Prim.Native.Nat.{_-_, _*_, _≤_, min}
 use native.Mathlib.Omega.{arith}
-use Rattle.file_blocks.specs.Kind.{arcPer}
-use Rattle.file_blocks.specs.Place.{blocks}
+use Rattle.file_blocks.specs.{Kind.arcPer, Place.blocks}
 use Rattle.search_chains.specs.Tables.{Filling, filling-at, filling-none}
 use borrow.Author.Needs.{needs}
 use Rattle.search_chains.proofs.tables.fill.Statement.{statement}

@@ -1,7 +1,6 @@
 -- `search_labels::frontier::nearest` meets its contract: the invariant is the contract itself at the keys
 -- passed.
-use mathlib.Core.Path.{refl, sym, _∙_}
-use mathlib.Core.Logic.{⊎-elim}
+use mathlib.Core.{Path.refl, Path.sym, Path._∙_, Logic.⊎-elim}
 use Prim.Native.Nat.{_≤_, _-_}
 use Rattle.search_frontier.specs.Nearest.{
   Least,
@@ -12,8 +11,7 @@ use Rattle.search_frontier.specs.Nearest.{
   least-end,
 }
 use native.Mathlib.Numerals.{add-one}
-use borrow.Author.Needs.{needs}
-use borrow.Author.Tests.{ltb-true, ltb-false}
+use borrow.Author.{Needs.needs, Tests.ltb-true, Tests.ltb-false}
 use Rattle.search_frontier.proofs.frontier.nearest.Statement.{statement}
 use Rattle.search_frontier.proofs.frontier.nearest.Tie as tie
 

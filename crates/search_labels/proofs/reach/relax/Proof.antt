@@ -13,8 +13,7 @@ use Rattle.search_labels.specs.Walk.{
   end-small,
   notes-before,
 }
-use borrow.Author.Tests.{eq-eqb, ne-eqb}
-use borrow.Author.Needs.{needs}
+use borrow.Author.{Tests.eq-eqb, Tests.ne-eqb, Needs.needs}
 use Rattle.search_labels.proofs.reach.relax.Statement.{statement}
 use Rattle.search_labels.proofs.reach.relax.Tie as tie
 

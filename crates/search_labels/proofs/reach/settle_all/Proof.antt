@@ -1,11 +1,9 @@
 -- `search_labels::reach::settle_all` meets its contract: each turn is a step of the theory. The measure falls
 -- by one with each node settled: a node that is put into the frontier is one less without a label.
 use Prim.Native.Nat.{_+_}
-use Rattle.network.specs.Town.{graphOf}
-use Rattle.network.specs.Decode.{decode}
+use Rattle.network.specs.{Town.graphOf, Decode.decode}
 use Rattle.search_frontier.specs.Frontier.{unknown}
-use Rattle.search_labels.specs.Reach.{Searching, turns}
-use Rattle.search_labels.specs.Ready.{permitOf}
+use Rattle.search_labels.specs.{Reach.Searching, Reach.turns, Ready.permitOf}
 use borrow.Author.Needs.{needs}
 use Rattle.search_labels.proofs.reach.settle_all.Statement.{statement}
 use Rattle.search_labels.proofs.reach.settle_all.Tie as tie

@@ -1,7 +1,6 @@
 -- `sheet_line::line::ended` meets its contract.
-use borrow.Author.Tests.{not-true, not-false}
+use borrow.Author.{Tests.not-true, Tests.not-false, Needs.needs}
 use Rattle.theory_loops.specs.Pick.{picks}
-use borrow.Author.Needs.{needs}
 use Rattle.sheet_line.specs.Line.{ended}
 use Rattle.sheet_line.proofs.line.ended.Statement.{statement}
 use Rattle.sheet_line.proofs.line.ended.Tie as tie

@@ -3,8 +3,7 @@ use native.Mathlib.Omega.{arith}
 use Rattle.text_numbers.specs.Number.{stored-digit, stored-digits, decimal-nine}
 use borrow.Author.Needs.{needs}
 use Prim.Native.Nat.{ℕ, _/_, _<_}
-use borrow.Fn.Kinds.{In}
-use borrow.Fn.PlainCycle.{Measures, is, falls, and}
+use borrow.Fn.{Kinds.In, PlainCycle.Measures, PlainCycle.is, PlainCycle.falls, PlainCycle.and}
 use Rattle.text_numbers.proofs.text.put_decimal.Reads as put-decimal
 use Rattle.text_numbers.proofs.text.put_decimal.Kinds as put-decimal-kinds
 use Rattle.text_numbers.proofs.text.+put_decimal.Lts-put_decimal as put-decimal-lts

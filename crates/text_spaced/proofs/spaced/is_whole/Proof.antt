@@ -1,8 +1,7 @@
 -- `text_numbers::spaced::is_whole` meets its contract.
-use borrow.Author.Tests.{not-true, not-false}
+use borrow.Author.{Tests.not-true, Tests.not-false, Needs.needs}
 use Rattle.theory_loops.specs.Pick.{picks}
 use Rattle.text_spaced.specs.Scanning.{whole}
-use borrow.Author.Needs.{needs}
 use Rattle.text_spaced.proofs.spaced.is_whole.Statement.{statement}
 use Rattle.text_spaced.proofs.spaced.is_whole.Tie as tie
 

@@ -1,8 +1,7 @@
 -- `text_numbers::spaced::scan_byte` meets its contract.
-use borrow.Author.Tests.{not-true, not-false}
+use borrow.Author.{Tests.not-true, Tests.not-false, Needs.needs}
 use Rattle.theory_loops.specs.Pick.{picks}
 use Rattle.text_spaced.specs.Scanning.{scanned}
-use borrow.Author.Needs.{needs}
 use Rattle.text_spaced.proofs.spaced.scan_byte.Statement.{statement}
 use Rattle.text_spaced.proofs.spaced.scan_byte.Tie as tie
 

@@ -2,8 +2,7 @@
 use mathlib.Core.Path.{_≡_}
 use Prim.Native.Nat.{_-_, _≤_}
 use lib.ListN.{length, take}
-use Rattle.text_spaced.specs.Fold.{bytewise}
-use Rattle.text_spaced.specs.Scanning.{fresh, scannedAll}
+use Rattle.text_spaced.specs.{Fold.bytewise, Scanning.fresh, Scanning.scannedAll}
 use borrow.Author.Needs.{needs}
 use Rattle.text_spaced.proofs.spaced.scan_line.Statement.{statement}
 use Rattle.text_spaced.proofs.spaced.scan_line.Tie as tie

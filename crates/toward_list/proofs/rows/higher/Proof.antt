@@ -2,8 +2,7 @@
 use mathlib.Core.Path.{sym, _∙_}
 use Prim.Native.Nat.{_≤_, _<_}
 use native.Mathlib.Omega.{arith}
-use borrow.Author.Tests.{ltb-true, ltb-false}
-use borrow.Author.Needs.{needs}
+use borrow.Author.{Tests.ltb-true, Tests.ltb-false, Needs.needs}
 use Rattle.toward_list.proofs.rows.higher.Statement.{statement}
 use Rattle.toward_list.proofs.rows.higher.Tie as tie
 

@@ -1,6 +1,5 @@
 -- `trip::flagged::flagged_trip` meets its contract.
-use Rattle.trip_call.specs.Stage.{stages}
-use Rattle.trip_call.specs.Visit.{visits}
+use Rattle.trip_call.specs.{Stage.stages, Visit.visits}
 use borrow.Author.Needs.{needs}
 use Rattle.trip.proofs.flagged.flagged_trip.Statement.{statement}
 use Rattle.trip.proofs.flagged.flagged_trip.Tie as tie

@@ -1,7 +1,6 @@
 -- `trip_call::visit::open_tick` meets its contract.
 use native.Mathlib.Omega.{arith}
-use Rattle.trip_call.specs.Drive.{drive-laid, drive-sizes}
-use Rattle.trip_call.specs.Visit.{visits}
+use Rattle.trip_call.specs.{Drive.drive-laid, Drive.drive-sizes, Visit.visits}
 use borrow.Author.Needs.{needs}
 use Rattle.trip_call.proofs.visit.open_tick.Statement.{statement}
 use Rattle.trip_call.proofs.visit.open_tick.Tie as tie

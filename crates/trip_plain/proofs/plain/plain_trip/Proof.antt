@@ -1,7 +1,6 @@
 -- `trip::plain::plain_trip` meets its contract.
 use Rattle.trip_plain.specs.Plain.{plains}
-use Rattle.trip_call.specs.Stage.{stages}
-use Rattle.trip_call.specs.Visit.{visits}
+use Rattle.trip_call.specs.{Stage.stages, Visit.visits}
 use borrow.Author.Needs.{needs}
 use Rattle.trip_plain.proofs.plain.plain_trip.Statement.{statement}
 use Rattle.trip_plain.proofs.plain.plain_trip.Tie as tie

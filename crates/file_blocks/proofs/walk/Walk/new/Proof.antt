@@ -1,6 +1,5 @@
 -- `file_blocks::walk::Walk::new` meets its contract.
-use native.Mathlib.Nat.{mod-lt}
-use native.Mathlib.Omega.{arith}
+use native.Mathlib.{Nat.mod-lt, Omega.arith}
 use borrow.Author.Needs.{needs}
 use Rattle.file_blocks.proofs.walk.Walk.new.Statement.{statement}
 use Rattle.file_blocks.proofs.walk.Walk.new.Tie as tie

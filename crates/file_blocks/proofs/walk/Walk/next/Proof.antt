@@ -1,6 +1,5 @@
 -- `file_blocks::walk::Walk::next` meets its contract: the test picks the arm, as the definition does.
-use native.Mathlib.Nat.{mul-le-mul-left}
-use native.Mathlib.Omega.{arith}
+use native.Mathlib.{Nat.mul-le-mul-left, Omega.arith}
 use Rattle.theory_loops.specs.Pick.{picks}
 use Rattle.file_blocks.specs.Walk.{stepped}
 use borrow.Author.Needs.{needs}

@@ -1,8 +1,7 @@
 -- `network::header::Header::layout` meets its contract.
 use Prim.Native.Nat.{_≤_}
 use native.Mathlib.Omega.{arith}
-use Rattle.network.specs.Layout.{layout-told}
-use Rattle.network.specs.Node.{blocks-counted}
+use Rattle.network.specs.{Layout.layout-told, Node.blocks-counted}
 use borrow.Author.Needs.{needs}
 use Rattle.network.proofs.header.Header.layout.Statement.{statement}
 use Rattle.network.proofs.header.Header.layout.Tie as tie

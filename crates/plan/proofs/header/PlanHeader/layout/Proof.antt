@@ -1,8 +1,7 @@
 -- `plan::header::PlanHeader::layout` meets its contract: the profiles are few, so no sum or product wraps.
 use native.Mathlib.Omega.{arith}
 use borrow.Author.Needs.{needs}
-use Rattle.plan.specs.PlanHeader.{profiles-few}
-use Rattle.plan.specs.PlanLayout.{planLayoutOf}
+use Rattle.plan.specs.{PlanHeader.profiles-few, PlanLayout.planLayoutOf}
 use Rattle.plan.proofs.header.PlanHeader.layout.Statement.{statement}
 use Rattle.plan.proofs.header.PlanHeader.layout.Tie as tie
 
