@@ -6,4 +6,10 @@ use Rattle.day_merge.proofs.paint_some.Statement.{statement}
 use Rattle.day_merge.proofs.paint_some.Tie as tie
 
 pub paint-some-spec : {M : Type 1} → statement M
-paint-some-spec = tie.close (tie.spec (λ c κs. search needs) (λ c. search needs) (λ c. search needs) (λ c. painted-none _ _ _ _ (omega arith)))
+paint-some-spec =
+    tie.close
+    (tie.spec
+    (λ c κs. search needs)
+    (λ c. search needs)
+    (λ c. search needs)
+    (λ c. painted-none _ _ _ _ (omega arith)))

@@ -20,4 +20,10 @@ returns c = let d = c .before .before .before .before in
 pub finish-spec : {M : Type 1} → statement M
 finish-spec =
     tie.close
-    (tie.spec (λ c κs. search needs) (λ c κs. search needs) close-requires (λ c. search needs) (λ c. search needs) returns)
+    (tie.spec
+    (λ c κs. search needs)
+    (λ c κs. search needs)
+    close-requires
+    (λ c. search needs)
+    (λ c. search needs)
+    returns)

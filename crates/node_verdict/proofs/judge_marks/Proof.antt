@@ -6,4 +6,11 @@ use Rattle.node_verdict.proofs.judge_marks.Tie as tie
 
 pub judge-marks-spec : {M : Type 1} → statement M
 judge-marks-spec =
-    tie.close (tie.spec (λ c κs. search needs) (λ c. search marked-21) (λ c. search marked-22) (λ c. search marked-23) (λ c. search marked-24) (λ c. search marked-25))
+    tie.close
+    (tie.spec
+    (λ c κs. search needs)
+    (λ c. search marked-21)
+    (λ c. search marked-22)
+    (λ c. search marked-23)
+    (λ c. search marked-24)
+    (λ c. search marked-25))

@@ -14,4 +14,10 @@ returns-2 c =
     ))
 
 pub nearest-spec : {M : Type 1} → statement M
-nearest-spec = tie.close (tie.spec (λ c κs. search needs) (λ c. found-none _ _ _ _ (c .before .most-near .ensures) (c .if1 .taken)) (λ c κs. search needs) returns-2)
+nearest-spec =
+    tie.close
+    (tie.spec
+    (λ c κs. search needs)
+    (λ c. found-none _ _ _ _ (c .before .most-near .ensures) (c .if1 .taken))
+    (λ c κs. search needs)
+    returns-2)

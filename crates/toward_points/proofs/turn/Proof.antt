@@ -4,4 +4,10 @@ use Rattle.toward_points.proofs.turn.Statement.{statement}
 use Rattle.toward_points.proofs.turn.Tie as tie
 
 pub turn-spec : {M : Type 1} → statement M
-turn-spec = tie.close (tie.spec (λ c. search needs) (λ c. search needs) (λ c. search turning) (λ c. search turning))
+turn-spec =
+    tie.close
+    (tie.spec
+    (λ c. search needs)
+    (λ c. search needs)
+    (λ c. search turning)
+    (λ c. search turning))

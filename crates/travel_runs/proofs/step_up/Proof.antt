@@ -8,4 +8,11 @@ unfolding stepUp
 returns c = search needs
 
 pub step-up-spec : {M : Type 1} → statement M
-step-up-spec = tie.close (tie.spec (λ c. search needs) (λ c. search needs) (λ c. search needs) (λ c. search needs) returns)
+step-up-spec =
+    tie.close
+    (tie.spec
+    (λ c. search needs)
+    (λ c. search needs)
+    (λ c. search needs)
+    (λ c. search needs)
+    returns)

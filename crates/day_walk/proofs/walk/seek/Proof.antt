@@ -20,4 +20,11 @@ on-requires-2 c κs = let s = c .before .before .before in
     (s .pre .0, (f .below, omega (arith, s .pre .0 .grid .begun), s .pre .1 .1))
 
 pub seek-spec : {M : Type 1} → statement M
-seek-spec = tie.close (tie.spec (λ c κs. search needs) on-requires (λ c. search needs) on-requires-2 (λ c. search needs))
+seek-spec =
+    tie.close
+    (tie.spec
+    (λ c κs. search needs)
+    on-requires
+    (λ c. search needs)
+    on-requires-2
+    (λ c. search needs))

@@ -12,4 +12,10 @@ returns c = search (picks, not-true, not-false) depth 6
 pub after-sizes-spec : {M : Type 1} → statement M
 after-sizes-spec =
     tie.close
-    (tie.spec (λ c κs. search needs) returns (λ c. search needs) (λ c κs. search needs) (λ c κs. search needs) (λ c. search (needs, sized-told)))
+    (tie.spec
+    (λ c κs. search needs)
+    returns
+    (λ c. search needs)
+    (λ c κs. search needs)
+    (λ c κs. search needs)
+    (λ c. search (needs, sized-told)))

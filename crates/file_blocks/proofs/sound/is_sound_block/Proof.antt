@@ -7,4 +7,10 @@ use Rattle.file_blocks.proofs.sound.is_sound_block.Tie as tie
 
 pub is-sound-block-spec : {M : Type 1} → statement M
 is-sound-block-spec =
-    tie.close (tie.spec (λ c. search needs) (λ c κs. search block-in) (λ c κs. search needs) (λ c. search form-decides) (λ c. search check-decides))
+    tie.close
+    (tie.spec
+    (λ c. search needs)
+    (λ c κs. search block-in)
+    (λ c κs. search needs)
+    (λ c. search form-decides)
+    (λ c. search check-decides))

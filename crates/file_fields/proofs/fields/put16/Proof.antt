@@ -9,4 +9,11 @@ use Rattle.file_fields.proofs.fields.put16.Tie as tie
 pub put16-spec : {M : Type 1} → statement M
 put16-spec =
     tie.close
-    (tie.spec (λ c. search needs) (λ c. search needs) (λ c. search needs) (λ c. search needs) (λ c. simp length-set (omega arith)) (λ c. search needs) (λ c. put-two _ _ _ (search needs)))
+    (tie.spec
+    (λ c. search needs)
+    (λ c. search needs)
+    (λ c. search needs)
+    (λ c. search needs)
+    (λ c. simp length-set (omega arith))
+    (λ c. search needs)
+    (λ c. put-two _ _ _ (search needs)))

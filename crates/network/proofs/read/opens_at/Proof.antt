@@ -5,4 +5,9 @@ use Rattle.network.proofs.read.opens_at.Statement.{statement}
 use Rattle.network.proofs.read.opens_at.Tie as tie
 
 pub opens-at-spec : {M : Type 1} → statement M
-opens-at-spec = tie.close (tie.spec (λ c. (search reads, search needs)) (λ c κs. (search reads, search needs)) (λ c. (search reads, search needs)))
+opens-at-spec =
+    tie.close
+    (tie.spec
+    (λ c. (search reads, search needs))
+    (λ c κs. (search reads, search needs))
+    (λ c. (search reads, search needs)))

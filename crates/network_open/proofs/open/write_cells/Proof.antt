@@ -7,4 +7,10 @@ use Rattle.network_open.proofs.open.write_cells.Tie as tie
 
 pub write-cells-spec : {M : Type 1} → statement M
 write-cells-spec =
-    tie.close (tie.spec (λ c κs. search needs) (λ c κs. search needs) (λ c κs. (search nodes-stored-by, search needs)) (λ c. search needs) (λ c. search table-writes))
+    tie.close
+    (tie.spec
+    (λ c κs. search needs)
+    (λ c κs. search needs)
+    (λ c κs. (search nodes-stored-by, search needs))
+    (λ c. search needs)
+    (λ c. search table-writes))

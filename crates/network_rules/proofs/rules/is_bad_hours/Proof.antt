@@ -6,4 +6,9 @@ use Rattle.network_rules.proofs.rules.is_bad_hours.Tie as tie
 
 pub is-bad-hours-spec : {M : Type 1} → statement M
 is-bad-hours-spec =
-    tie.close (tie.spec (λ c κs. search needs) (λ c κs. search needs) (λ c κs. search needs) (λ c. search judges))
+    tie.close
+    (tie.spec
+    (λ c κs. search needs)
+    (λ c κs. search needs)
+    (λ c κs. search needs)
+    (λ c. search judges))

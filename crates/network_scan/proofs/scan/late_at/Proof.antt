@@ -22,4 +22,12 @@ unfolding lateAt
 returns-4 c = search picks depth 6
 
 pub late-at-spec : {M : Type 1} → statement M
-late-at-spec = tie.close (tie.spec returns (λ c. search needs) returns-2 (λ c. search needs) returns-3 returns-4)
+late-at-spec =
+    tie.close
+    (tie.spec
+    returns
+    (λ c. search needs)
+    returns-2
+    (λ c. search needs)
+    returns-3
+    returns-4)

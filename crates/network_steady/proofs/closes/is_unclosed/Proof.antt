@@ -27,4 +27,12 @@ returns-5 c = search picks depth 8
 
 pub is-unclosed-spec : {M : Type 1} → statement M
 is-unclosed-spec =
-    tie.close (tie.spec returns returns-2 returns-3 returns-4 (λ c. search needs) (λ c. search needs) returns-5)
+    tie.close
+    (tie.spec
+    returns
+    returns-2
+    returns-3
+    returns-4
+    (λ c. search needs)
+    (λ c. search needs)
+    returns-5)

@@ -8,4 +8,11 @@ use Rattle.network_steady.proofs.steady.is_steady.Tie as tie
 
 pub is-steady-spec : {M : Type 1} → statement M
 is-steady-spec =
-    tie.close (tie.spec (λ c κs. search needs) (λ c. search needs) (λ c. omega (arith, laid-small (c .before .before .before .pre .0))) (λ c. search steadies) (λ c κs. search needs) (λ c. search steadies))
+    tie.close
+    (tie.spec
+    (λ c κs. search needs)
+    (λ c. search needs)
+    (λ c. omega (arith, laid-small (c .before .before .before .pre .0)))
+    (λ c. search steadies)
+    (λ c κs. search needs)
+    (λ c. search steadies))

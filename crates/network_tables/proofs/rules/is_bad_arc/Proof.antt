@@ -6,4 +6,10 @@ use Rattle.network_tables.proofs.rules.is_bad_arc.Tie as tie
 
 pub is-bad-arc-spec : {M : Type 1} → statement M
 is-bad-arc-spec =
-    tie.close (tie.spec (λ c κs. search needs) (λ c κs. search needs) (λ c κs. search needs) (λ c κs. search needs) (λ c. search reads))
+    tie.close
+    (tie.spec
+    (λ c κs. search needs)
+    (λ c κs. search needs)
+    (λ c κs. search needs)
+    (λ c κs. search needs)
+    (λ c. search reads))

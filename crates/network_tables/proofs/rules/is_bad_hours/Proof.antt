@@ -5,4 +5,10 @@ use Rattle.network_tables.proofs.rules.is_bad_hours.Statement.{statemen
 use Rattle.network_tables.proofs.rules.is_bad_hours.Tie as tie
 
 pub is-bad-hours-spec : {M : Type 1} → statement M
-is-bad-hours-spec = tie.close (tie.spec (λ c κs. search needs) (λ c κs. search needs) (λ c κs. search needs) (λ c. search reads))
+is-bad-hours-spec =
+    tie.close
+    (tie.spec
+    (λ c κs. search needs)
+    (λ c κs. search needs)
+    (λ c κs. search needs)
+    (λ c. search reads))

@@ -16,4 +16,12 @@ returns-5 c = λ e. record {
 
 pub is-closed-spec : {M : Type 1} → statement M
 is-closed-spec =
-    tie.close (tie.spec (λ c. not-closed _ _ _ _ _) (λ c. not-closed _ _ _ _ _) (λ c. not-closed _ _ _ _ _) (λ c. not-closed _ _ _ _ _) (λ c. search needs) (λ c. search needs) returns-5)
+    tie.close
+    (tie.spec
+    (λ c. not-closed _ _ _ _ _)
+    (λ c. not-closed _ _ _ _ _)
+    (λ c. not-closed _ _ _ _ _)
+    (λ c. not-closed _ _ _ _ _)
+    (λ c. search needs)
+    (λ c. search needs)
+    returns-5)

@@ -12,4 +12,10 @@ mul-if1 c = omega (arith, blocks-few _ _ (c .before .before .before .pre .0) (c 
 pub validate-length-spec : {M : Type 1} → statement M
 validate-length-spec =
     tie.close
-    (tie.spec (λ c κs. search needs) mul-if1 (λ c κs. search needs) (λ c. search length-taken) (λ c κs. (search now-laid, search needs)) (λ c. search length-passed))
+    (tie.spec
+    (λ c κs. search needs)
+    mul-if1
+    (λ c κs. search needs)
+    (λ c. search length-taken)
+    (λ c κs. (search now-laid, search needs))
+    (λ c. search length-passed))

@@ -5,4 +5,11 @@ use Rattle.network_validate.proofs.validate.validate_rules.Statement.{s
 use Rattle.network_validate.proofs.validate.validate_rules.Tie as tie
 
 pub validate-rules-spec : {M : Type 1} → statement M
-validate-rules-spec = tie.close (tie.spec (λ c κs. search needs) (λ c. search needs) (λ c. search needs) (λ c. search rules-sound) (λ c. search rules-faulty))
+validate-rules-spec =
+    tie.close
+    (tie.spec
+    (λ c κs. search needs)
+    (λ c. search needs)
+    (λ c. search needs)
+    (λ c. search rules-sound)
+    (λ c. search rules-faulty))

@@ -20,4 +20,12 @@ returns c = let i = c .before .loop .inv in let q = laid-sizes (c .before .befor
 pub mark-heads-spec : {M : Type 1} → statement M
 mark-heads-spec =
     tie.close
-    (tie.spec Inv-loop μ-loop (λ c. (search needs, search needs, search needs)) (λ c κs. search needs) (λ c. search needs) (λ c. search needs) (λ c. (search needs, search needs, search needs)) returns)
+    (tie.spec
+    Inv-loop
+    μ-loop
+    (λ c. (search needs, search needs, search needs))
+    (λ c κs. search needs)
+    (λ c. search needs)
+    (λ c. search needs)
+    (λ c. (search needs, search needs, search needs))
+    returns)

@@ -7,4 +7,8 @@ use Rattle.plan.proofs.flag.alone.Statement.{statement}
 use Rattle.plan.proofs.flag.alone.Tie as tie
 
 pub alone-spec : {M : Type 1} → statement M
-alone-spec = tie.close (tie.spec (λ c. search needs) (λ c. shl-exact 1 (c .args .c) 64 (omega arith) (omega arith) ∙ one-mul _))
+alone-spec =
+    tie.close
+    (tie.spec
+    (λ c. search needs)
+    (λ c. shl-exact 1 (c .args .c) 64 (omega arith) (omega arith) ∙ one-mul _))

@@ -14,4 +14,9 @@ returns c =
     (rw add-zero (rw (c .before .offset .ensures) at (c .le64 .ensures)))
 
 pub flag-word-spec : {M : Type 1} → statement M
-flag-word-spec = tie.close (tie.spec offset-requires (λ c κs. omega (arith, flag-in (c .before .before .pre .0) (c .before .before .pre .1))) returns)
+flag-word-spec =
+    tie.close
+    (tie.spec
+    offset-requires
+    (λ c κs. omega (arith, flag-in (c .before .before .pre .0) (c .before .before .pre .1)))
+    returns)

@@ -17,4 +17,10 @@ returns c =
     (rw (c .before .offset .ensures) at (c .le32 .ensures))
 
 pub travel-spec : {M : Type 1} → statement M
-travel-spec = tie.close (tie.spec offset-requires (λ c. omega (arith, point-in (c .before .before .pre .0) (c .before .before .pre .1))) le32-requires returns)
+travel-spec =
+    tie.close
+    (tie.spec
+    offset-requires
+    (λ c. omega (arith, point-in (c .before .before .pre .0) (c .before .before .pre .1)))
+    le32-requires
+    returns)

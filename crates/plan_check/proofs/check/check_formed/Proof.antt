@@ -7,4 +7,9 @@ use Rattle.plan_check.proofs.check.check_formed.Tie as tie
 pub check-formed-spec : {M : Type 1} → statement M
 check-formed-spec =
     tie.close
-    (tie.spec (λ c κs. search needs) (λ c κs. search checks) (λ c κs. (search checks, (search checks, search needs))) (λ c κs. (search checks, search checks)) (λ c. search needs))
+    (tie.spec
+    (λ c κs. search needs)
+    (λ c κs. search checks)
+    (λ c κs. (search checks, (search checks, search needs)))
+    (λ c κs. (search checks, search checks))
+    (λ c. search needs))

@@ -13,5 +13,11 @@ returns c =
 pub check-plan-spec : {M : Type 1} → statement M
 check-plan-spec =
     tie.close
-    (tie.spec (λ c κs. search needs) (λ c. search needs) (λ c κs. search needs) (λ c. search needs) (λ c κs. search checks) returns
+    (tie.spec
+    (λ c κs. search needs)
+    (λ c. search needs)
+    (λ c κs. search needs)
+    (λ c. search needs)
+    (λ c κs. search checks)
+    returns
     (λ c. search checks))

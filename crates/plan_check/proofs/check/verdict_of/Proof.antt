@@ -16,4 +16,11 @@ cast-t5 c = omega (
 )
 
 pub verdict-of-spec : {M : Type 1} → statement M
-verdict-of-spec = tie.close (tie.spec (λ c. omega (arith, c .before .before .before .pre (c .before .if1 .taken) .0)) cast-t4 cast-t5 (λ c. verdict-refused _ (c .before .before .before .if1 .taken)) (λ c. verdict-accepted _ (c .if1 .left)))
+verdict-of-spec =
+    tie.close
+    (tie.spec
+    (λ c. omega (arith, c .before .before .before .pre (c .before .if1 .taken) .0))
+    cast-t4
+    cast-t5
+    (λ c. verdict-refused _ (c .before .before .before .if1 .taken))
+    (λ c. verdict-accepted _ (c .if1 .left)))

@@ -11,4 +11,10 @@ put16-requires c κs = omega
     (arith, count-fits (c .before .before .before .pre .0) (c .before .before .before .pre .1))
 
 pub put-count-spec : {M : Type 1} → statement M
-put-count-spec = tie.close (tie.spec (λ c κs. search needs) put16-requires (λ c. search needs) (λ c. search put-at))
+put-count-spec =
+    tie.close
+    (tie.spec
+    (λ c κs. search needs)
+    put16-requires
+    (λ c. search needs)
+    (λ c. search put-at))

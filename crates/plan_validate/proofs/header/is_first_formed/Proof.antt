@@ -6,4 +6,10 @@ use Rattle.plan_validate.proofs.header.is_first_formed.Statement.{state
 use Rattle.plan_validate.proofs.header.is_first_formed.Tie as tie
 
 pub is-first-formed-spec : {M : Type 1} → statement M
-is-first-formed-spec = tie.close (tie.spec (λ c κs. search needs) (λ c κs. search needs) (λ c. search bits-decide) (λ c. search form-decides))
+is-first-formed-spec =
+    tie.close
+    (tie.spec
+    (λ c κs. search needs)
+    (λ c κs. search needs)
+    (λ c. search bits-decide)
+    (λ c. search form-decides))

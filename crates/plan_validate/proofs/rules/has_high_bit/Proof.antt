@@ -6,4 +6,9 @@ use Rattle.plan_validate.proofs.rules.has_high_bit.Statement.{statement
 use Rattle.plan_validate.proofs.rules.has_high_bit.Tie as tie
 
 pub has-high-bit-spec : {M : Type 1} → statement M
-has-high-bit-spec = tie.close (tie.spec (λ c. no-high _ _ (c .if1 .taken) (c .before .pre) (c .before .fits .word .fits)) (λ c. search needs) (λ c. high-shift (c .before .args .cells) (c .before .args .word)))
+has-high-bit-spec =
+    tie.close
+    (tie.spec
+    (λ c. no-high _ _ (c .if1 .taken) (c .before .pre) (c .before .fits .word .fits))
+    (λ c. search needs)
+    (λ c. high-shift (c .before .args .cells) (c .before .args .word)))

@@ -6,4 +6,9 @@ use Rattle.plan_validate.proofs.rules.is_bad_word.Statement.{statement}
 use Rattle.plan_validate.proofs.rules.is_bad_word.Tie as tie
 
 pub is-bad-word-spec : {M : Type 1} → statement M
-is-bad-word-spec = tie.close (tie.spec (λ c κs. search needs) (λ c κs. plan-small (c .before .before .pre .0) .cells-most) (λ c. rw (c .before .flag-word .ensures) at (c .has-high-bit .ensures)))
+is-bad-word-spec =
+    tie.close
+    (tie.spec
+    (λ c κs. search needs)
+    (λ c κs. plan-small (c .before .before .pre .0) .cells-most)
+    (λ c. rw (c .before .flag-word .ensures) at (c .has-high-bit .ensures)))

@@ -6,4 +6,11 @@ use Rattle.plan_validate.proofs.rules.scan_on.Statement.{statement}
 use Rattle.plan_validate.proofs.rules.scan_on.Tie as tie
 
 pub scan-on-spec : {M : Type 1} → statement M
-scan-on-spec = tie.close (tie.spec (λ c. search goings) (λ c. search needs) (λ c. search goings) (λ c κs. (search needs, (search needs, search goings))) (λ c. search goings))
+scan-on-spec =
+    tie.close
+    (tie.spec
+    (λ c. search goings)
+    (λ c. search needs)
+    (λ c. search goings)
+    (λ c κs. (search needs, (search needs, search goings)))
+    (λ c. search goings))

@@ -6,4 +6,9 @@ use Rattle.run_sheet.proofs.input.say.Statement.{statement}
 use Rattle.run_sheet.proofs.input.say.Tie as tie
 
 pub say-spec : {M : Type 1} → statement M
-say-spec = tie.close (tie.spec (λ c. sym (length-take-le _ _ (c .before .before .pre))) (λ c κs. search needs) (λ c. search needs))
+say-spec =
+    tie.close
+    (tie.spec
+    (λ c. sym (length-take-le _ _ (c .before .before .pre)))
+    (λ c κs. search needs)
+    (λ c. search needs))

@@ -18,4 +18,10 @@ settle-all-requires c κs =
 
 pub reach-spec : {M : Type 1} → statement M
 reach-spec =
-    tie.close (tie.spec (λ c κs. (search needs, (search fresh-tables, search needs, search needs))) (λ c κs. search needs) settle-all-requires (λ c. search needs) (λ c. c .before .before .settle-all .ensures))
+    tie.close
+    (tie.spec
+    (λ c κs. (search needs, (search fresh-tables, search needs, search needs)))
+    (λ c κs. search needs)
+    settle-all-requires
+    (λ c. search needs)
+    (λ c. c .before .before .settle-all .ensures))

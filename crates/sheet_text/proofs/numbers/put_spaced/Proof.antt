@@ -9,4 +9,10 @@ use Rattle.sheet_text.proofs.numbers.put_spaced.Tie as tie
 
 pub put-spaced-spec : {M : Type 1} → statement M
 put-spaced-spec =
-    tie.close (tie.spec (λ c. search needs) (λ c. search needs) (λ c κs. simp length-set (omega arith)) (λ c. c .before .before .put-decimal .kept .0 ∙ simp length-set) (λ c. search stored-space))
+    tie.close
+    (tie.spec
+    (λ c. search needs)
+    (λ c. search needs)
+    (λ c κs. simp length-set (omega arith))
+    (λ c. c .before .before .put-decimal .kept .0 ∙ simp length-set)
+    (λ c. search stored-space))

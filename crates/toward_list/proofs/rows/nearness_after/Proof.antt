@@ -4,4 +4,10 @@ use Rattle.toward_list.proofs.rows.nearness_after.Statement.{statement}
 use Rattle.toward_list.proofs.rows.nearness_after.Tie as tie
 
 pub nearness-after-spec : {M : Type 1} → statement M
-nearness-after-spec = tie.close (tie.spec (λ c. search needs) (λ c. c .before .before .pre .1 .3 .holds (c .if1 .taken)) (λ c κs. search needs) (λ c. search needs))
+nearness-after-spec =
+    tie.close
+    (tie.spec
+    (λ c. search needs)
+    (λ c. c .before .before .pre .1 .3 .holds (c .if1 .taken))
+    (λ c κs. search needs)
+    (λ c. search needs))

@@ -12,4 +12,9 @@ search-requires c κs = let z = drive-sizes _ _ (c .before .before .layout .ensu
 pub drive-spec : {M : Type 1} → statement M
 drive-spec =
     tie.close
-    (tie.spec (λ c κs. search needs) search-requires (λ c. search needs) (λ c. search needs) (λ c. search driven-call))
+    (tie.spec
+    (λ c κs. search needs)
+    search-requires
+    (λ c. search needs)
+    (λ c. search needs)
+    (λ c. search driven-call))

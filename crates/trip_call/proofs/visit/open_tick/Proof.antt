@@ -13,4 +13,10 @@ open-after-requires c κs =
 pub open-tick-spec : {M : Type 1} → statement M
 open-tick-spec =
     tie.close
-    (tie.spec (λ c. search needs) (λ c κs. search needs) open-after-requires (λ c. search needs) (λ c. search visits) (λ c. search needs))
+    (tie.spec
+    (λ c. search needs)
+    (λ c κs. search needs)
+    open-after-requires
+    (λ c. search needs)
+    (λ c. search visits)
+    (λ c. search needs))

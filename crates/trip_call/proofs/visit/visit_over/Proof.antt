@@ -13,4 +13,10 @@ open-tick-requires c κs =
 
 pub visit-over-spec : {M : Type 1} → statement M
 visit-over-spec =
-    tie.close (tie.spec (λ c κs. search needs) open-tick-requires (λ c. search needs) (λ c. search needs) (λ c. search needs))
+    tie.close
+    (tie.spec
+    (λ c κs. search needs)
+    open-tick-requires
+    (λ c. search needs)
+    (λ c. search needs)
+    (λ c. search needs))

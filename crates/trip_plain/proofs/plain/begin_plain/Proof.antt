@@ -6,4 +6,11 @@ use Rattle.trip_plain.proofs.plain.begin_plain.Tie as tie
 
 pub begin-plain-spec : {M : Type 1} → statement M
 begin-plain-spec =
-    tie.close (tie.spec (λ c κs. search needs) (λ c. search needs) (λ c. search needs) (λ c κs. search needs) (λ c. search then-refused) (λ c. search then-opened))
+    tie.close
+    (tie.spec
+    (λ c κs. search needs)
+    (λ c. search needs)
+    (λ c. search needs)
+    (λ c κs. search needs)
+    (λ c. search then-refused)
+    (λ c. search then-opened))

@@ -7,4 +7,10 @@ use Rattle.varnwalnut.proofs.desk.varnwalnut_check_plan.Tie as tie
 
 pub varnwalnut-check-plan-spec : {M : Type 1} → statement M
 varnwalnut-check-plan-spec =
-    tie.close (tie.spec (λ c. check-short _ _ _ _ (c .if1 .taken) refl) (λ c κs. search needs) (λ c κs. search needs) (λ c. search needs) (λ c. search check-written))
+    tie.close
+    (tie.spec
+    (λ c. check-short _ _ _ _ (c .if1 .taken) refl)
+    (λ c κs. search needs)
+    (λ c κs. search needs)
+    (λ c. search needs)
+    (λ c. search check-written))

@@ -27,4 +27,14 @@ unfolding stepped
 returns-2 c = search picks
 
 pub next-spec : {M : Type 1} → statement M
-next-spec = tie.close (tie.spec add-t5 (λ c. search needs) returns add-t7 (λ c. search needs) (λ c. search needs) add-t10 returns-2)
+next-spec =
+    tie.close
+    (tie.spec
+    add-t5
+    (λ c. search needs)
+    returns
+    add-t7
+    (λ c. search needs)
+    (λ c. search needs)
+    add-t10
+    returns-2)

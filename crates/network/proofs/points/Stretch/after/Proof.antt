@@ -13,4 +13,13 @@ add-t9 c =
 
 pub after-spec : {M : Type 1} → statement M
 after-spec =
-    tie.close (tie.spec (λ c. search needs) (λ c. search needs) (λ c. search needs) add-t9 (λ c. search needs) (λ c. search (sides, needs)) (λ c κs. search needs) (λ c. search needs))
+    tie.close
+    (tie.spec
+    (λ c. search needs)
+    (λ c. search needs)
+    (λ c. search needs)
+    add-t9
+    (λ c. search needs)
+    (λ c. search (sides, needs))
+    (λ c κs. search needs)
+    (λ c. search needs))

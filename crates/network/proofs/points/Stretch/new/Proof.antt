@@ -6,4 +6,9 @@ use Rattle.network.proofs.points.Stretch.new.Statement.{statement}
 use Rattle.network.proofs.points.Stretch.new.Tie as tie
 
 pub new-spec : {M : Type 1} → statement M
-new-spec = tie.close (tie.spec (λ c κs. let p = c .before .pre in omega (arith, point-in (p .0) (p .1))) (λ c. search needs) (λ c. search needs))
+new-spec =
+    tie.close
+    (tie.spec
+    (λ c κs. let p = c .before .pre in omega (arith, point-in (p .0) (p .1)))
+    (λ c. search needs)
+    (λ c. search needs))

@@ -12,4 +12,11 @@ add-t7 : tie.Need-add-t7
 add-t7 c = let p = c .before .before .before .pre in omega (arith, behind-in (p .0) (p .1 .0) (p .1 .1))
 
 pub next-spec : {M : Type 1} → statement M
-next-spec = tie.close (tie.spec (λ c. search needs) (λ c. search needs) add-t6 add-t7 (λ c. search (sides, needs)))
+next-spec =
+    tie.close
+    (tie.spec
+    (λ c. search needs)
+    (λ c. search needs)
+    add-t6
+    add-t7
+    (λ c. search (sides, needs)))

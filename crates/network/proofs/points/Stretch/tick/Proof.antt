@@ -16,4 +16,11 @@ le16-requires c κs =
     omega (arith, side-in (p .0) (p .1 .0) _ (p .1 .1) (p .1 .2))
 
 pub tick-spec : {M : Type 1} → statement M
-tick-spec = tie.close (tie.spec (λ c. search needs) add-le16 le16-requires (λ c. search needs) (λ c. (search sides, search needs)))
+tick-spec =
+    tie.close
+    (tie.spec
+    (λ c. search needs)
+    add-le16
+    le16-requires
+    (λ c. search needs)
+    (λ c. (search sides, search needs)))

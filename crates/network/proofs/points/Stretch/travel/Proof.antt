@@ -21,4 +21,12 @@ le16-requires c κs =
     omega (arith, side-in (p .0) (p .1 .0) _ (p .1 .1) (p .1 .2))
 
 pub travel-spec : {M : Type 1} → statement M
-travel-spec = tie.close (tie.spec (λ c. search needs) add-le16 add-le16-2 le16-requires (λ c. search needs) (λ c. (search sides, search needs)))
+travel-spec =
+    tie.close
+    (tie.spec
+    (λ c. search needs)
+    add-le16
+    add-le16-2
+    le16-requires
+    (λ c. search needs)
+    (λ c. (search sides, search needs)))
