@@ -8,7 +8,7 @@ use native.Mathlib.{Nat.add-zero, Nat.zero-add, Omega.arith}
 use lib.{ListN.getD, ListN.drop, Seq.getD-drop, Seq.drop-drop, Dec.eqb}
 use borrow.Author.Tests.{eqb-true, eq-eqb}
 use Rattle.file_fields.specs.{Fields.le16, Fields.le32, Sum.sums, Sum.summedPart, Sum.good}
-use Rattle.file_blocks.specs.Form.{zeros, formed, zeros-each, zeros-all}
+use Rattle.file_forms.specs.Form.{zeros, formed, zeros-each, zeros-all}
 use Rattle.file_fields.specs.declared.sum.Sums.{Sums}
 
 -- THE CHECK

@@ -12,7 +12,8 @@ use Rattle.theory_paths.specs.{Graph.all, Graph.ends, Labels.relaxed, Labels.ro
 use Rattle.theory_paths.specs.Chosen.{lowest, back, traced, chosen}
 use Rattle.theory_travel.specs.{Line.line, Points.segment, Points.value, Day.closed, Day.dayValue}
 use Rattle.theory_travel.specs.{Table.entryAt, Ticks.badTick}
-use Rattle.file_blocks.specs.{Place.offset, Form.badLength}
+use Rattle.file_blocks.specs.Place.{offset}
+use Rattle.file_forms.specs.Form.{badLength}
 use Rattle.network.specs.declared.answer.Opening.{Opening}
 use Rattle.network.specs.declared.answer.Opening.the-variants as opening
 use Rattle.network.specs.declared.header.Header.{Header}

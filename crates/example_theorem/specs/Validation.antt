@@ -6,7 +6,8 @@ use Prim.Native.Nat.{ℕ, _+_, _*_, _/_}
 use lib.{ListN.length, Dec.ltb, Dec.eqb}
 use Rattle.theory_loops.specs.Pick.{firstRung}
 use Rattle.file_fields.specs.{Fields.le16, Sum.good}
-use Rattle.file_blocks.specs.{Place.blocks, Place.entriesIn, Form.formed, Form.unformedOr, Form.badLength}
+use Rattle.file_blocks.specs.Place.{blocks, entriesIn}
+use Rattle.file_forms.specs.Form.{formed, unformedOr, badLength}
 use Rattle.network.specs.declared.answer.Opening.{Opening}
 use Rattle.network.specs.declared.header.{Header.Header, Made.Made}
 use Rattle.network.specs.declared.header.Made.the-variants.{Inside, Outside}

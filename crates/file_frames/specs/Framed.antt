@@ -9,7 +9,7 @@ use borrow.Author.Tests.{lt-ltb, le-ltb}
 use Rattle.theory_loops.specs.Fill.{Filled, fill-within, fill-join}
 use Rattle.file_fields.specs.Block.{blockSize, summedSize, headSize, entriesSize}
 use Rattle.file_blocks.specs.Place.{blocks, entriesIn, block-used}
-use Rattle.file_blocks.specs.{Run.headByte, Run.entryByte, Run.runBody, Write.headed, Write.headed-filled}
+use Rattle.file_write.specs.{Run.headByte, Run.entryByte, Run.runBody, Write.headed, Write.headed-filled}
 use Rattle.file_frames.specs.Laid.{BodyLaid, none}
 
 -- a run of n entries from block `from` on, whose frames a list of `room` bytes has room for

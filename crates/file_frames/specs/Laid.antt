@@ -9,7 +9,8 @@ use Rattle.theory_loops.specs.Fill.{Filled}
 use Rattle.file_fields.specs.Block.{blockSize, summedSize, headSize, entriesSize}
 use Rattle.file_fields.specs.{Fields.byteOf, Put.put, Put.put-filled}
 use Rattle.file_blocks.specs.Place.{offset, blocks, entriesIn, index-in, index-block, index-entry}
-use Rattle.file_blocks.specs.{Place.block-below, Run.entryByte, Run.runBody, RunLaws.entry-byte}
+use Rattle.file_blocks.specs.Place.{block-below}
+use Rattle.file_write.specs.{Run.entryByte, Run.runBody, RunLaws.entry-byte}
 
 -- the first n blocks of a list have the body's bytes, what stands in their checks is anything, and the rest
 -- is old

@@ -8,7 +8,8 @@ use lib.{ListN.length, Dec.ltb, Dec.lit<}
 use borrow.Author.Tests.{lt-ltb, le-ltb}
 use Rattle.theory_loops.specs.Fill.{overwritten}
 use Rattle.file_fields.specs.{Block.blockSize, Block.headSize, Block.entriesSize, Fields.byteOf, Put.put}
-use Rattle.file_blocks.specs.{Bytes.fileOf, Place.offset, Place.blocks, Run.runBody, RunLaws.same-body}
+use Rattle.file_write.specs.{Bytes.fileOf, Run.runBody, RunLaws.same-body}
+use Rattle.file_blocks.specs.Place.{offset, blocks}
 use Rattle.file_frames.specs.Laid.{BodyLaid, laid-start, laid-same, upTo, none, upTo-none, upTo-below}
 use Rattle.file_frames.specs.{Laid.entry-laid, Framed.Framed, Framed.run-framed}
 use Rattle.file_frames.specs.Sealed.{sealedTo, laid-sealed}

@@ -6,8 +6,8 @@ use native.Mathlib.Omega.{arith}
 use lib.ListN.{length, getD}
 use Rattle.theory_loops.specs.Fill.{Filled, fill-none, fill-join, filled-list, length-tab, overwritten}
 use Rattle.file_fields.specs.Block.{blockSize, summedSize}
-use Rattle.file_blocks.specs.Bytes.{fileByte, fileOf, fileByte-at, stored-body}
-use Rattle.file_blocks.specs.Write.{sealed, sealed-block}
+use Rattle.file_write.specs.Bytes.{fileByte, fileOf, fileByte-at, stored-body}
+use Rattle.file_write.specs.Write.{sealed, sealed-block}
 use Rattle.file_frames.specs.Laid.{BodyLaid}
 
 -- the checks of the first n blocks

@@ -4,7 +4,8 @@ use Prim.Native.Nat.{ℕ, _+_, _*_, _≤_}
 use native.Mathlib.Omega.{arith}
 use lib.{ListN.length, Dec.eqb, Dec.ltb}
 use Rattle.theory_loops.specs.Pick.{cond-holds, rung-holds}
-use Rattle.file_blocks.specs.{Form.formed, Form.badLength, Kind.networkKind, Kind.networkSize}
+use Rattle.file_forms.specs.Form.{formed, badLength}
+use Rattle.file_blocks.specs.Kind.{networkKind, networkSize}
 use Rattle.file_refusals.specs.declared.{Refusal.Refusal, Judged.Judged}
 use Rattle.file_refusals.specs.declared.Judged.the-variants.{Sound, Faulty}
 use Rattle.network.specs.declared.answer.Opening.{Opening}

@@ -8,9 +8,10 @@ use native.Mathlib.Omega.{arith}
 use lib.{ListN.length, Dec.ltb, Dec.eqb}
 use borrow.Author.Tests.{ltb-false, eqb-true, not-false, le-ltb, eq-eqb}
 use Rattle.theory_loops.specs.Pick.{firstRung, passed-by, reached-by, rung-passed, rung-clear}
-use Rattle.file_blocks.specs.{Laid.laid-by, Read.bad, Kind.pointPer}
+use Rattle.file_blocks.specs.{Laid.laid-by, Kind.pointPer}
+use Rattle.file_forms.specs.Read.{bad}
 use Rattle.file_fields.specs.{Sum.good, Block.blockSize, Block.headSize}
-use Rattle.file_blocks.specs.Form.{formed, RunFormed, badLength, formed-past, past-formed, fine-length}
+use Rattle.file_forms.specs.Form.{formed, RunFormed, badLength, formed-past, past-formed, fine-length}
 use Rattle.file_refusals.specs.declared.Judged.{Judged}
 use Rattle.file_refusals.specs.declared.Judged.the-variants.{Sound, Faulty}
 use Rattle.network.specs.declared.answer.Opening.the-variants.{Opened}

@@ -8,8 +8,9 @@ use lib.{ListN.length, Dec.ltb, Dec.eqb}
 use borrow.Author.Tests.{lt-ltb, le-ltb, eq-eqb, ne-eqb}
 use Rattle.theory_loops.specs.Pick.{firstRung}
 use Rattle.file_fields.specs.{Fields.le8, Fields.le16, Fields.le32, Block.blockSize, Block.headSize}
-use Rattle.file_blocks.specs.{Place.blocks, Laid.laid-by, Read.bad, Kind.pointPer}
-use Rattle.file_blocks.specs.Form.{formed, unformedOr, badLength, run-taken, run-passed, run-last}
+use Rattle.file_blocks.specs.{Place.blocks, Laid.laid-by, Kind.pointPer}
+use Rattle.file_forms.specs.Read.{bad}
+use Rattle.file_forms.specs.Form.{formed, unformedOr, badLength, run-taken, run-passed, run-last}
 use Rattle.file_refusals.specs.declared.{Refusal.Refusal, Judged.Judged}
 use Rattle.file_refusals.specs.declared.Judged.the-variants.{Sound, Faulty}
 use Rattle.network.specs.declared.answer.Opening.{Opening}

@@ -6,9 +6,10 @@ use native.Mathlib.{Nat.div-lt-iff-lt-mul, Nat.mul-comm, Omega.arith}
 use lib.{ListN.length, Seq.ext-getD}
 use borrow.Author.Tests.{lt-ltb, le-ltb}
 use Rattle.theory_loops.specs.Fill.{Filled, tab, length-tab, getD-tab, fill-within, fill-join}
-use Rattle.file_blocks.specs.{Place.entriesIn, Run.headByte, Run.entryByte, Run.runBody, RunLaws.past-byte}
-use Rattle.file_blocks.specs.Bytes.{stored, fileByte, fileByte-at, stored-body}
-use Rattle.file_blocks.specs.Write.{headed, sealed, headed-filled, sealed-block}
+use Rattle.file_blocks.specs.Place.{entriesIn}
+use Rattle.file_write.specs.{Run.headByte, Run.entryByte, Run.runBody, RunLaws.past-byte}
+use Rattle.file_write.specs.Bytes.{stored, fileByte, fileByte-at, stored-body}
+use Rattle.file_write.specs.Write.{headed, sealed, headed-filled, sealed-block}
 use Rattle.file_fields.specs.Block.{blockSize, summedSize, headSize, entriesSize}
 use Rattle.network_encode.specs.Entries.{partByte}
 

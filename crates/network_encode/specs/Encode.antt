@@ -8,7 +8,8 @@ use lib.{ListN.length, ListN.getD, Dec.ltb, Seq.ext-getD}
 use borrow.Author.Tests.{lt-ltb, le-ltb}
 use Rattle.theory_loops.specs.Fill.{tab, length-tab, getD-tab}
 use Rattle.file_fields.specs.Fields.{byteOf, byteOf-low, byteOf-high}
-use Rattle.file_blocks.specs.{Bytes.fileOf, Run.runBody, Run.headerBody, Kind.pointPer}
+use Rattle.file_write.specs.{Bytes.fileOf, Run.runBody, Run.headerBody}
+use Rattle.file_blocks.specs.Kind.{pointPer}
 use Rattle.network.specs.declared.header.Header.{Header}
 use Rattle.network.specs.{Limits.WithinLimits, Layout.arcBlock, Layout.pointBlock, Layout.allBlocks}
 use Rattle.network.specs.{Network.Network, Network.nodes, Network.arcs, Network.points, Sound.SoundHours}

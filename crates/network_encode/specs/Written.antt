@@ -6,7 +6,8 @@ use Prim.Native.Nat.{ℕ, zero, suc, _+_, _*_, _^_, _≤_, _<_}
 use native.Mathlib.Omega.{arith}
 use lib.{ListN.length, ListN.getD, ListN.take, Seq.getD-take, Seq.length-take-le, Dec.lit<}
 use Rattle.theory_loops.specs.Fill.{Filled, filled-list, length-tab, overwritten, fill-join}
-use Rattle.file_blocks.specs.{Bytes.fileByte, Run.runBody, Run.headerBody, RunLaws.same-body, Place.blocks}
+use Rattle.file_write.specs.{Bytes.fileByte, Run.runBody, Run.headerBody, RunLaws.same-body}
+use Rattle.file_blocks.specs.Place.{blocks}
 use Rattle.file_fields.specs.{Put.put, Put.put-join, Block.blockSize, Block.headSize}
 use Rattle.network.specs.declared.header.{Header.Header, Layout.Layout}
 use Rattle.network.specs.{Limits.WithinLimits, Network.Network, Tables.Tables, Tables.networkOf}

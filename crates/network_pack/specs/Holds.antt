@@ -5,8 +5,9 @@ use Prim.Native.Nat.{ℕ, _+_, _-_, _*_, _≤_, _<_}
 use native.Mathlib.{Omega.arith, Decide.decLt}
 use lib.{ListN.length, ListN.getD, Dec.lit<, Dec.lit≤}
 use Rattle.file_fields.specs.{Fields.Bytes, Sum.good, Block.blockSize, Block.summedSize, Block.entriesSize}
-use Rattle.file_blocks.specs.{Place.blocks, Bytes.file-is, Run.runBody, Run.RunLaid, Kind.pointPer}
-use Rattle.file_blocks.specs.RunLaws.{laid-run, file-run}
+use Rattle.file_blocks.specs.{Place.blocks, Kind.pointPer}
+use Rattle.file_write.specs.{Bytes.file-is, Run.runBody, Run.RunLaid}
+use Rattle.file_write.specs.RunLaws.{laid-run, file-run}
 use Rattle.network.specs.declared.header.Header.{Header}
 use Rattle.network.specs.{Layout.arcBlock, Layout.pointBlock, Layout.allBlocks, Network.Network}
 use Rattle.network.specs.Node.{nodeKind, nodeSize, nodePer, nodeBlocks, NodeFits, node-fits}

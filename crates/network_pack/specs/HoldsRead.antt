@@ -7,8 +7,11 @@ use lib.{ListN.length, ListN.getD, Dec.lit<, Dec.lit≤}
 use Rattle.theory_loops.specs.Fill.{tab, getD-tab}
 use Rattle.file_fields.specs.Fields.{Bytes, le8, le16, le32, number, byteOf, byteOf-number, le16-number}
 use Rattle.file_fields.specs.{Fields.le16-is, Fields.le32-is, Block.headSize, Block.entriesSize}
-use Rattle.file_blocks.specs.{Place.offset, Place.blocks, Form.formed, Form.RunFormed, Run.RunLaid}
-use Rattle.file_blocks.specs.{RunLaws.run-formed, RunLaws.formed-run, RunLaws.run-table, Table.entry16}
+use Rattle.file_blocks.specs.Place.{offset, blocks}
+use Rattle.file_write.specs.Run.{RunLaid}
+use Rattle.file_forms.specs.Form.{formed, RunFormed}
+use Rattle.file_write.specs.RunLaws.{run-formed, formed-run, run-table}
+use Rattle.file_blocks.specs.Table.{entry16}
 use Rattle.network.specs.declared.header.Header.{Header}
 use Rattle.network.specs.{Limits.WithinLimits, Layout.arcBlock, Layout.pointBlock}
 use Rattle.network.specs.Network.{Network, nodes, arcs, points}

@@ -7,7 +7,8 @@ use native.Mathlib.{Omega.arith, Decide.decLt}
 use lib.ListN.{length, List·getD-eq-default}
 use Rattle.theory_loops.specs.Fill.{tab, getD-tab, length-tab}
 use Rattle.file_fields.specs.{Fields.Bytes, Block.blockSize}
-use Rattle.file_blocks.specs.{Place.offset, Bytes.file-good, Table.entry16}
+use Rattle.file_blocks.specs.{Place.offset, Table.entry16}
+use Rattle.file_write.specs.Bytes.{file-good}
 use Rattle.network.specs.declared.answer.Opening.the-variants.{Opened}
 use Rattle.network.specs.declared.header.Header.{Header}
 use Rattle.network.specs.{Layout.arcBlock, Layout.pointBlock, Layout.allBlocks, Network.Network}

@@ -5,7 +5,7 @@ use native.Mathlib.Omega.{arith}
 use lib.{ListN.length, Dec.eqb, Dec.ltb}
 use Rattle.theory_loops.specs.Pick.{cond-holds, rung-holds}
 use Rattle.file_fields.specs.Block.{blockSize}
-use Rattle.file_blocks.specs.Form.{badLength}
+use Rattle.file_forms.specs.Form.{badLength}
 use Rattle.file_refusals.specs.declared.{Refusal.Refusal, Judged.Judged}
 use Rattle.file_refusals.specs.declared.Judged.the-variants.{Sound, Faulty}
 use Rattle.network.specs.declared.header.Header.{Header}

@@ -9,10 +9,11 @@ use lib.{ListN.length, Dec.ltb, Dec.eqb}
 use borrow.Author.Tests.{ltb-false, eqb-true, not-false, le-ltb, eq-eqb}
 use Rattle.theory_loops.specs.Pick.{firstRung, passed-by, reached-by, rung-passed, rung-clear}
 use Rattle.file_fields.specs.{Fields.le16, Sum.good, Block.blockSize}
-use Rattle.file_blocks.specs.{Laid.laid-by, Read.bad}
+use Rattle.file_blocks.specs.Laid.{laid-by}
+use Rattle.file_forms.specs.Read.{bad}
 use Rattle.file_blocks.specs.Kind.{flagKind, flagPer, flagSize, countKind, countPer, countSize}
 use Rattle.file_blocks.specs.Kind.{profilePointKind, profilePointPer, profilePointSize, planKind, planSize}
-use Rattle.file_blocks.specs.Form.{formed, RunFormed, badLength, formed-past, past-formed, fine-length}
+use Rattle.file_forms.specs.Form.{formed, RunFormed, badLength, formed-past, past-formed, fine-length}
 use Rattle.file_refusals.specs.declared.Judged.{Judged}
 use Rattle.file_refusals.specs.declared.Judged.the-variants.{Sound, Faulty}
 use Rattle.network.specs.declared.header.Header.{Header}

@@ -11,8 +11,9 @@ use Rattle.theory_loops.specs.Pick.{firstRung}
 use Rattle.file_fields.specs.{Fields.le16, Block.blockSize}
 use Rattle.file_blocks.specs.Kind.{flagKind, flagPer, flagSize, countKind, countPer, countSize}
 use Rattle.file_blocks.specs.Kind.{profilePointKind, profilePointPer, profilePointSize, planKind, planSize}
-use Rattle.file_blocks.specs.{Place.blocks, Laid.laid-by, Read.bad}
-use Rattle.file_blocks.specs.Form.{formed, unformedOr, badLength, run-taken, run-passed, run-last}
+use Rattle.file_blocks.specs.{Place.blocks, Laid.laid-by}
+use Rattle.file_forms.specs.Read.{bad}
+use Rattle.file_forms.specs.Form.{formed, unformedOr, badLength, run-taken, run-passed, run-last}
 use Rattle.file_refusals.specs.declared.{Refusal.Refusal, Judged.Judged}
 use Rattle.file_refusals.specs.declared.Judged.the-variants.{Sound, Faulty}
 use Rattle.network.specs.declared.header.Header.{Header}

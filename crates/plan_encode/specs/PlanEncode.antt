@@ -6,7 +6,7 @@ use Prim.Native.Nat.{ℕ, _+_, _*_, _^_, _<_}
 use native.Mathlib.Omega.{arith}
 use lib.ListN.{length, getD}
 use Rattle.file_fields.specs.Fields.{byteOf, byteOf-low, byteOf-high}
-use Rattle.file_blocks.specs.Bytes.{fileOf}
+use Rattle.file_write.specs.Bytes.{fileOf}
 use Rattle.file_blocks.specs.Kind.{planKind, planSize, flagKind, flagPer, flagSize, countKind, countPer}
 use Rattle.file_blocks.specs.Kind.{countSize, profilePointKind, profilePointPer, profilePointSize}
 use Rattle.file_frames.specs.Runs.{Shape, runsBody}

@@ -7,10 +7,12 @@ use lib.{ListN.length, ListN.getD, Dec.lit<, Dec.lit≤}
 use Rattle.theory_loops.specs.Fill.{length-tab}
 use Rattle.file_fields.specs.Block.{blockSize, headSize}
 use Rattle.file_fields.specs.Fields.{le16, le16-is, le32-is, le16-number, le32-number, le64-number}
-use Rattle.file_blocks.specs.{Bytes.file-good, Form.formed, Form.RunFormed, Place.offset, Place.blocks}
+use Rattle.file_write.specs.Bytes.{file-good}
+use Rattle.file_blocks.specs.Place.{offset, blocks}
+use Rattle.file_forms.specs.Form.{formed, RunFormed}
 use Rattle.file_blocks.specs.Kind.{planKind, planSize, flagKind, flagPer, flagSize, countKind, countPer}
 use Rattle.file_blocks.specs.Kind.{countSize, profilePointKind, profilePointPer, profilePointSize}
-use Rattle.file_blocks.specs.{Run.RunLaid, RunLaws.file-run, RunLaws.formed-run, RunLaws.run-table}
+use Rattle.file_write.specs.{Run.RunLaid, RunLaws.file-run, RunLaws.formed-run, RunLaws.run-table}
 use Rattle.file_blocks.specs.Table.{entry16, entry32, entry64}
 use Rattle.file_frames.specs.Runs.{header-body, first-body, second-body, third-body}
 use Rattle.network.specs.declared.header.Header.{Header}

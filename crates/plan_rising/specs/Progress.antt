@@ -11,7 +11,8 @@ use Rattle.theory_breaks.specs.Tally.{flag, before, tally-block}
 use Rattle.file_fields.specs.{Block.blockSize, Block.headSize, Fields.le16}
 use Rattle.file_blocks.specs.Kind.{profilePointKind, profilePointSize, profilePointPer}
 use Rattle.file_blocks.specs.Place.{blocks, entriesIn, offset-at, index-below, block-used, block-in}
-use Rattle.file_blocks.specs.{Place.block-starts, Place.block-fits, SoundBlock.soundBlock}
+use Rattle.file_blocks.specs.Place.{block-starts, block-fits}
+use Rattle.file_forms.specs.SoundBlock.{soundBlock}
 use Rattle.plan.specs.declared.header.PlanLayout.{PlanLayout}
 use Rattle.plan.specs.{Plan.Plan, PlanLimits.mostProfilePoints, PlanLimits.mostPlanBytes}
 use Rattle.plan.specs.PlanDecode.{decodePlan, PlanLaid, pointTick, plan-small}

@@ -13,7 +13,8 @@ use Rattle.theory_breaks.specs.{Tally.flag, Tally.before, Tally.tally-more, Bre
 use Rattle.theory_travel.specs.{Day.Day, Points.climbs, Table.entryAt, Table.entry-first}
 use Rattle.theory_travel.specs.Ticks.{badTick, ticks-day}
 use Rattle.file_blocks.specs.Kind.{profilePointKind, profilePointPer, profilePointSize}
-use Rattle.file_blocks.specs.{Place.blocks, SoundBlock.RunSound}
+use Rattle.file_blocks.specs.Place.{blocks}
+use Rattle.file_forms.specs.SoundBlock.{RunSound}
 use Rattle.file_blocks.specs.declared.walk.Walk.{Walk}
 use Rattle.file_refusals.specs.declared.Judged.the-variants.{Sound}
 use Rattle.file_refusals.specs.Refusal.{faulty}

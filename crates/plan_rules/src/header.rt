@@ -1,9 +1,9 @@
 // The first block of a plan file: its form, its numbers, and whether they are those of a network file that
 // has been validated.
-use file_blocks::form::is_formed;
 use file_blocks::kind;
 use file_fields::fields::le16;
 use file_fields::fields::le32;
+use file_forms::form::is_formed;
 use network::header::Header;
 use network::header::Layout;
 use plan::borders;

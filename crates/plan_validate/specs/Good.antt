@@ -10,8 +10,9 @@ use Rattle.theory_loops.specs.{First.first, First.first-le, First.clear, Pick.r
 use Rattle.file_fields.specs.Fields.{le16}
 use Rattle.file_blocks.specs.Kind.{flagKind, flagPer, flagSize, countKind, countPer, countSize}
 use Rattle.file_blocks.specs.Kind.{profilePointKind, profilePointPer, profilePointSize, planKind, planSize}
-use Rattle.file_blocks.specs.{Place.blocks, Form.formed, Form.unformed, Form.RunFormed, Form.run-formed}
-use Rattle.file_blocks.specs.{Read.bad, SoundBlock.sound-formed, SoundBlock.sound-sums}
+use Rattle.file_blocks.specs.Place.{blocks}
+use Rattle.file_forms.specs.Form.{formed, unformed, RunFormed, run-formed}
+use Rattle.file_forms.specs.{Read.bad, SoundBlock.sound-formed, SoundBlock.sound-sums}
 use Rattle.file_refusals.specs.Refusal.{faulty}
 use Rattle.file_refusals.specs.declared.Judged.the-variants.{Sound}
 use Rattle.network.specs.declared.header.Header.{Header}

@@ -2,11 +2,11 @@
 // file that is well-formed is told by one pass over it (well_formed.rt); in any other each fault is looked
 // for as the first in its order. Nothing is copied, and every call ends at the first refusal.
 use crate::well_formed::is_well_formed;
-use file_blocks::form::first_unformed;
-use file_blocks::form::is_bad_length;
 use file_blocks::kind;
-use file_blocks::reader::first_bad_sum;
 use file_fields::BLOCK;
+use file_forms::form::first_unformed;
+use file_forms::form::is_bad_length;
+use file_forms::reader::first_bad_sum;
 use file_refusals::Judged;
 use file_refusals::number;
 use network::header::Header;

@@ -1,10 +1,10 @@
 // Whether a file is a well-formed plan for a network that opens, yes or no: what a good file is asked. The
 // blocks of points, which are nearly all of it, are gone over once. Where the answer is no, validate.rt finds
 // the refusal and its place.
-use file_blocks::form::first_unformed;
 use file_blocks::kind;
-use file_blocks::sound::first_bad_before;
 use file_fields::BLOCK;
+use file_forms::form::first_unformed;
+use file_forms::sound::first_bad_before;
 use network::header::Header;
 use plan::header::PlanLayout;
 use plan_rising::rising::is_rising;

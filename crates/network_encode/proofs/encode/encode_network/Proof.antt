@@ -2,7 +2,7 @@
 use Rattle.network_encode.specs.{Written.file-more, Written.file-whole, Encode.bodyBy}
 use Prim.Native.Nat.{_-_, _*_, _≤_}
 use Rattle.theory_loops.specs.Fill.{Filled, fill-none}
-use Rattle.file_blocks.specs.Bytes.{fileByte}
+use Rattle.file_write.specs.Bytes.{fileByte}
 use Rattle.network.specs.Tables.{tables, networkOf}
 use borrow.Author.Needs.{needs}
 use Rattle.network_encode.proofs.encode.encode_network.Statement.{statement}

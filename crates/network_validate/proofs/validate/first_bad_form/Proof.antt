@@ -1,6 +1,6 @@
 -- `network_validate::validate::first_bad_form` meets its contract.
 use native.Mathlib.Omega.{arith}
-use Rattle.file_blocks.specs.Form.{run-taken, run-passed, run-last}
+use Rattle.file_forms.specs.Form.{run-taken, run-passed, run-last}
 use Rattle.network.specs.Decode.{laid-small}
 use Rattle.network.specs.Validate.{forms, nodes-end, arcs-end, points-end, unformed-told}
 use borrow.Author.Needs.{needs}

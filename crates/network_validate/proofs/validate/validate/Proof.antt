@@ -1,5 +1,5 @@
 -- `network_validate::validate::validate` meets its contract.
-use Rattle.file_blocks.specs.Form.{length-fine}
+use Rattle.file_forms.specs.Form.{length-fine}
 use native.Mathlib.Omega.{arith}
 use Rattle.network.specs.Validate.{validated}
 use Rattle.theory_loops.specs.Pick.{picks}

@@ -1,7 +1,7 @@
 -- `plan_validate::validate::first_bad_form` meets its contract: each run's first block out of its form
 -- decides, or leaves the answer to the next run.
 use native.Mathlib.Omega.{arith}
-use Rattle.file_blocks.specs.Form.{run-taken, run-passed, run-last}
+use Rattle.file_forms.specs.Form.{run-taken, run-passed, run-last}
 use Rattle.plan.specs.PlanDecode.{plan-small}
 use Rattle.plan.specs.PlanValidate.{forms, flags-end, counts-end, points-end, unformed-told}
 use Rattle.plan_validate.proofs.validate.first_bad_form.Statement.{statement}

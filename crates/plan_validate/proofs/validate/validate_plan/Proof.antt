@@ -8,7 +8,7 @@ use denote.Ref.{now}
 use borrow.Author.Needs.{needs}
 use Rattle.theory_loops.specs.{First.told, Pick.picks, Pick.passed, Pick.at-first, Pick.past-first}
 use Rattle.file_fields.specs.Block.{blockSize}
-use Rattle.file_blocks.specs.Form.{badLength, length-fine}
+use Rattle.file_forms.specs.Form.{badLength, length-fine}
 use Rattle.plan.specs.{PlanLimits.mostPlanBytes, PlanValidate.planned, PlanValid.plan-exactly}
 use Rattle.plan_validate.proofs.validate.validate_plan.Statement.{statement}
 use Rattle.plan_validate.proofs.validate.validate_plan.Tie as tie
