@@ -11,7 +11,7 @@ use Rattle.network.specs.Network.{cell, tail, head, count, tick, travel}
 use Rattle.network_encode.specs.Encode.{headerOf}
 use Rattle.dimacs_line.specs.declared.line.{Sizes.Sizes, Arc.Arc}
 use Rattle.dimacs_reading.specs.declared.verdict.Judgement.the-variants.{Accepted}
-use Rattle.dimacs_reading.specs.{Reading.judging, Accepted.Within, AcceptedExact.accepted-exactly}
+use Rattle.dimacs_reading.specs.{Reading.judging, Accepted.SizesWithin, AcceptedExact.accepted-exactly}
 use Rattle.dimacs_text.specs.Arcs.{arcsOf, arcAt, nowhere, Fit, text-arcs, text-fit}
 use Rattle.dimacs_import.specs.Import.{networkBy}
 
@@ -76,7 +76,7 @@ module _ (number : ℕ) (k : Sizes) (arcs : List Arc) (f : Fit k arcs) where
         hours = 0;
       }
 
-pub header-within : (number : ℕ) (k : Sizes) → Within k → WithinLimits (headerFor number k)
+pub header-within : (number : ℕ) (k : Sizes) → SizesWithin k → WithinLimits (headerFor number k)
 header-within number k w = record {
   period-some = lit≤ tt;
   period-most = lit≤ tt;

@@ -19,7 +19,7 @@ use Rattle.network.specs.Tables.{Tables, tables, networkOf}
 use Rattle.network_encode.specs.{Encode.encode, Packable.Packable}
 use Rattle.network_pack.specs.Proper.{packed-long}
 use Rattle.dimacs_line.specs.declared.line.{Sizes.Sizes, Arc.Arc}
-use Rattle.dimacs_reading.specs.{Accepted.Within, Reading.judging}
+use Rattle.dimacs_reading.specs.{Accepted.SizesWithin, Reading.judging}
 use Rattle.dimacs_text.specs.{Arcs.arcsOf, Arcs.arcAt, Arcs.Fit, Noting.JudgedInto}
 use Rattle.dimacs_reading.specs.declared.verdict.Judgement.{Judgement}
 use Rattle.dimacs_reading.specs.declared.verdict.Judgement.the-variants.{Accepted}
@@ -38,12 +38,12 @@ abbrev pub roadsFile : ℕ → Sizes → List ℕ → List ℕ → List ℕ → 
 roadsFile number k tails heads travels =
     encode (networkOf (headerFor number k) (roadTables tails heads travels))
 
-pub roads-few : (number : ℕ) (k : Sizes) (l : Layout) → Within k → l ≡ layoutOf (headerFor number k)
+pub roads-few : (number : ℕ) (k : Sizes) (l : Layout) → SizesWithin k → l ≡ layoutOf (headerFor number k)
     → l .blocks ≤ mostBlocks
 roads-few number k l w is = blocks-few (headerFor number k) l (header-within number k w) is
 
 -- FOR THE CODE: its writing
-module _ (number : ℕ) (k : Sizes) (l : Layout) (tails heads travels : List ℕ) (w : Within k)
+module _ (number : ℕ) (k : Sizes) (l : Layout) (tails heads travels : List ℕ) (w : SizesWithin k)
     (t : TablesLong tails heads travels) (b : number < 2 ^ 32) (is : l ≡ layoutOf (headerFor number k)) where
   pub roads-packable : Packable (headerFor number k) l (roadTables tails heads travels)
   roads-packable =
@@ -167,7 +167,7 @@ roads-imported text number k tails heads travels before after j r h e w =
     after r w
 
 pub accepted-within : (text : List ℕ) (k : Sizes) (tails heads travels : List ℕ) (j : Judgement)
-    → JudgedInto text j tails heads travels → j ≡ Accepted k → Within k × TablesLong tails heads travels
+    → JudgedInto text j tails heads travels → j ≡ Accepted k → SizesWithin k × TablesLong tails heads travels
 accepted-within text k tails heads travels j h e = (
   accepted-fit text k (sym (h .told) ∙ e) .within,
   record {

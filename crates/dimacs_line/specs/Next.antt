@@ -131,8 +131,8 @@ module _ (text : List ℕ) (at tail tailEnd head headEnd weight end : ℕ) (star
   }
 
 -- FOR A TEST that answers a bool: what holds if the answer is yes
-pub never : {P : Type 0} → _≡_ {A = Bool} false true → P
-never e = let z : _≡_ {A = ℕ} 0 1 = cc in absurd (omega arith)
+pub false-true : {P : Type 0} → _≡_ {A = Bool} false true → P
+false-true e = let z : _≡_ {A = ℕ} 0 1 = cc in absurd (omega arith)
 
 pub unmet : {P : Type 0} (at end : ℕ) → end ≡ at → at < end → P
 unmet at end e l = absurd (omega arith)

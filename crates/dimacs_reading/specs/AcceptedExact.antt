@@ -18,13 +18,13 @@ use Rattle.dimacs_line.specs.ShapeExact.{remark-exactly, sizes-exactly, arc-exa
 use Rattle.dimacs_reading.specs.declared.reading.Reading.{Reading}
 use Rattle.dimacs_reading.specs.declared.verdict.Judgement.{Judgement}
 use Rattle.dimacs_reading.specs.declared.verdict.Judgement.the-variants.{Accepted, Refused}
-use Rattle.dimacs_reading.specs.Accepted.{Within, Fitting, ArcLines, none, remark, arc, RoadText}
+use Rattle.dimacs_reading.specs.Accepted.{SizesWithin, Fitting, ArcLines, none, remark, arc, RoadText}
 use Rattle.dimacs_reading.specs.{Accepted.remark-first, Accepted.sizes, Reading.read-none}
 use Rattle.dimacs_reading.specs.Reading.{outside, misfit, noted, passedBy, sizedBy, arcBy, stepped}
 use Rattle.dimacs_reading.specs.Reading.{readAll, unfinished, judged, judging, read-stopped, read-line}
 
 -- THE RULES of 36 as facts
-within-limits : (k : Sizes) → outside k ≡ false → Within k
+within-limits : (k : Sizes) → outside k ≡ false → SizesWithin k
 unfolding outside
 within-limits k e =
     let (z, f) = or-passed (eqb (k .nodes) 0) _ e in
@@ -35,7 +35,7 @@ within-limits k e =
       arcs-few = ltb-false mostArcs (k .arcs) a;
     }
 
-limits-within : (k : Sizes) → Within k → outside k ≡ false
+limits-within : (k : Sizes) → SizesWithin k → outside k ≡ false
 unfolding outside
 limits-within k w = rw (
   ne-eqb (k .nodes) 0 (omega (arith, w .some)),

@@ -77,7 +77,7 @@ use Rattle.example_theorem.specs.Rows.{
   checks,
   flagged,
   prints,
-  told,
+  numbersTold,
   tripTold,
   lent,
   answerTo,
@@ -127,10 +127,10 @@ module _ (opened : List ℕ → Opening) (planning : Header → Network → List
   answerBy (bordering network) = answerTo (bordering network)
   answerBy (travel network road tick) = answerTo (travel network road tick)
   answerBy (drives network roads tick) = answerTo (drives network roads tick)
-  answerBy (opens network) = told (openingSays (openedIn (opened network) (λ h. tooShort h lent)))
+  answerBy (opens network) = numbersTold (openingSays (openedIn (opened network) (λ h. tooShort h lent)))
   answerBy (plain network from to departure) =
       tripTold (plainBy network from to departure) (plainPath network from to departure)
-  answerBy (checks network file) = told (checkingSays (checkBy network file))
+  answerBy (checks network file) = numbersTold (checkingSays (checkBy network file))
   answerBy (flagged network file from to departure) =
       tripTold (flaggedBy network file from to departure) (flaggedPath network file from to departure)
   answerBy (prints network file input) = sheetBy network file input

@@ -117,10 +117,10 @@ module _ {g : Graph} (ok : Lawful g) (few : g .nodes ≤ mostNodes) {p : Permit}
   trail-count = sym (traced-fewest ok L (hopsIn K) (r .counted) k .count)
       ∙ ap length (chosen-traced ok L (hopsIn K) (r .exact) (r .counted) k)
 
-  abbrev Stands : ℕ → Type 0
-  Stands n = Walk g p s L (hopsIn K) (label L t) t (nodeBack g K t n) n
+  abbrev WalkedBack : ℕ → Type 0
+  WalkedBack n = Walk g p s L (hopsIn K) (label L t) t (nodeBack g K t n) n
 
-  onward : (n : ℕ) → n < length (chosen g p s L t) → Stands n
+  onward : (n : ℕ) → n < length (chosen g p s L t) → WalkedBack n
       → Onward g p s L (hopsIn K) (label L t) t n (arcBack g K t n)
   onward n l w =
       let v = nodeBack g K t n in
@@ -129,7 +129,7 @@ module _ {g : Graph} (ok : Lawful g) (few : g .nodes ≤ mostNodes) {p : Permit}
       walk-on ok L (hopsIn K) (r .counted) (omega (arith, c .short, k .node)) w ne (arcBack g K t n)
       (r .arcs v ne (w .known))
 
-  stands : (n : ℕ) → n ≤ length (chosen g p s L t) → Stands n
+  stands : (n : ℕ) → n ≤ length (chosen g p s L t) → WalkedBack n
   unfolding nodeBack
   stands zero l = walk-start ok L (hopsIn K) (r .counted) (r .exact) k
   stands (suc n) l = let z : n + 1 ≡ suc n = omega arith in

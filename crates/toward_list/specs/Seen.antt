@@ -114,9 +114,9 @@ pub seen-size : {l : Layout} {D H : List ℕ} (W : List ℕ) → Heights l (seen
 seen-size {l} {H = H} W o = sym (seen-long (l .period) H W) ∙ o .size
 
 -- first or not
-pub told : {A : Type 0} (first : Bool) → (first ≡ true → A) → (first ≡ false → A) → A
-told true f g = f refl
-told false f g = g refl
+pub by-first : {A : Type 0} (first : Bool) → (first ≡ true → A) → (first ≡ false → A) → A
+by-first true f g = f refl
+by-first false f g = g refl
 
 -- what an entry becomes is at most what is given
 lowest-most : (first : Bool) (old given : ℕ) → lowest first old given ≤ given
@@ -161,7 +161,7 @@ module _ {r : ℕ} {first : Bool} {W M : List ℕ} (wide u : ℕ) (w h : ℕ →
         → lowest first (getD W k 0) (offer w h wide (k - u * wide))
         ≡ rowLowered false w h wide (u * wide) (seen wide H W) k
     unfolding rowLowered lowest
-    entry-lowest k lo hi = told first
+    entry-lowest k lo hi = by-first first
         (λ t. rw t (omega (
           arith,
           entry-bare wide H W u k lo hi (omega arith) (bare t),
@@ -209,10 +209,10 @@ module _ {r : ℕ} {first : Bool} {W M : List ℕ} (wide u : ℕ) (w h : ℕ →
       };
       few = c .few;
       all = λ t. absurd (true≢false (sym t));
-      none = λ _ z k lo hi. told first (λ t. absurd (omega (arith, c .all t)))
+      none = λ _ z k lo hi. by-first first (λ t. absurd (omega (arith, c .all t)))
           (λ t. entry-some wide I M u k lo hi got ∙ c .none t z k lo hi
           ∙ sym (entry-some wide H W u k lo hi (known t)));
-      some = λ _ z. told first fallen-first (λ t. fallen (c .some t z) (known t));
+      some = λ _ z. by-first first fallen-first (λ t. fallen (c .some t z) (known t));
     }
 
 -- FOR THE LOOP that fills the rows without a number

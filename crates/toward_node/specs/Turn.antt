@@ -25,7 +25,7 @@ use Rattle.toward_list.specs.Heights.{lows-taken, lows-bounds, lows-first}
 use Rattle.toward_list.specs.Rows.{rowsOf, WorkedFor, rowLowered, row-lower, row-same, row-lowering}
 use Rattle.toward_list.specs.Rows.{row-quiet, row-held}
 use Rattle.toward_list.specs.Seen.{seen, seen-long, seen-size, seen-some, seen-bare}
-use Rattle.toward_list.specs.Seen.{seen-near, seen-highest, seen-cut, row-most, row-first, told}
+use Rattle.toward_list.specs.Seen.{seen-near, seen-highest, seen-cut, row-most, row-first, by-first}
 use Rattle.network.specs.Limits.{mostArcs, mostNodes, mostPeriod}
 
 -- A town, the table of its arcs' first points, and the chains of the arcs into each node.
@@ -346,7 +346,7 @@ module _ {file : List ℕ} {l : Layout} {starts hs W M D H : List ℕ} {a u near
     pub tail-quiet : {bar : ℕ} → r ≡ 0
         → Stepped file l a near bar hs (seen (l .period) H W) D H (seen (l .period) H M) D H
     tail-quiet z =
-        let f : first ≡ false = told first
+        let f : first ≡ false = by-first first
         (λ q. absurd (omega (arith, c .all q, t .town .small .period-some))) (λ q. q) in
         stepped-quiet t h o k e (cut-seen H (known f) (λ _ _. refl)) z
 

@@ -1,6 +1,6 @@
 -- `dimacs_line::next::is_arc_start` meets its contract.
 use borrow.Author.{Tests.eqb-true, Needs.needs}
-use Rattle.dimacs_line.specs.Next.{never, starts-so}
+use Rattle.dimacs_line.specs.Next.{false-true, starts-so}
 use Rattle.dimacs_line.proofs.next.is_arc_start.Statement.{statement}
 use Rattle.dimacs_line.proofs.next.is_arc_start.Tie as tie
 
@@ -12,7 +12,7 @@ is-arc-start-spec =
     tie.close
     (tie.spec
     (λ c. search needs)
-    (λ c. never)
+    (λ c. false-true)
     (λ c. search needs)
     (λ c. search needs)
     (λ c. search needs)
