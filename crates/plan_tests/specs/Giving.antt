@@ -54,14 +54,12 @@ pub record Prepared (network plan : List ℕ) (l : Layouts) (points starts : Lis
   pub number : b .number < l .plan .borders
   pub aimed : Aimed network b
 
-module _ {network plan : List ℕ} {l : Layouts} {points starts : List ℕ} {b : Target}
-    (w : Prepared network plan l points starts b) where
-  -- u's profile, by the layout's counts
-  pub profile-same : (u x : ℕ)
-      → profileValue (l .plan .period) (decodePlan plan) (b .number * l .plan .nodes + u) x
-      ≡ profile (graphOf (decode network)) (decodePlan plan) (b .number) u x
-  profile-same u x =
-      rw (w .check .period, w .check .town .sizes .period, w .check .nodes, w .check .town .sizes .nodes)
+module _ {network plan : List ℕ} {l : Layouts} (w : Checkable network plan l) where
+  -- the profile of border number i and node u, by the layout's counts
+  pub profile-same : (i u x : ℕ)
+      → profileValue (l .plan .period) (decodePlan plan) (i * l .plan .nodes + u) x
+      ≡ profile (graphOf (decode network)) (decodePlan plan) i u x
+  profile-same i u x = rw (w .period, w .town .sizes .period, w .nodes, w .town .sizes .nodes)
 
   pub head-in : {a y : ℕ} → a < l .network .arcs → y ≡ head (decode network) a → y < l .plan .nodes
-  head-in {a} {y} h e = omega (arith, head-node (w .check .town) a y h e, w .check .nodes)
+  head-in {a} {y} h e = omega (arith, head-node (w .town) a y h e, w .nodes)

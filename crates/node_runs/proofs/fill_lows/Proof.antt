@@ -1,11 +1,9 @@
 -- `node_runs::fill_lows` meets its contract.
 use Prim.Native.Nat.{_-_, _≤_}
-use mathlib.Core.Path.{_≡_}
+use mathlib.Core.{Path._≡_, Path._≡_, Path.refl, Path._∙_}
 use native.Mathlib.Omega.{arith}
-use lib.ListN.{length}
+use lib.{ListN.length, ListN.length, ListN.length-set}
 use Rattle.node_runs.specs.Ready.{Lows, lows-none, lows-more}
-use mathlib.Core.Path.{_≡_, refl, _∙_}
-use lib.ListN.{length, length-set}
 use borrow.Author.Needs.{needs}
 use Rattle.node_runs.proofs.fill_lows.Statement.{statement}
 use Rattle.node_runs.proofs.fill_lows.Tie as tie

@@ -2,8 +2,7 @@
 use mathlib.Core.Path.{_∙_, ap}
 use Prim.Native.Nat.{ℕ}
 use denote.Ref.{now}
-use Rattle.plan.specs.Plan.{bit, flag}
-use Rattle.plan.specs.PlanDecode.{decodePlan}
+use Rattle.plan.specs.{Plan.bit, Plan.flag, PlanDecode.decodePlan}
 use Rattle.node_runs.specs.Bytes.{same-set, same-unset}
 use borrow.Author.Needs.{needs}
 use Rattle.node_runs.proofs.same_bits.Statement.{statement}

@@ -5,9 +5,4 @@ use Rattle.node_verdict.proofs.bit_of.Tie as tie
 
 pub bit-of-spec : {M : Type 1} → statement M
 bit-of-spec =
-    tie.close
-    (tie.spec
-    (λ c. search picks)
-    (λ c. search picks)
-    (λ c. search picks)
-    (λ c. search picks))
+    tie.close (tie.spec (λ c. search picks) (λ c. search picks) (λ c. search picks) (λ c. search picks))

@@ -21,4 +21,12 @@ returns c =
 pub off-bits-spec : {M : Type 1} → statement M
 off-bits-spec =
     tie.close
-    (tie.spec Inv-loop μ-loop (λ c. (search needs, offs-none _)) (λ c. search needs) (λ c. search needs) (λ c. search needs) (λ c. (search needs, search offs-more)) returns)
+    (tie.spec
+    Inv-loop
+    μ-loop
+    (λ c. (search needs, offs-none _))
+    (λ c. search needs)
+    (λ c. search needs)
+    (λ c. search needs)
+    (λ c. (search needs, search offs-more))
+    returns)

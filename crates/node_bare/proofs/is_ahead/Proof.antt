@@ -1,18 +1,15 @@
--- `node_verdict::is_ahead` meets its contract.
+-- `node_bare::is_ahead` meets its contract.
 use Prim.Native.Nat.{_-_}
 use native.Mathlib.Omega.{arith}
-use Rattle.network.specs.Network.{tail}
-use Rattle.network.specs.Decode.{decode}
-use Rattle.network.specs.Town.{partitionOf}
+use Rattle.network.specs.{Network.tail, Decode.decode, Town.partitionOf}
 use Rattle.search_chains.specs.Chain.{Walking, walk-first, walk-less, walk-next}
-use Rattle.plan_values.specs.Formed.{profile-in}
-use Rattle.plan_values.specs.Starts.{product-fits, number-fits}
-use Rattle.search_chains.specs.Town.{head-node}
+use Rattle.plan_values.specs.{Formed.profile-in, Starts.product-fits, Starts.number-fits}
 use Rattle.plan.specs.PlanDecode.{decodePlan}
-use Rattle.node_verdict.specs.Blank.{ahead, ahead-elsewhere, ahead-not, ahead-found, ahead-none}
+use Rattle.plan_tests.specs.Giving.{head-in}
+use Rattle.node_bare.specs.Ahead.{ahead, ahead-elsewhere, ahead-not, ahead-found, ahead-none}
 use borrow.Author.Needs.{needs}
-use Rattle.node_verdict.proofs.is_ahead.Statement.{statement}
-use Rattle.node_verdict.proofs.is_ahead.Tie as tie
+use Rattle.node_bare.proofs.is_ahead.Statement.{statement}
+use Rattle.node_bare.proofs.is_ahead.Tie as tie
 
 abbrev Inv-loop : tie.InvT-loop
 Inv-loop network plan l first next i node arcs a₀ a =
@@ -27,36 +24,19 @@ loop-holds c = let s = c .before .before .before .before in
     walk-first _ (s .pre .1 .0) (ahead-elsewhere _ _ _ _) (s .pre .1 .1 .1) (c .wide .ensures .0)
 
 mul-point-count : tie.Need-mul-point-count Inv-loop μ-loop
-mul-point-count c = let s = c .before .before .before .before .before .before .before .before in
-    let w = s .pre .0 in
-    product-fits (w .formed) {u = c .before .head .result} (s .pre .1 .1 .0) (omega (
-      arith,
-      head-node (w
-          .town) _ _ (c .before .before .loop-test .taken) (c .before .head .ensures .0),
-      w .nodes,
-    ))
+mul-point-count c = let s = c .before .before .before .before .before .before .before .before .pre in
+    product-fits (s .0 .formed) (s .1 .1 .0) (head-in (s .0) (c .before .before .loop-test .taken) (c .before
+    .head .ensures .0))
 
 add-point-count : tie.Need-add-point-count Inv-loop μ-loop
-add-point-count c = let s = c .before .before .before .before .before .before .before .before in
-    let w = s .pre .0 in
-    number-fits (w .formed) (s .pre .1 .1 .0) (omega (
-      arith,
-      head-node (w .town) _ _ (c .before .before
-          .loop-test .taken) (c .before .head .ensures .0),
-      w .nodes,
-    ))
+add-point-count c = let s = c .before .before .before .before .before .before .before .before .pre in
+    number-fits (s .0 .formed) (s .1 .1 .0) (head-in (s .0) (c .before .before .loop-test .taken) (c .before
+    .head .ensures .0))
 
 point-count-requires : tie.Need-point-count-requires Inv-loop μ-loop
-point-count-requires c κs = let s = c .before .before .before .before .before .before .before .before in
-    let w = s .pre .0 in (
-      w .formed .laid,
-      profile-in (w .formed) _ _ (s .pre .1 .1 .0) (omega (
-        arith,
-        head-node (w .town) _ _ (c
-            .before .before .loop-test .taken) (c .before .head .ensures .0),
-        w .nodes,
-      )),
-    )
+point-count-requires c κs = let s = c .before .before .before .before .before .before .before .before .pre in
+    let h = head-in (s .0) (c .before .before .loop-test .taken) (c .before .head .ensures .0) in
+    (s .0 .formed .laid, profile-in (s .0 .formed) _ _ (s .1 .1 .0) h)
 
 returns : tie.Need-returns Inv-loop μ-loop
 returns c = let h = c .before .before .before .before .loop-test .taken in
@@ -91,7 +71,8 @@ loop-again c = let h = c .before .before .before .before .before .before .loop-t
     walk-next v h _ (c .wide2 .ensures .0)
     (ahead-not (c .before .before .before .before .before .before .before .before .before .before .before
     .before .pre .0) _ _ _ _ _ (v .here h) (c .before .before .before .before .before .head .ensures .0)
-    (c .before .before .before .point-count .ensures .0) (c .before .before .if1 .left))
+    (c .before .before .before .point-count .ensures .0)
+    (c .before .before .if1 .left))
 
 returns-2 : tie.Need-returns-2 Inv-loop μ-loop
 returns-2 c = ahead-none _ _ _ _ (c .before .before .before .before .before .before .pre .0 .town) (c .before

@@ -1,43 +1,48 @@
--- `node_verdict::mark_home` meets its contract.
+-- `node_bare::mark_home` meets its contract.
 use mathlib.Core.Path.{sym, _∙_}
 use native.Mathlib.Omega.{arith}
-use Rattle.plan_values.specs.Formed.{profile-in}
-use Rattle.plan_values.specs.Starts.{product-fits, number-fits}
-use Rattle.node_verdict.specs.Home.{home-never, home-painted}
+use Rattle.plan_values.specs.{Formed.profile-in, Starts.product-fits, Starts.number-fits}
+use Rattle.node_bare.specs.Home.{home-never, home-painted}
 use Rattle.day_slopes.specs.Runs.{runs-few}
 use borrow.Author.Needs.{needs}
-use Rattle.node_verdict.proofs.mark_home.Statement.{statement}
-use Rattle.node_verdict.proofs.mark_home.Tie as tie
+use Rattle.node_bare.proofs.mark_home.Statement.{statement}
+use Rattle.node_bare.proofs.mark_home.Tie as tie
 
 mul-point-count : tie.Need-mul-point-count
-mul-point-count c = let s = c .before .before .before .before .before in product-fits (s .pre .0) (s .pre .1
-    .1 .0 .0) (s .pre .1 .1 .0 .1)
+mul-point-count c = let s = c .before .before .before .before .before .pre in product-fits (s .0) (s .1 .1 .0
+    .0) (s .1 .1 .0 .1)
 
 add-point-count : tie.Need-add-point-count
-add-point-count c = let s = c .before .before .before .before .before in number-fits (s .pre .0) (s .pre .1 .1
-    .0 .0) (s .pre .1 .1 .0 .1)
+add-point-count c = let s = c .before .before .before .before .before .pre in number-fits (s .0) (s .1 .1 .0
+    .0) (s .1 .1 .0 .1)
 
 point-count-requires : tie.Need-point-count-requires
-point-count-requires c κs = let s = c .before .before .before .before .before in
-    (s .pre .0 .laid, profile-in (s .pre .0) _ _ (s .pre .1 .1 .0 .0) (s .pre .1 .1 .0 .1))
+point-count-requires c κs = let s = c .before .before .before .before .before .pre in
+    (s .0 .laid, profile-in (s .0) _ _ (s .1 .1 .0 .0) (s .1 .1 .0 .1))
 
 returns : tie.Need-returns
-returns c =
-    let z = sym (c .before .before .before .before .before .point-count .ensures .0) ∙ c .before .before
-    .before .before .if1 .taken in
+returns c = let z = sym (c .before .before .before .before .before .point-count .ensures .0) ∙ c .before
+    .before .before .before .if1 .taken in
     (home-never _ _ _ z (c .before .before .fill .ensures), omega (arith, z))
 
 fill-profile-requires : tie.Need-fill-profile-requires
 fill-profile-requires c κs = let s = c .before .before .before .before .before .before .before .before .before
-    .before in
-    let h = s .pre .1 .1 in
-    let some = c .before .before .before .if1 .left in (
-      s .pre .0,
+    .before .pre in (
+      s .0,
       (
-        s .pre .1 .0,
+        s .1 .0,
         (
-          (h .0 .0, h .0 .1, omega (arith, c .before .before .before .before .point-count .ensures .0, some)),
-          (h .1 .0 .0, h .1 .1),
+          (
+            s .1 .1 .0 .0,
+            s .1 .1 .0 .1,
+            (omega (
+              arith,
+              c .before .before .before .before
+                  .point-count .ensures .0,
+              c .before .before .before .if1 .left,
+            )),
+          ),
+          (s .1 .1 .1 .0 .0, s .1 .1 .1 .1),
         ),
       ),
     )
@@ -62,12 +67,10 @@ returns-2 c = let f = c .before .before .before .before .before .before .before 
         arith,
         c .before .before .before .before .before .before .before .before .before
             .before .before .before .before .before .before .point-count .ensures .0,
-        c .before .before .before
-            .before .before .before .before .before .before .before .before .before .before .before .if1
-            .left,
-      )) (f
-          .0)
-          (c .before .before .mark-runs .ensures),
+        c .before .before .before .before .before .before .before .before .before .before
+            .before .before .before .before .if1 .left,
+      ))
+          (f .0) (c .before .before .mark-runs .ensures),
       f .1,
     )
 

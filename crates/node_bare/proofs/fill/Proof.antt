@@ -1,11 +1,11 @@
--- `node_verdict::fill` meets its contract.
+-- `node_bare::fill` meets its contract.
 use mathlib.Core.Path.{refl}
 use Prim.Native.Nat.{_-_, _≤_}
 use native.Mathlib.Omega.{arith}
 use Rattle.theory_loops.specs.Fill.{Filled, fill-none, fill-up, fill-end}
 use borrow.Author.Needs.{needs}
-use Rattle.node_verdict.proofs.fill.Statement.{statement}
-use Rattle.node_verdict.proofs.fill.Tie as tie
+use Rattle.node_bare.proofs.fill.Statement.{statement}
+use Rattle.node_bare.proofs.fill.Tie as tie
 
 abbrev Inv-loop : tie.InvT-loop
 Inv-loop marks₀ a b byte x₀ marks x = (a ≤ x) × (x ≤ b) × Filled a x (λ _. byte) marks₀ marks
