@@ -1,11 +1,11 @@
 -- How the check stands: which of the tests 21 to 24 is the lowest that fails at the borders and nodes judged
 -- so far, and the first place at which it does. Borders are judged in the order of their numbers, and nodes
 -- at each, so that a lower number takes the place of the one found before, and the same number does not.
-use mathlib.Core.{Path._≡_, Logic._⊎_, Logic.inl, Logic.inr, Bool.true, Bool.false, List.List}
+use mathlib.Core.{Path._≡_, Path.sym, Path._∙_, Logic._⊎_, Logic.inl, Logic.inr, List.List}
+use mathlib.Core.Bool.{Bool, true, false}
 use Prim.Native.Nat.{ℕ, _+_, _≤_, _<_}
 use native.Mathlib.{Decide.ℕ-discrete, Decide.decLt, Omega.arith}
-use borrow.Author.Tests.{ltb-true}
-use Rattle.theory_loops.specs.First.{first, first-same, found, least}
+use Rattle.theory_loops.specs.First.{first, clear, any-found}
 use Rattle.theory_paths.specs.Partition.{Partition}
 use Rattle.plan.specs.{Border.borderCount, Plan.Plan}
 use Rattle.plan_tests.specs.Tests.{fails}
@@ -30,12 +30,6 @@ pub record FirstPlace (G : Partition) (p : Plan) (f : Found) : Type 0 where
   pub before : (j v x : ℕ) → Before (f .border) (f .node) j v → v < G .graph .nodes → x < G .graph .period
       → fails (f .number) G p j v x ≡ false
 
--- after one place more, of which this number is told and this tick as its first, the one found before stays
--- unless the new number is lower
-abbrev pub Noted : Found → ℕ → ℕ → ℕ → ℕ → Found → Type 0
-Noted f number i u x r = ((f .number ≤ number) × (r ≡ f))
-    ⊎ ((number < f .number) × (r ≡ record { number = number; border = i; node = u; tick = x }))
-
 -- all that comes before border number i and node u is judged
 pub record Stands (G : Partition) (p : Plan) (i u : ℕ) (f : Found) : Type 0 where
   pub low : 21 ≤ f .number
@@ -43,10 +37,6 @@ pub record Stands (G : Partition) (p : Plan) (i u : ℕ) (f : Found) : Type 0 wh
   pub passed : (number j v x : ℕ) → 21 ≤ number → number < f .number → Before i u j v → v < G .graph .nodes
       → x < G .graph .period → fails number G p j v x ≡ false
   pub found : f .number < 25 → FirstPlace G p f
-
-pub noted-low : {f r : Found} {number i u x : ℕ} → Noted f number i u x r → r .number ≤ f .number
-noted-low (inl (h, e)) = rw e (omega arith)
-noted-low (inr (h, e)) = rw e (omega arith)
 
 module _ {G : Partition} {p : Plan} where
   pub stands-first : {b u x : ℕ} → Stands G p 0 0 (record { number = 25; border = b; node = u; tick = x })
@@ -63,8 +53,8 @@ module _ {G : Partition} {p : Plan} where
 
   module _ {i u : ℕ} {f : Found} (s : Stands G p i u f) where
     -- one node more, of which a number is told
-    module _ {period number : ℕ} {marks : List ℕ} (w : Lowest G p i u period (f .number) number marks)
-        (day : period ≡ G .graph .period) where
+    module _ {number : ℕ} {marks : List ℕ}
+        (w : Lowest G p i u (G .graph .period) (f .number) number marks) where
       more : (m j y x : ℕ) → 21 ≤ m → m < f .number → m < number → Before i (u + 1) j y
           → y < G .graph .nodes → x < G .graph .period → fails m G p j y x ≡ false
       more m j y x lo hi o (inl l) n k = s .passed m j y x lo hi (inl l) n k
@@ -72,36 +62,50 @@ module _ {G : Partition} {p : Plan} where
         | yes q ↦ s .passed m j y x lo hi (inr (e, q)) n k
         | no q ↦
             let z : y ≡ u = omega arith in
-            rw (e, z) (w .passed m x lo hi o (omega arith))
+            rw (e, z) (w .passed m x lo hi o k)
       ]
 
-      -- the bytes tell the test's own first tick
-      ticks : number < f .number → FirstTick G p i u number (first period (tells marks number))
-      ticks h =
-          let at = fails number G p i u in
-          let l : first period at < period = ltb-true (first period at) period (w .some h) in
-          rw (first-same (tells marks number) at period (w .told h))
-          (record { within = omega arith; at = found at period l; before = least at period })
-
-      pub stands-more : {r : Found} → i < borderCount G → u < G .graph .nodes
-          → Noted f number i u (first period (tells marks number)) r → Stands G p i (u + 1) r
-      stands-more b l (inl (h, e)) = rw e (record {
+      pub stands-kept : f .number ≤ number → Stands G p i (u + 1) f
+      stands-kept h = record {
         low = s .low;
         high = s .high;
         passed = λ m j y x lo hi q n k. more m j y x lo hi (omega arith) q n k;
         found = s .found;
-      })
-      stands-more b l (inr (h, e)) = rw e (record {
-        low = w .low;
-        high = omega (arith, s .high);
-        passed = λ m j y x lo hi q n k. more m j y x lo (omega arith) hi q n k;
-        found = λ o. record {
-          border = b;
-          node = l;
-          tick = ticks h;
-          before = λ j y x q n k. s .passed number j y x (w .low) h q n k;
-        };
-      })
+      }
+
+      module _ (h : number < f .number) {x : ℕ} (none : first x (tells marks number) ≡ x) where
+        -- its ticks were passed up to x, at which it fails
+        first-tick : x < G .graph .period → tells marks number x ≡ true → FirstTick G p i u number x
+        first-tick l t = record {
+          within = l;
+          at = sym (w .told h x l) ∙ t;
+          before = λ y m. sym (w .told h y (omega arith)) ∙ clear (tells marks number) x none y m;
+        }
+
+        pub stands-lower : i < borderCount G → u < G .graph .nodes → x < G .graph .period
+            → tells marks number x ≡ true
+            → Stands G p i (u + 1) (record { number = number; border = i; node = u; tick = x })
+        stands-lower b l k t = record {
+          low = w .low;
+          high = omega (arith, s .high);
+          passed = λ m j y z lo hi q n o. more m j y z lo (omega arith) hi q n o;
+          found = λ o. record {
+            border = b;
+            node = l;
+            tick = first-tick k t;
+            before = λ j y z q n o. s .passed number j y z (w .low) h q n o;
+          };
+        }
+
+        -- it fails at some tick, so not all are passed
+        pub some-tick : G .graph .period ≤ x → ⊥
+        some-tick l =
+            let (y, m, t) = any-found (fails number G p i u) (G .graph .period) (w .some h) in
+            clash (tells marks number y) (w .told h y m ∙ t)
+            (clear (tells marks number) x none y (omega arith))
+          where
+            clash : (b : Bool) → b ≡ true → b ≡ false → ⊥
+            clash b e g = let z : _≡_ {A = ℕ} 0 1 = cc in omega arith
 
     -- behind the lowest nothing is left to look for
     pub stands-least : f .number ≤ 21 → (j : ℕ) → Stands G p j 0 f

@@ -16,25 +16,17 @@ use plan_tests::tests::Target;
 use plan_values::starts;
 use search_arcs::wide;
 ghost use mathlib.Core.Path.{_≡_};
-ghost use Prim.Native.Nat.{_+_, _^_, _≤_, _<_};
-ghost use lib.ListN.{length};
-ghost use Rattle.theory_loops.specs.First;
-ghost use Rattle.theory_loops.specs.Total.{total};
+ghost use Prim.Native.Nat.{_<_};
 ghost use Rattle.network.specs.Decode.{decode};
 ghost use Rattle.network.specs.Limits.{mostNodes};
-ghost use Rattle.network.specs.Network.{nodes};
 ghost use Rattle.network.specs.Town.{partitionOf};
 ghost use Rattle.search_chains.specs.Town.{Town};
 ghost use Rattle.plan.specs.Border.{borderCount, Listed};
 ghost use Rattle.plan.specs.PlanDecode.{decodePlan};
 ghost use Rattle.arc_runs.specs.Brief.{Briefs};
 ghost use Rattle.plan_tests.specs.Giving.{Aimed};
-ghost use Rattle.plan_tests.specs.Failing.{AtBorder};
-ghost use Rattle.plan_tests.specs.Finds.{nodeFinds};
-ghost use Rattle.node_runs.specs.Ready.{Lows};
-ghost use Rattle.node_verdict.specs.Lowest.{tells};
-ghost use Rattle.plan_judge.specs.Finding.{Equipped, Judged, Lent};
-ghost use Rattle.plan_judge.specs.Standing.{Noted, Stands};
+ghost use Rattle.plan_judge.specs.Finding.{Equipped, Lent};
+ghost use Rattle.plan_judge.specs.Standing.{Stands};
 ghost use Rattle.plan_judge.specs.Tally.{Tally};
 
 // The runs of a day, and the tick after the last of them.
@@ -63,105 +55,8 @@ fn target_at(network: &[u8], l: Layout, borders: &[u16; MOST_NODES], i: usize) -
     }
 }
 
-// The first tick at which the test with this number fails, by the ticks' bytes; the period where none does.
-fn first_tick(marks: &[u8], number: u32, period: usize) -> usize
-    requires { ⌜ period ≤ length (now marks) ⌝ }
-    ensures { λ r. ⌜ r ≡ First.first period (tells (now (marks .entry)) number) ⌝ }
-{
-    for tick in 0..period {
-        if node_verdict::fails_at(marks, number, tick) {
-            return tick;
-        }
-    }
-    period
-}
-
-// The lowest so far after one place more: a lower number is noted, with the first tick at which it fails
-// there.
-fn noted(best: Found, number: u32, border: usize, node: usize, marks: &[u8], period: usize) -> Found
-    requires { ⌜ period ≤ length (now marks) ⌝ }
-    ensures { λ r. ⌜ Noted best number border node (First.first period (tells (now (marks .entry)) number))
-        r ⌝ }
-{
-    if best.number <= number {
-        return best;
-    }
-    Found {
-        number,
-        border,
-        node,
-        tick: first_tick(marks, number, period),
-    }
-}
-
-// Goes over the places of one border.
-fn judge_border(
-    best: Found,
-    network: &[u8],
-    plan: &[u8],
-    l: Layouts,
-    points: &[u16; MOST_ARCS],
-    briefs: &[u8; MOST_ARCS],
-    first: &[u16; MOST_NODES],
-    next: &[u16; MOST_ARCS],
-    firsts: &[u32; MOST_NODES],
-    lows: &[u8; MOST_NODES],
-    target: Target,
-    so: &mut [u16; RUN_ENDS],
-    vo: &mut [u32; MOST_PERIOD],
-    sa: &mut [u16; RUN_ENDS],
-    va: &mut [u16; MOST_PERIOD],
-    sh: &mut [u16; RUN_ENDS],
-    vh: &mut [u32; MOST_PERIOD],
-    marks: &mut [u8; MOST_PERIOD],
-    finds: &mut u64,
-) -> Found
-    requires { ⌜ AtBorder (now network) (now plan) l (now points) (now first) (now next) (now firsts)
-        target ⌝ }
-    requires { ⌜ Briefs (decode (now network)) (l .network .period) (l .network .arcs) (now briefs)
-        × Lows (now plan) (l .plan) (target .number) (l .plan .nodes) (now lows) ⌝ }
-    requires { ⌜ Lent (now firsts) (now lows) (now so) (now vo) (now sa) (now va) (now sh) (now vh)
-        (now marks) ⌝ }
-    requires { ⌜ Stands (partitionOf (decode (now network))) (decodePlan (now plan)) (target .number) 0
-        best ⌝ }
-    requires { ⌜ now finds + total (nodes (decode (now network)))
-        (nodeFinds (decode (now network)) (decodePlan (now plan)) (target .number)) < 2 ^ 64 ⌝ }
-    ensures { λ r. ⌜ Judged (now (network .entry)) (now (plan .entry)) (target .number) (l .network .nodes)
-        best r (now (finds .entry)) (now (finds .exit))
-        × Lent (now (firsts .entry)) (now (lows .entry)) (now (so .exit)) (now (vo .exit)) (now (sa .exit))
-        (now (va .exit)) (now (sh .exit)) (now (vh .exit)) (now (marks .exit)) ⌝ }
-{
-    let places = l.network.nodes;
-    let mut lowest = best;
-    for node in 0..places {
-        let number = node_verdict::judge(
-            lowest.number,
-            network,
-            plan,
-            l,
-            points,
-            briefs,
-            first,
-            next,
-            firsts,
-            lows,
-            target,
-            node,
-            so,
-            vo,
-            sa,
-            va,
-            sh,
-            vh,
-            marks,
-            finds,
-        );
-        lowest = noted(lowest, number, target.number, node, marks, l.network.period);
-    }
-    lowest
-}
-
-// Goes over the borders; behind one at which the lowest test fails nothing is looked for.
+// Goes over the borders, places and ticks. A number lower than any before is noted with the first tick at
+// which it fails there; behind a border at which the lowest fails nothing is looked for.
 fn first_failing(
     network: &[u8],
     plan: &[u8],
@@ -173,13 +68,13 @@ fn first_failing(
     borders: &[u16; MOST_NODES],
     firsts: &mut [u32; MOST_NODES],
     lows: &mut [u8; MOST_NODES],
-    so: &mut [u16; RUN_ENDS],
-    vo: &mut [u32; MOST_PERIOD],
-    sa: &mut [u16; RUN_ENDS],
-    va: &mut [u16; MOST_PERIOD],
-    sh: &mut [u16; RUN_ENDS],
-    vh: &mut [u32; MOST_PERIOD],
-    marks: &mut [u8; MOST_PERIOD],
+    so: &mut [u16],
+    vo: &mut [u32],
+    sa: &mut [u16],
+    va: &mut [u16],
+    sh: &mut [u16],
+    vh: &mut [u32],
+    marks: &mut [u8],
     finds: &mut u64,
 ) -> Found
     requires { ⌜ Equipped (now network) (now plan) l (now points) (now first) (now next) (now borders) ⌝ }
@@ -193,6 +88,8 @@ fn first_failing(
         (r .number) (now (finds .exit)) ⌝ }
 {
     let count = l.plan.borders;
+    let places = l.network.nodes;
+    let period = l.network.period;
     let mut from = 0;
     let mut best = Found {
         number: NONE,
@@ -201,33 +98,50 @@ fn first_failing(
         tick: 0,
     };
     'borders: for i in 0..count {
-        if best.number <= CHECK_BORDER {
-            break 'borders;
-        }
         from = starts::profile_starts(plan, l.plan, i, from, firsts);
         node_runs::fill_lows(plan, l.plan, firsts, i, lows);
         let target = target_at(network, l.network, borders, i);
-        best = judge_border(
-            best,
-            network,
-            plan,
-            l,
-            points,
-            briefs,
-            first,
-            next,
-            firsts,
-            lows,
-            target,
-            so,
-            vo,
-            sa,
-            va,
-            sh,
-            vh,
-            marks,
-            finds,
-        );
+        'places: for node in 0..places {
+            let number = node_verdict::judge(
+                best.number,
+                network,
+                plan,
+                l,
+                points,
+                briefs,
+                first,
+                next,
+                firsts,
+                lows,
+                target,
+                node,
+                so,
+                vo,
+                sa,
+                va,
+                sh,
+                vh,
+                marks,
+                finds,
+            );
+            if best.number <= number {
+                continue 'places;
+            }
+            'ticks: for tick in 0..period {
+                if node_verdict::fails_at(marks, number, tick) {
+                    best = Found {
+                        number,
+                        border: i,
+                        node,
+                        tick,
+                    };
+                    continue 'places;
+                }
+            }
+        }
+        if best.number <= CHECK_BORDER {
+            break 'borders;
+        }
     }
     best
 }

@@ -45,6 +45,11 @@ pub record Aimed (network : List ℕ) (b : Target) : Type 0 where
   pub cell : b .cell ≡ cell (decode network) (b .node)
   pub flag : b .cell < mostCells
 
+-- the cell of the border with that number
+pub aimed-cell : {network : List ℕ} {b : Target} → Aimed network b
+    → b .cell ≡ cell (decode network) (borderAt (partitionOf (decode network)) (b .number))
+aimed-cell w = rw (w .node) at (w .cell)
+
 -- What every function that reads what arcs give towards a border rests on: both files, and the tables of the
 -- arcs' first points and of the starts of the border's profiles.
 pub record Prepared (network plan : List ℕ) (l : Layouts) (points starts : List ℕ) (b : Target) : Type 0 where

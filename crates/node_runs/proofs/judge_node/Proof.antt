@@ -3,31 +3,12 @@ use mathlib.Core.Path.{refl, _∙_}
 use Prim.Native.Nat.{_-_}
 use Rattle.network.specs.Decode.{decode}
 use Rattle.plan.specs.PlanDecode.{decodePlan}
-use Rattle.plan_tests.specs.Finds.{Counted}
-use Rattle.node_runs.specs.Finding.{
-  foundBefore,
-  counted-none,
-  node-fits,
-  arcs-fit,
-  walk-room,
-  walk-next,
-  walk-end,
-  judged-finds,
-}
+use Rattle.plan_tests.specs.{Finds.Counted, Giving.aimed-cell}
+use Rattle.node_runs.specs.Finding.{foundBefore, counted-none, node-fits, arcs-fit, walk-room}
+use Rattle.node_runs.specs.Finding.{walk-next, walk-end, judged-finds}
 use Rattle.node_runs.specs.Judged.{Judging, judge-first, judge-less, judge-next, judge-end}
-use Rattle.node_runs.specs.Ready.{
-  Stays,
-  node-in,
-  node-place,
-  arc-place,
-  period-in,
-  own-space,
-  own-here,
-  own-at,
-  blank-here,
-  stays-on,
-  rooms-stay,
-}
+use Rattle.node_runs.specs.Ready.{Stays, node-in, node-place, arc-place, period-in, own-space}
+use Rattle.node_runs.specs.Ready.{own-here, own-at, blank-here, stays-on, rooms-stay}
 use borrow.Author.Needs.{needs}
 use Rattle.node_runs.proofs.judge_node.Statement.{statement}
 use Rattle.node_runs.proofs.judge_node.Tie as tie
@@ -45,9 +26,21 @@ abbrev μ-loop : tie.MeasureT-loop
     own arcs a₀ sa va sh vh marks finds a =
     arcs - a
 
+-- places that later ones go back to: the entry, where the node is opened, and where an arc is looked at
+abbrev entry : tie.After-open-node Inv-loop μ-loop → tie.Start Inv-loop μ-loop
+entry c = c .before .before .before .before .before .before .before .before .before .before .before .before
+    .before .before
+
+abbrev opened : tie.At-loop Inv-loop μ-loop → tie.After-open-node Inv-loop μ-loop
+opened c = c .before .before .before .before .before .before .before .before .before
+
+abbrev judging : tie.After-judge-arc Inv-loop μ-loop → tie.In-loop Inv-loop μ-loop
+judging c = c .before .before .before .before .before .before .before .before .before
+
 open-node-requires : tie.Need-open-node-requires Inv-loop μ-loop
-open-node-requires c κs = let s = c .before .before .before .before .before .before .before .before .before
-    .before .before .before .before .pre in
+open-node-requires c κs =
+    let s = c .before .before .before .before .before .before .before .before .before .before .before .before
+    .before .pre in
     let w = s .0 .prepared in
     let k = s .1 .1 in (
       w .check .formed,
@@ -64,36 +57,35 @@ open-node-requires c κs = let s = c .before .before .before .before .before .be
     )
 
 mul-wide : tie.Need-mul-wide Inv-loop μ-loop
-mul-wide c = let s = c .before .before .before .before .before .before .before .before .before .before .before
-    .before .before .before .before .before .before .before .before .before .pre in node-place (s .0 .prepared
-    .check) (s .1 .1 .0 .0) .0
+mul-wide c =
+    let s = entry (c .before .before .before .before .before .before) .pre in
+    node-place (s .0 .prepared .check) (s .1 .1 .0 .0) .0
 
 element-copy-out-wide : tie.Need-element-copy-out-wide Inv-loop μ-loop
-element-copy-out-wide c = let s = c .before .before .before .before .before .before .before .before .before
-    .before .before .before .before .before .before .before .before .before .before .before .pre in node-place
-    (s .0 .prepared .check) (s .1 .1 .0 .0) .1
+element-copy-out-wide c =
+    let s = entry (c .before .before .before .before .before .before) .pre in
+    node-place (s .0 .prepared .check) (s .1 .1 .0 .0) .1
 
 loop-holds : tie.Need-loop-holds Inv-loop μ-loop
-loop-holds c = let s = c .before .before .before .before .before .before .before .before .before .before
-    .before .before .before .before .before .before .before .before .before .before .before .before .pre in
+loop-holds c =
+    let o = c .before .before .before .before .before .before .before .before in
+    let s = entry o .pre in
     let w = s .0 .prepared .check in (
       record { arc-s = refl; arc-v = refl; head-s = refl; head-v = refl; bytes = refl },
       judge-first (w .town) (s .0 .chained) (s .1 .1 .0 .0) (c .wide .ensures .0)
-          (blank-here w (c .before .before .before .before .before .before .before .before .open-node .ensures
-          .1) .none),
+          (blank-here w (o .open-node .ensures .1) .none),
       counted-none _ _,
     )
 
 judge-arc-requires : tie.Need-judge-arc-requires Inv-loop μ-loop
-judge-arc-requires c κs = let s = c .before .before .before .before .before .before .before .before .before
-    .before .before .before .before .before .before .before .before .before .before .before .before
-    .before .before .before .before .before .before .before .before .before .before .before .pre in
+judge-arc-requires c κs =
+    let i = c .before .before .before .before .before .before .before .before in
+    let s = entry (opened (i .before)) .pre in
     let w = s .0 .prepared in
     let k = s .1 .1 in
-    let o = c .before .before .before .before .before .before .before .before .before .before .before .before
-    .before .before .before .before .before .before .open-node in
-    let l = c .before .before .before .before .before .before .before .before .before .loop .inv in
-    let h = c .before .before .before .before .before .before .before .before .loop-test .taken in (
+    let o = opened (i .before) .open-node in
+    let l = i .before .loop .inv in
+    let h = i .loop-test .taken in (
       w,
       (
         s .1 .0,
@@ -101,8 +93,8 @@ judge-arc-requires c κs = let s = c .before .before .before .before .before .be
           (
             h,
             own-at (l .1 .here h)
-                (own-here (w .check) (k .0 .1) (o .ensures .0) (o .kept .1 .1 .1 .1 .1 .0) (o .kept .1 .1 .1
-                .1 .1 .1 .0) (k .1 .0 .0) (k .1 .0 .1)),
+                (own-here (w .check) (k .0 .1) (o .ensures .0) (o .kept .1 .1 .1 .1 .1 .0)
+                (o .kept .1 .1 .1 .1 .1 .1 .0) (k .1 .0 .0) (k .1 .0 .1)),
           ),
           (
             rooms-stay (k .1 .1 .0) (o .kept .1 .1 .1 .1 .1 .1 .1 .0) (l .0),
@@ -113,20 +105,14 @@ judge-arc-requires c κs = let s = c .before .before .before .before .before .be
     )
 
 mul-wide-2 : tie.Need-mul-wide-2 Inv-loop μ-loop
-mul-wide-2 c = arc-place (c .before .before .before .before .before .before .before .before .before .before
-    .before .before .before .before .before .before .before .before .before .before .before .before
-    .before .before .before .before .before .before .before .before .before .before .before .before
-    .before .before .before .before .before .before .before .before .before .pre .0 .prepared .check) (c
-    .before .before .before .before .before .before .before .before .before .before .before .before
-    .before .before .before .before .before .before .before .loop-test .taken) .0
+mul-wide-2 c =
+    let i = judging (c .before .before .before .before .before .before .before .before .before .before) in
+    arc-place (entry (opened (i .before)) .pre .0 .prepared .check) (i .loop-test .taken) .0
 
 element-copy-out-wide-2 : tie.Need-element-copy-out-wide-2 Inv-loop μ-loop
-element-copy-out-wide-2 c = arc-place (c .before .before .before .before .before .before .before .before
-    .before .before .before .before .before .before .before .before .before .before .before .before
-    .before .before .before .before .before .before .before .before .before .before .before .before
-    .before .before .before .before .before .before .before .before .before .before .before .pre .0 .prepared
-    .check) (c .before .before .before .before .before .before .before .before .before .before .before .before
-    .before .before .before .before .before .before .before .loop-test .taken) .1
+element-copy-out-wide-2 c =
+    let i = judging (c .before .before .before .before .before .before .before .before .before .before) in
+    arc-place (entry (opened (i .before)) .pre .0 .prepared .check) (i .loop-test .taken) .1
 
 loop-less : tie.Need-loop-less Inv-loop μ-loop
 loop-less c = judge-less (c .before .before .before .before .before .before .before .before .before .before
@@ -151,25 +137,20 @@ loop-again c = let l = c .before .before .before .before .before .before .before
     )
 
 same-length : tie.Need-same-length Inv-loop μ-loop
-same-length c = c .before .before .before .before .before .before .before .before .before .before .open-node
-    .kept .1 .1 .1 .1 .1 .0
+same-length c = opened (c .before) .open-node .kept .1 .1 .1 .1 .1 .0
 
 same-length-2 : tie.Need-same-length-2 Inv-loop μ-loop
-same-length-2 c = c .before .before .before .before .before .before .before .before .before .before .open-node
-    .kept .1 .1 .1 .1 .1 .1 .0
+same-length-2 c = opened (c .before) .open-node .kept .1 .1 .1 .1 .1 .1 .0
 
 same-length-7 : tie.Need-same-length-7 Inv-loop μ-loop
-same-length-7 c = c .before .loop .inv .0 .bytes ∙ c .before .before .before .before .before .before .before
-    .before .before .before .open-node .kept .1 .1 .1 .1 .1 .1 .1 .0
+same-length-7 c = c .before .loop .inv .0 .bytes ∙ opened (c .before) .open-node .kept .1 .1 .1 .1 .1 .1 .1 .0
 
 returns : tie.Need-returns Inv-loop μ-loop
-returns c = let w = c .before .before .before .before .before .before .before .before .before .before .before
-    .before .before .before .before .before .before .before .before .before .before .before .before
-    .before .pre .0 .prepared in
+returns c =
+    let w = entry (opened (c .before)) .pre .0 .prepared in
     let l = c .before .loop .inv in (
-      judge-end (l .1) (rw (w .aimed .node) at (w .aimed .cell)) (c .loop-test .left),
-      judged-finds w _ (c .before .before .before .before .before .before .before .before .before .before
-          .open-node .ensures .2) (walk-end (l .1) (l .2)),
+      judge-end (l .1) (aimed-cell (w .aimed)) (c .loop-test .left),
+      judged-finds w _ (opened (c .before) .open-node .ensures .2) (walk-end (l .1) (l .2)),
     )
 
 pub judge-node-spec : {M : Type 1} → statement M
