@@ -25,8 +25,8 @@ fill-points-requires c κs =
 narrow-requires : tie.Need-narrow-requires
 narrow-requires c κs =
     let s =
-    c .before .before .before .before .before .before .before .before .before .before .before .before .before
-    .before .before .before .before in
+    c .before .before .before .before .before .before .before .before .before .before .before .before
+    .before .before .before .before .before in
     let r = c .before .before .before .before .before .before .fill-points .ensures .0 in
     let k = c .before .before .before .before .before .before .fill-points .kept .1 .1 .1 .1 .1 .0 in
     let p = s .pre .1 .1 .0 in (
@@ -42,17 +42,17 @@ narrow-requires c κs =
 returns : tie.Need-returns
 returns c =
     let s =
-    c .before .before .before .before .before .before .before .before .before .before .before .before .before
-    .before .before .before .before .before .before .before in
+    c .before .before .before .before .before .before .before .before .before .before .before .before
+    .before .before .before .before .before .before .before .before in
     let r = c .before .before .before .before .before .before .before .before .before
     .fill-points .ensures .0 in
     let f = c .before .before .narrow .ensures in
     let from =
-    c .before .before .before .before .before .before .before .before .before .before .before .before .before
-    .before .wide .ensures .0 in
+    c .before .before .before .before .before .before .before .before .before .before .before .before
+    .before .before .wide .ensures .0 in
     let count =
-    c .before .before .before .before .before .before .before .before .before .before .before .before .before
-    .count .ensures .0 in (
+    c .before .before .before .before .before .before .before .before .before .before .before .before
+    .before .count .ensures .0 in (
       runs-told (s .pre .0) (s .pre .1 .0 .0) (now (s .args .points)) _ _ from (s .pre .1 .0 .1) count r f,
       runs-short (s .pre .0) (s .pre .1 .0 .0) (now (s .args .points)) _ _ from (s .pre .1 .0 .1) count r f,
       omega (

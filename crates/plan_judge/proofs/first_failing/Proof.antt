@@ -133,8 +133,8 @@ places-holds c = let i = c .before .before .before .before .before .before .befo
 
 judge-requires : tie.Need-judge-requires Inv-ticks μ-ticks Inv-places μ-places Inv-borders μ-borders
 judge-requires c κs = let s = c .before .before .before .before .before .before .before .before .before
-    .before .before .before .before .before .before .before .before .before .before .before .before .before
-    .before .before .before .before .before .before .before in
+    .before .before .before .before .before .before .before .before .before .before .before .before
+    .before .before .before .before .before .before .before .before in
     let w = s .pre .0 in
     let t = w .check .town in
     let b = c .before .before .before .before .before .before .before .before .before .before .before .before
@@ -180,35 +180,36 @@ add-node : tie.Need-add-node Inv-ticks μ-ticks Inv-places μ-places Inv-borders
 add-node c = omega (
   arith,
   c .before .before .before .before .before .before .before .before .before .before
-      .before .before .before .before .before .before .before .before .before .before .before .before .before
-      .before .before .before .before .places-test .taken,
+      .before .before .before .before .before .before .before .before .before .before .before .before
+      .before .before .before .before .before .places-test .taken,
   c .before .before .before .before .before .before
-      .before .before .before .before .before .before .before .before .before .before .before .before .before
-      .before .before .before .before .before .before .before .before .before .before .before .before .before
-      .before .before .before .before .before .before .before .before .before .before .before .before .before
-      .before .pre .0 .check .town .small .nodes-most,
+      .before .before .before .before .before .before .before .before .before .before .before .before
+      .before .before .before .before .before .before .before .before .before .before .before .before
+      .before .before .before .before .before .before .before .before .before .before .before .before
+      .before .before .before .before .pre .0 .check .town .small .nodes-most,
 )
 
 places-less : tie.Need-places-less Inv-ticks μ-ticks Inv-places μ-places Inv-borders μ-borders
 places-less c = omega (
   arith,
   c .before .before .before .before .before .before .before .before .before
-      .before .before .before .before .before .before .before .before .before .before .before .before .before
-      .before .before .before .before .before .places-test .taken,
+      .before .before .before .before .before .before .before .before .before .before .before .before
+      .before .before .before .before .before .before .places-test .taken,
 )
 
 places-again : tie.Need-places-again Inv-ticks μ-ticks Inv-places μ-places Inv-borders μ-borders
 places-again c = let w = c .before .before .before .before .before .before .before .before .before .before
-    .before .before .before .before .before .before .before .before .before .before .before .before .before
-    .before .before .before .before .before .before .before .before .before .before .before .before .before
-    .before .before .before .before .before .before .before .before .before .before .pre .0 .check in
+    .before .before .before .before .before .before .before .before .before .before .before .before
+    .before .before .before .before .before .before .before .before .before .before .before .before
+    .before .before .before .before .before .before .before .before .before .before .before .before
+    .pre .0 .check in
     let t = w .town in
     let p = c .before .before .before .before .before .before .before .before .before .before .before .before
-    .before .before .before .before .before .before .before .before .before .before .before .before .before
-    .before .before .before .places .inv in
+    .before .before .before .before .before .before .before .before .before .before .before .before
+    .before .before .before .before .places .inv in
     let e = c .before .before .before .before .before .before .before .before .before .before .before .before
-    .before .before .before .before .before .before .before .before .before .before .before .before .before
-    .before .before .before .before .target-at .ensures .0 in
+    .before .before .before .before .before .before .before .before .before .before .before .before
+    .before .before .before .before .before .target-at .ensures .0 in
     let told = rw (e, t .sizes .period) at (c .before .before .before .before .before .before .before .before
     .before .before .before .before .before .before .before .before .judge .ensures) in
     let k = c .before .before .before .before .before .before .before .before .before .before .before .before
@@ -249,14 +250,14 @@ add-node-2 : tie.Need-add-node-2 Inv-ticks μ-ticks Inv-places μ-places Inv-bor
 add-node-2 c = omega (
   arith,
   c .before .before .before .before .ticks .inv .2,
-  c .before .before .before .before .before .before .before .before .before .before .before .before .before
-      .before .before .before .before .before .before .before .before .before .before .before .before .before
-      .before .before .before .before .before .before .places-test .taken,
-  c .before .before .before .before .before .before .before .before .before .before .before .before .before
-      .before .before .before .before .before .before .before .before .before .before .before .before .before
-      .before .before .before .before .before .before .before .before .before .before .before .before .before
-      .before .before .before .before .before .before .before .before .before .before .before .before .pre .0
-      .check .town .small .nodes-most,
+  c .before .before .before .before .before .before .before .before .before .before .before .before
+      .before .before .before .before .before .before .before .before .before .before .before .before
+      .before .before .before .before .before .before .before .before .places-test .taken,
+  c .before .before .before .before .before .before .before .before .before .before .before .before
+      .before .before .before .before .before .before .before .before .before .before .before .before
+      .before .before .before .before .before .before .before .before .before .before .before .before
+      .before .before .before .before .before .before .before .before .before .before .before .before
+      .before .before .before .pre .0 .check .town .small .nodes-most,
 )
 
 places-less-2 : tie.Need-places-less-2 Inv-ticks μ-ticks Inv-places μ-places Inv-borders μ-borders
@@ -264,38 +265,38 @@ places-less-2 c = omega (
   arith,
   c .before .before .before .before .ticks .inv .2,
   c .before .before .before
-      .before .before .before .before .before .before .before .before .before .before .before .before .before
-      .before .before .before .before .before .before .before .before .before .before .before .before .before
-      .before .before .before .places-test .taken,
+      .before .before .before .before .before .before .before .before .before .before .before .before
+      .before .before .before .before .before .before .before .before .before .before .before .before
+      .before .before .before .before .before .places-test .taken,
 )
 
 places-again-2 : tie.Need-places-again-2 Inv-ticks μ-ticks Inv-places μ-places Inv-borders μ-borders
 places-again-2 c = let w = c .before .before .before .before .before .before .before .before .before .before
-    .before .before .before .before .before .before .before .before .before .before .before .before .before
-    .before .before .before .before .before .before .before .before .before .before .before .before .before
-    .before .before .before .before .before .before .before .before .before .before .before .before .before
-    .before .before .pre .0 .check in
+    .before .before .before .before .before .before .before .before .before .before .before .before
+    .before .before .before .before .before .before .before .before .before .before .before .before
+    .before .before .before .before .before .before .before .before .before .before .before .before
+    .before .before .before .before .before .pre .0 .check in
     let t = w .town in
     let b = c .before .before .before .before .before .before .before .before .before .before .before .before
-    .before .before .before .before .before .before .before .before .before .before .before .before .before
-    .before .before .before .before .before .before .before .before .before .before .before .before .before
-    .before .before .before .borders .inv in
+    .before .before .before .before .before .before .before .before .before .before .before .before
+    .before .before .before .before .before .before .before .before .before .before .before .before
+    .before .before .before .before .before .borders .inv in
     let h = c .before .before .before .before .before .before .before .before .before .before .before .before
-    .before .before .before .before .before .before .before .before .before .before .before .before .before
-    .before .before .before .before .before .before .before .before .before .before .before .before .before
-    .before .before .borders-test .taken in
+    .before .before .before .before .before .before .before .before .before .before .before .before
+    .before .before .before .before .before .before .before .before .before .before .before .before
+    .before .before .before .before .borders-test .taken in
     let p = c .before .before .before .before .before .before .before .before .before .before .before .before
-    .before .before .before .before .before .before .before .before .before .before .before .before .before
-    .before .before .before .before .before .before .before .before .places .inv in
+    .before .before .before .before .before .before .before .before .before .before .before .before
+    .before .before .before .before .before .before .before .before .before .places .inv in
     let n = c .before .before .before .before .before .before .before .before .before .before .before .before
-    .before .before .before .before .before .before .before .before .before .before .before .before .before
-    .before .before .before .before .before .before .before .places-test .taken in
+    .before .before .before .before .before .before .before .before .before .before .before .before
+    .before .before .before .before .before .before .before .before .places-test .taken in
     let e = c .before .before .before .before .before .before .before .before .before .before .before .before
-    .before .before .before .before .before .before .before .before .before .before .before .before .before
-    .before .before .before .before .before .before .before .before .before .target-at .ensures .0 in
+    .before .before .before .before .before .before .before .before .before .before .before .before
+    .before .before .before .before .before .before .before .before .before .before .target-at .ensures .0 in
     let told = rw (e, t .sizes .period) at (c .before .before .before .before .before .before .before .before
-    .before .before .before .before .before .before .before .before .before .before .before .before .before
-    .judge .ensures) in
+    .before .before .before .before .before .before .before .before .before .before .before .before
+    .before .judge .ensures) in
     let l = c .before .before .before .before .before .if1 .left in
     let stands = stands-lower (p .2) (told .0) l (c .before .before .before .before .ticks .inv .3) (omega
     (arith, h, w .borders))
@@ -327,11 +328,11 @@ add-tick c = omega (
   arith,
   c .before .before .before .ticks-test .taken,
   c .before .before .before .before
-      .before .before .before .before .before .before .before .before .before .before .before .before .before
-      .before .before .before .before .before .before .before .before .before .before .before .before .before
-      .before .before .before .before .before .before .before .before .before .before .before .before .before
-      .before .before .before .before .before .before .before .before .pre .0 .check .town .small
-      .period-most,
+      .before .before .before .before .before .before .before .before .before .before .before .before
+      .before .before .before .before .before .before .before .before .before .before .before .before
+      .before .before .before .before .before .before .before .before .before .before .before .before
+      .before .before .before .before .before .before .before .before .before .before .before
+      .pre .0 .check .town .small .period-most,
 )
 
 ticks-again : tie.Need-ticks-again Inv-ticks μ-ticks Inv-places μ-places Inv-borders μ-borders
@@ -346,14 +347,14 @@ add-node-3 : tie.Need-add-node-3 Inv-ticks μ-ticks Inv-places μ-places Inv-bor
 add-node-3 c = omega (
   arith,
   c .before .ticks .inv .2,
-  c .before .before .before .before .before .before .before .before .before .before .before .before .before
-      .before .before .before .before .before .before .before .before .before .before .before .before .before
-      .before .before .before .places-test .taken,
-  c .before .before .before .before .before .before .before .before .before .before .before .before .before
-      .before .before .before .before .before .before .before .before .before .before .before .before .before
-      .before .before .before .before .before .before .before .before .before .before .before .before .before
-      .before .before .before .before .before .before .before .before .before .pre .0 .check .town .small
-      .nodes-most,
+  c .before .before .before .before .before .before .before .before .before .before .before .before
+      .before .before .before .before .before .before .before .before .before .before .before .before
+      .before .before .before .before .before .places-test .taken,
+  c .before .before .before .before .before .before .before .before .before .before .before .before
+      .before .before .before .before .before .before .before .before .before .before .before .before
+      .before .before .before .before .before .before .before .before .before .before .before .before
+      .before .before .before .before .before .before .before .before .before .before .before .before
+      .pre .0 .check .town .small .nodes-most,
 )
 
 places-less-3 : tie.Need-places-less-3 Inv-ticks μ-ticks Inv-places μ-places Inv-borders μ-borders
@@ -361,16 +362,17 @@ places-less-3 c = omega (
   arith,
   c .before .ticks .inv .2,
   c .before .before .before .before .before .before
-      .before .before .before .before .before .before .before .before .before .before .before .before .before
-      .before .before .before .before .before .before .before .before .before .before .places-test .taken,
+      .before .before .before .before .before .before .before .before .before .before .before .before
+      .before .before .before .before .before .before .before .before .before .before .before
+      .places-test .taken,
 )
 
 places-again-3 : tie.Need-places-again-3 Inv-ticks μ-ticks Inv-places μ-places Inv-borders μ-borders
 places-again-3 c = let t = c .before .before .before .before .before .before .before .before .before .before
-    .before .before .before .before .before .before .before .before .before .before .before .before .before
-    .before .before .before .before .before .before .before .before .before .before .before .before .before
-    .before .before .before .before .before .before .before .before .before .before .before .before .pre .0
-    .check .town in
+    .before .before .before .before .before .before .before .before .before .before .before .before
+    .before .before .before .before .before .before .before .before .before .before .before .before
+    .before .before .before .before .before .before .before .before .before .before .before .before
+    .before .before .pre .0 .check .town in
     let told = rw (
       c .before .before .before .before .before .before .before .before .before .before .before
           .before .before .before .before .before .before .before .before .before .before .before .before
@@ -378,8 +380,8 @@ places-again-3 c = let t = c .before .before .before .before .before .before .be
           .before .before .before .before .before .before .before .target-at .ensures .0,
       t .sizes .period,
     ) at (c
-    .before .before .before .before .before .before .before .before .before .before .before .before .before
-    .before .before .before .before .before .judge .ensures) in
+    .before .before .before .before .before .before .before .before .before .before .before .before
+    .before .before .before .before .before .before .judge .ensures) in
     absurd (some-tick (c .before .before .before .before .before .before .before .before .before .before
     .before .before .before .before .before .before .before .before .before .before .before .before
     .before .before .before .before .before .before .before .before .places .inv .2) (told .0) (c .before
@@ -434,8 +436,8 @@ same-length-8 c = omega (
   arith,
   c .before .before .before .places .inv .1 .own-s,
   c .before .before .before
-      .before .before .before .before .before .before .before .before .before .before .before .before .before
-      .before .before .before .before .before .pre .1 .1 .0 .own-s,
+      .before .before .before .before .before .before .before .before .before .before .before .before
+      .before .before .before .before .before .before .pre .1 .1 .0 .own-s,
 )
 
 same-length-9 : tie.Need-same-length-9 Inv-ticks μ-ticks Inv-places μ-places Inv-borders μ-borders
@@ -443,8 +445,8 @@ same-length-9 c = omega (
   arith,
   c .before .before .before .places .inv .1 .own-v,
   c .before .before .before
-      .before .before .before .before .before .before .before .before .before .before .before .before .before
-      .before .before .before .before .before .pre .1 .1 .0 .own-v,
+      .before .before .before .before .before .before .before .before .before .before .before .before
+      .before .before .before .before .before .before .pre .1 .1 .0 .own-v,
 )
 
 same-length-10 : tie.Need-same-length-10 Inv-ticks μ-ticks Inv-places μ-places Inv-borders μ-borders
@@ -452,8 +454,8 @@ same-length-10 c = omega (
   arith,
   c .before .before .before .places .inv .1 .arc-s,
   c .before .before .before
-      .before .before .before .before .before .before .before .before .before .before .before .before .before
-      .before .before .before .before .before .pre .1 .1 .0 .arc-s,
+      .before .before .before .before .before .before .before .before .before .before .before .before
+      .before .before .before .before .before .before .pre .1 .1 .0 .arc-s,
 )
 
 same-length-11 : tie.Need-same-length-11 Inv-ticks μ-ticks Inv-places μ-places Inv-borders μ-borders
@@ -461,8 +463,8 @@ same-length-11 c = omega (
   arith,
   c .before .before .before .places .inv .1 .arc-v,
   c .before .before .before
-      .before .before .before .before .before .before .before .before .before .before .before .before .before
-      .before .before .before .before .before .pre .1 .1 .0 .arc-v,
+      .before .before .before .before .before .before .before .before .before .before .before .before
+      .before .before .before .before .before .before .pre .1 .1 .0 .arc-v,
 )
 
 same-length-12 : tie.Need-same-length-12 Inv-ticks μ-ticks Inv-places μ-places Inv-borders μ-borders
@@ -470,8 +472,8 @@ same-length-12 c = omega (
   arith,
   c .before .before .before .places .inv .1 .head-s,
   c .before .before .before
-      .before .before .before .before .before .before .before .before .before .before .before .before .before
-      .before .before .before .before .before .pre .1 .1 .0 .head-s,
+      .before .before .before .before .before .before .before .before .before .before .before .before
+      .before .before .before .before .before .before .pre .1 .1 .0 .head-s,
 )
 
 same-length-13 : tie.Need-same-length-13 Inv-ticks μ-ticks Inv-places μ-places Inv-borders μ-borders
@@ -479,8 +481,8 @@ same-length-13 c = omega (
   arith,
   c .before .before .before .places .inv .1 .head-v,
   c .before .before .before
-      .before .before .before .before .before .before .before .before .before .before .before .before .before
-      .before .before .before .before .before .pre .1 .1 .0 .head-v,
+      .before .before .before .before .before .before .before .before .before .before .before .before
+      .before .before .before .before .before .before .pre .1 .1 .0 .head-v,
 )
 
 same-length-14 : tie.Need-same-length-14 Inv-ticks μ-ticks Inv-places μ-places Inv-borders μ-borders
@@ -488,8 +490,8 @@ same-length-14 c = omega (
   arith,
   c .before .before .before .places .inv .1 .bytes,
   c .before .before .before
-      .before .before .before .before .before .before .before .before .before .before .before .before .before
-      .before .before .before .before .before .pre .1 .1 .0 .bytes,
+      .before .before .before .before .before .before .before .before .before .before .before .before
+      .before .before .before .before .before .before .pre .1 .1 .0 .bytes,
 )
 
 returns-2 : tie.Need-returns-2 Inv-ticks μ-ticks Inv-places μ-places Inv-borders μ-borders

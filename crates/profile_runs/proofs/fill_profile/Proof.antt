@@ -25,8 +25,8 @@ fill-points-requires c κs =
 returns : tie.Need-returns
 returns c =
     let s =
-    c .before .before .before .before .before .before .before .before .before .before .before .before .before
-    .before .before in
+    c .before .before .before .before .before .before .before .before .before .before .before .before
+    .before .before .before in
     let p = s .pre .1 .1 .0 in
     let k = profile-in (s .pre .0) _ _ (p .0) (p .1) in
     let from =

@@ -45,14 +45,15 @@ settle-requires c κs =
 
 bar-of-requires-2 : tie.Need-bar-of-requires-2 Inv-loop μ-loop
 bar-of-requires-2 c κs =
-    c .before .before .before .before .before .before .before .before .before .before .before .before .before
-    .before .before .before .before .before .before .before .pre .0 .0 .primed .town .small .nodes-most
+    c .before .before .before .before .before .before .before .before .before .before .before .before
+    .before .before .before .before .before .before .before .before
+    .pre .0 .0 .primed .town .small .nodes-most
 
 nearest-requires : tie.Need-nearest-requires Inv-loop μ-loop
 nearest-requires c κs =
-    c .before .before .before .before .before .before .before .before .before .before .before .before .before
-    .before .before .before .before .before .before .before .before .before .pre .0 .0 .primed .town .small
-    .nodes-most
+    c .before .before .before .before .before .before .before .before .before .before .before .before
+    .before .before .before .before .before .before .before .before .before .before
+    .pre .0 .0 .primed .town .small .nodes-most
 
 loop-again : tie.Need-loop-again Inv-loop μ-loop
 loop-again c =
@@ -67,8 +68,8 @@ loop-again c =
 
 show-wanted-requires : tie.Need-show-wanted-requires Inv-loop μ-loop
 show-wanted-requires c κs = (
-  c .before .before .before .before .before .before .before .before .before .before .before .before .before
-      .pre .0 .0 .primed .town .small,
+  c .before .before .before .before .before .before .before .before .before .before .before .before
+      .before .pre .0 .0 .primed .town .small,
   seen-size _ (c .before .before .before .before .loop .inv .0 .heights),
 )
 

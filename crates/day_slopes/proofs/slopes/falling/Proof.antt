@@ -70,7 +70,8 @@ put-requires c κs =
 loop-again : tie.Need-loop-again Inv-loop μ-loop
 loop-again c =
     let s =
-    c .before .before .before .before .before .before .before .before .before .before .before .before .before
+    c .before .before .before .before .before .before .before .before .before .before .before .before
+    .before
     in
     let l = c .before .before .before .before .before .before .before .before .before .loop in (
       search needs,

@@ -61,7 +61,8 @@ put-requires c κs =
 add-parts : tie.Need-add-parts Inv-loop μ-loop
 add-parts c =
     let s =
-    c .before .before .before .before .before .before .before .before .before .before .before .before .before
+    c .before .before .before .before .before .before .before .before .before .before .before .before
+    .before
     in
     let l = c .before .before .before .before .before .before .before .before .before .loop in
     rise-fits (s .pre .0) _ _ _ (s .pre .1 .0) (s .pre .1 .1)
@@ -71,7 +72,8 @@ add-parts c =
 loop-again : tie.Need-loop-again Inv-loop μ-loop
 loop-again c =
     let s =
-    c .before .before .before .before .before .before .before .before .before .before .before .before .before
+    c .before .before .before .before .before .before .before .before .before .before .before .before
+    .before
     in
     let l = c .before .before .before .before .before .before .before .before .before .loop in (
       search needs,

@@ -38,7 +38,8 @@ put-requires c κs =
 sub-parts : tie.Need-sub-parts Inv-loop μ-loop
 sub-parts c =
     let s =
-    c .before .before .before .before .before .before .before .before .before .before .before .before .before
+    c .before .before .before .before .before .before .before .before .before .before .before .before
+    .before
     in
     let l = c .before .before .before .before .before .before .before .before .before .loop in
     let t = c .before .before .before .before .before .before .before .before .loop-test .taken in
@@ -52,7 +53,8 @@ sub-parts c =
 loop-again : tie.Need-loop-again Inv-loop μ-loop
 loop-again c =
     let s =
-    c .before .before .before .before .before .before .before .before .before .before .before .before .before
+    c .before .before .before .before .before .before .before .before .before .before .before .before
+    .before
     in
     let l = c .before .before .before .before .before .before .before .before .before .loop in
     let t = c .before .before .before .before .before .before .before .before .loop-test .taken in
@@ -86,7 +88,8 @@ put-requires-2 c κs =
 returns : tie.Need-returns Inv-loop μ-loop
 returns c =
     let s =
-    c .before .before .before .before .before .before .before .before .before .before .before .before .before
+    c .before .before .before .before .before .before .before .before .before .before .before .before
+    .before
     in
     let l = c .before .before .before .before .before .before .before .before .before .loop in
     let t = c .before .before .before .before .before .before .before .before .loop-test .left in

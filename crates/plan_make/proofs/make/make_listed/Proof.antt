@@ -55,7 +55,8 @@ count-points-requires c κs =
 returns : tie.Need-returns
 returns c =
     let s = c .before .before .before .before .before .before .before .before .before .before .before
-    .before .before .before .before .before .before .before .before .before .before .before .before .before in
+    .before .before .before .before .before .before .before .before .before .before .before .before
+    .before in
     into-many (decode (now (s .args .file))) (now (s .args .out)) _
     (counted-over (decode (now (s .args .file))) (c .before .before .before .before .count-points .ensures)
     (c .before .if1 .taken)) (c .unwritten .ensures)
@@ -63,8 +64,8 @@ returns c =
 make-counted-requires : tie.Need-make-counted-requires
 make-counted-requires c κs =
     let s = c .before .before .before .before .before .before .before .before .before .before .before
-    .before .before .before .before .before .before .before .before .before .before .before .before .before
-    .before .before .before .before .before .before in
+    .before .before .before .before .before .before .before .before .before .before .before .before
+    .before .before .before .before .before .before .before in
     let borders = c .before .before .before .before .before .before .before .before .before .before .before
     .before .before .before .before .before .before .list-borders .ensures in (
       (s .pre .0 .0, s .pre .0 .1),

@@ -42,13 +42,13 @@ write-checks-requires c κs =
 returns : tie.Need-returns
 returns c =
     let s = c .before .before .before .before .before .before .before .before .before .before .before
-    .before .before .before .before .before .before .before .before .before .before .before .before .before
-    .before .before in
+    .before .before .before .before .before .before .before .before .before .before .before .before
+    .before .before .before in
     plan-made (decode (now (s .args .file))) _ _ _ _ _ _ (s .pre .1 .0) (s .pre .1 .1)
     (c .before .before .before .before .before .before .before .before .before .before .before .before
     .before .before .before .before .before .before .before .before .before .write-frames .ensures) (c
-    .before .before .before .before .before .before .before .before .before .before .before .before .before
-    .put-borders .ensures) (c .before .before .before .before .before .before .put-flags .ensures)
+    .before .before .before .before .before .before .before .before .before .before .before .before
+    .before .put-borders .ensures) (c .before .before .before .before .before .before .put-flags .ensures)
     (c .before .before .write-checks .ensures)
 
 pub write-plan-spec : {M : Type 1} → statement M

@@ -72,8 +72,8 @@ returns-2 c =
     .before .before .before .before .before .before .before .before in
     let row = now (s .args .row) in
     let first = first-put (s .args .k) row (s .args .q) (s .pre .0 .0 .some) (s .pre .1) refl (omega arith)
-    (c .before .before .before .before .before .before .before .before .before .before .before .before .before
-    .before .before .put-point .ensures) in
+    (c .before .before .before .before .before .before .before .before .before .before .before .before
+    .before .before .before .put-point .ensures) in
     let parts = put-join first (c .before .before .before .before .before .before .before .before .before
     .before .put-parts .ensures) in
     put-end (put-join parts (c .before .before .put-tick .ensures)) (omega (arith, s .pre .0 .0 .some))
