@@ -1,14 +1,10 @@
 -- What a byte tells of a travel over the day: from 128 on that it is the same at every tick, the byte less
 -- 128, and else a number that it is never below.
-use mathlib.Core.Path.{_≡_}
-use mathlib.Core.List.{List}
+use mathlib.Core.{Path._≡_, List.List}
 use Prim.Native.Nat.{ℕ, _+_, _-_, _%_, _≤_, _<_}
-use native.Mathlib.Decide.{ℕ-discrete}
-use native.Mathlib.Omega.{arith}
-use lib.ListN.{length, getD, set, length-set}
-use lib.Seq.{getD-set-same, getD-set-other}
-use Rattle.network.specs.Network.{Network, start}
-use Rattle.network.specs.Town.{travelAt}
+use native.Mathlib.{Decide.ℕ-discrete, Omega.arith}
+use lib.{ListN.length, ListN.getD, ListN.set, ListN.length-set, Seq.getD-set-same, Seq.getD-set-other}
+use Rattle.network.specs.{Network.Network, Network.start, Town.travelAt}
 use Rattle.day_slopes.specs.Runs.{Runs, Short, runs-none, runs-put}
 use Rattle.day_runs.specs.Bounds.{Floor, Ceiling}
 

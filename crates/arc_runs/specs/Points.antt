@@ -1,12 +1,9 @@
 -- The points of a network file, walked over in their order: what the walk rests on before point q, and that
 -- what code reads there is the network's.
-use mathlib.Core.Path.{_≡_}
-use mathlib.Core.List.{List}
+use mathlib.Core.{Path._≡_, List.List}
 use Prim.Native.Nat.{ℕ, _+_, _*_, _/_, _^_, _≤_, _<_}
-use lib.ListN.{length}
-use lib.Dec.{lit≤}
-use Rattle.file_fields.specs.Block.{blockSize, entriesSize}
-use Rattle.file_fields.specs.Fields.{le16}
+use lib.{ListN.length, Dec.lit≤}
+use Rattle.file_fields.specs.{Block.blockSize, Block.entriesSize, Fields.le16}
 use Rattle.file_blocks.specs.Kind.{pointPer, pointSize}
 use Rattle.file_blocks.specs.declared.walk.Walk.{Walk}
 use Rattle.file_blocks.specs.Walk.{walkAt, stepped, walk-there, walk-entry, walk-may, walk-on}

@@ -1,16 +1,12 @@
 -- The travel of an arc over the day, by the points that its readers found in the file.
-use mathlib.Core.Path.{_≡_, sym, _∙_}
-use mathlib.Core.List.{List}
+use mathlib.Core.{Path._≡_, Path.sym, Path._∙_, List.List}
 use Prim.Native.Nat.{ℕ, _+_, _≤_, _<_}
 use native.Mathlib.Omega.{arith}
 use lib.ListN.{length, getD}
 use Rattle.theory_loops.specs.Fill.{Filled}
-use Rattle.theory_travel.specs.Day.{Day}
-use Rattle.theory_travel.specs.Table.{entryAt, valueAt}
+use Rattle.theory_travel.specs.{Day.Day, Table.entryAt, Table.valueAt}
 use Rattle.network.specs.declared.header.Layout.{Layout}
-use Rattle.network.specs.Network.{count, start}
-use Rattle.network.specs.Decode.{decode}
-use Rattle.network.specs.Town.{travelAt, town-bounded}
+use Rattle.network.specs.{Network.count, Network.start, Decode.decode, Town.travelAt, Town.town-bounded}
 use Rattle.search_chains.specs.Town.{Town}
 use Rattle.search_arcs.specs.Times.{arc-points, arc-day}
 use Rattle.day_slopes.specs.Runs.{Runs, Short, runs-copied, runs-all}

@@ -5,13 +5,10 @@ use Prim.Native.Nat.{ℕ, suc, _+_, _*_, _≤_, _<_}
 use native.Mathlib.Omega.{arith}
 use lib.ListN.{length, getD, take, length-append}
 use lib.Seq.{sets, take-suc, length-take-le}
-use Rattle.theory_loops.specs.Fill.{length-tab}
-use Rattle.theory_loops.specs.Stores.{stored-next}
-use Rattle.file_fields.specs.Fields.{byteOf}
-use Rattle.file_fields.specs.Put.{put, put-stores}
+use Rattle.theory_loops.specs.{Fill.length-tab, Stores.stored-next}
+use Rattle.file_fields.specs.{Fields.byteOf, Put.put, Put.put-stores}
 use Rattle.file_refusals.specs.declared.Refusal.{Refusal}
-use Rattle.search_path.specs.declared.answer.Arrival.{Arrival}
-use Rattle.search_path.specs.declared.answer.Answer.{Answer}
+use Rattle.search_path.specs.declared.answer.{Arrival.Arrival, Answer.Answer}
 use Rattle.search_path.specs.declared.answer.Answer.the-variants.{Arrived, Refused}
 use Rattle.search_path.specs.Says.{tripSays, tripTick, tripCount}
 use Rattle.network.specs.Limits.{mostRoads}

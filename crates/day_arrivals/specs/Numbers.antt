@@ -1,27 +1,20 @@
 -- Which numbers the refusals of a day sheet have: 1 to 10, 37, 25, 34 or 31 before its work
 -- (`begin-numbers`), and 28 after it (`sheet-numbers`).
-use mathlib.Core.Path.{_≡_, refl, ap}
-use mathlib.Core.Logic.{_⊎_, inl, inr}
-use mathlib.Core.List.{List}
+use mathlib.Core.{Path._≡_, Path.refl, Path.ap, Logic._⊎_, Logic.inl, Logic.inr, List.List}
 use Prim.Native.Nat.{ℕ, _*_}
 use native.Mathlib.Omega.{arith}
 use lib.Dec.{eqb, leb, ltb}
 use Rattle.theory_loops.specs.Pick.{cond-holds}
-use Rattle.theory_paths.specs.Earliest.{never}
-use Rattle.theory_paths.specs.Least.{leastTicks}
-use Rattle.file_refusals.specs.Numbered.{Numbered}
-use Rattle.file_refusals.specs.Refusal.{refusal}
+use Rattle.theory_paths.specs.{Earliest.never, Least.leastTicks}
+use Rattle.file_refusals.specs.{Numbered.Numbered, Refusal.refusal}
 use Rattle.file_refusals.specs.declared.Refusal.{Refusal}
 use Rattle.file_refusals.specs.declared.listing.Listing.{Listing}
 use Rattle.file_refusals.specs.declared.listing.Listing.the-variants as answer
 use Rattle.network.specs.declared.answer.Opening.{Opening}
 use Rattle.network.specs.declared.answer.Opening.the-variants.{Opened, Refused}
 use Rattle.network.specs.declared.header.Header.{Header}
-use Rattle.network.specs.Network.{Network}
-use Rattle.network.specs.Decode.{decode}
-use Rattle.network.specs.Numbers.{NetworkNumber, validated-numbers}
-use Rattle.network.specs.Town.{graphOf}
-use Rattle.network.specs.Validate.{validated}
+use Rattle.network.specs.{Network.Network, Decode.decode, Numbers.NetworkNumber, Numbers.validated-numbers}
+use Rattle.network.specs.{Town.graphOf, Validate.validated}
 use Rattle.trip_call.specs.Trip.{andThen}
 use Rattle.day_arrivals.specs.Sheet.{sheetAsked, sheetBegin, listed, sheetAnswer, listing}
 

@@ -1,46 +1,36 @@
 -- What the sheet for the whole day promises, a sentence of wish 7 each, of any call that meets its contract.
 -- Where it lists, each entry is the earliest arrival at that tick (`sheet-listed`): the plain trip's
 -- (`sheet-plain`), and the flagged trip's under an accepted plan (`sheet-flagged`).
-use mathlib.Core.Path.{_≡_, refl, sym, _∙_, ap}
-use mathlib.Core.Logic.{_≢_, _↔_, _⊎_, inl, inr, ⊎-elim}
-use mathlib.Core.Bool.{Bool, true, false}
-use mathlib.Core.List.{List, []}
+use mathlib.Core.{Path._≡_, Path.refl, Path.sym, Path._∙_, Path.ap, Bool.Bool, Bool.true, Bool.false}
+use mathlib.Core.{Logic._≢_, Logic._↔_, Logic._⊎_, Logic.inl, Logic.inr, Logic.⊎-elim, List.List, List.[]}
 use Prim.Native.Nat.{ℕ, _+_, _≤_, _<_}
 use native.Mathlib.Omega.{arith}
-use lib.Dec.{eqb}
-use lib.ListN.{length, getD}
+use lib.{Dec.eqb, ListN.length, ListN.getD}
 use borrow.Author.Tests.{eqb-true, eqb-false}
 use Rattle.theory_loops.specs.Fill.{Filled, length-tab, list-filled}
 use Rattle.theory_paths.specs.Graph.{Graph, all, stop, Reachable, EarliestArrival}
 use Rattle.theory_paths.specs.Drive.{earliest-later, earliest-shift, path-takes}
-use Rattle.theory_paths.specs.Earliest.{never, earliest-unique}
+use Rattle.theory_paths.specs.{Earliest.never, Earliest.earliest-unique, Least.least-earliest}
 use Rattle.theory_paths.specs.Least.{Modest, leastTicks, least-never, least-reach, least-capped}
-use Rattle.theory_paths.specs.Least.{least-earliest}
 use Rattle.file_refusals.specs.declared.Refusal.{Refusal}
-use Rattle.file_refusals.specs.declared.listing.Count.{Count}
-use Rattle.file_refusals.specs.declared.listing.Listing.{Listing}
+use Rattle.file_refusals.specs.declared.listing.{Count.Count, Listing.Listing}
 use Rattle.file_refusals.specs.declared.listing.Listing.the-variants as listing
 use Rattle.file_refusals.specs.Listing.{listingSays, unlisted}
 use Rattle.network.specs.declared.answer.Opening.{Opening}
 use Rattle.network.specs.declared.answer.Opening.the-variants.{Opened, Refused}
 use Rattle.network.specs.declared.header.Header.{Header}
-use Rattle.network.specs.Network.{Network, nodes}
-use Rattle.network.specs.Decode.{decode}
-use Rattle.network.specs.Town.{graphOf}
-use Rattle.network.specs.Validate.{validated}
+use Rattle.network.specs.{Network.Network, Network.nodes, Decode.decode, Town.graphOf, Validate.validated}
 use Rattle.network.specs.Valid.{valid-exactly}
 use Rattle.plan_check.specs.declared.answer.Checking.the-variants.{Accepted}
 use Rattle.plan_check.specs.CheckPlan.{checking}
-use Rattle.search_path.specs.declared.answer.Arrival.{Arrival}
-use Rattle.search_path.specs.declared.answer.Answer.{Answer}
+use Rattle.search_path.specs.declared.answer.{Arrival.Arrival, Answer.Answer}
 use Rattle.search_path.specs.declared.answer.Answer.the-variants.{Arrived}
 use Rattle.toward_node.specs.Turn.{modest}
 use Rattle.toward_list.specs.Work.{workSize, cleared, valid-town}
 use Rattle.trip_call.specs.Drive.{drive-nodes, drive-period}
 use Rattle.trip.specs.Calls.{plainCall, plainPath, flaggedCall, flaggedPath}
 use Rattle.trip_plain.specs.Plain.{PlainTrip}
-use Rattle.trip.specs.Flagged.{FlaggedTrip}
-use Rattle.trip.specs.Promise.{AsGoodAsAny, Passed}
+use Rattle.trip.specs.{Flagged.FlaggedTrip, Promise.AsGoodAsAny, Promise.Passed}
 use Rattle.trip.specs.PlainPromise.{plain-trip, plain-call}
 use Rattle.trip.specs.FlaggedPromise.{accepted-trip, accepted-call}
 use Rattle.day_arrivals.specs.Sheet.{arrivalAt, sheetBegin, listed, sheetAnswer, DaySheet}
@@ -321,10 +311,7 @@ module _ (network : List ℕ) {from to : ℕ} {work₀ work₁ list₀ list₁ :
     sheet-next-day t u l h =
         let day = sheet-listed .1 in
         let e = earliest-shift 1 .0 (day .earliest u h) in
-        omega (
-          arith,
-          earliest-later (small (passed .1) .lawful) (omega arith) (day .earliest t l) e,
-        )
+        omega (arith, earliest-later (small (passed .1) .lawful) (omega arith) (day .earliest t l) e)
 
   -- From a place to itself each entry is its tick.
   pub sheet-home : Passed before → from ≡ to

@@ -1,24 +1,17 @@
 -- The sheet for the whole day, from one place to another: the arrivals that it lists, the refusals in their
 -- order, what becomes of the lent work list and of the lent list, and the call (`DaySheet`).
-use mathlib.Core.Path.{_≡_}
-use mathlib.Core.Bool.{cond}
-use mathlib.Core.List.{List}
+use mathlib.Core.{Path._≡_, Bool.cond, List.List}
 use Prim.Native.Nat.{ℕ, _+_, _*_}
-use lib.ListN.{length}
-use lib.Dec.{eqb, leb, ltb}
+use lib.{ListN.length, Dec.eqb, Dec.leb, Dec.ltb}
 use Rattle.theory_loops.specs.Fill.{tab}
-use Rattle.theory_paths.specs.Earliest.{never}
-use Rattle.theory_paths.specs.Least.{leastTicks}
+use Rattle.theory_paths.specs.{Earliest.never, Least.leastTicks}
 use Rattle.file_refusals.specs.declared.listing.Listing.{Listing}
 use Rattle.file_refusals.specs.declared.listing.Listing.the-variants as answer
 use Rattle.file_refusals.specs.Listing.{unlisted, listAfter}
 use Rattle.network.specs.declared.answer.Opening.{Opening}
 use Rattle.network.specs.declared.answer.Opening.the-variants.{Opened, Refused}
 use Rattle.network.specs.declared.header.Header.{Header}
-use Rattle.network.specs.Network.{Network}
-use Rattle.network.specs.Decode.{decode}
-use Rattle.network.specs.Town.{graphOf}
-use Rattle.network.specs.Validate.{unopened, validated}
+use Rattle.network.specs.{Network.Network, Decode.decode, Town.graphOf, Validate.unopened, Validate.validated}
 use Rattle.toward_list.specs.Work.{cleared}
 use Rattle.trip_call.specs.Trip.{andThen}
 

@@ -1,20 +1,13 @@
 -- FOR THE CODE: what is shown where nothing before the work is refused, a row of travels as the day's
 -- arrivals, and the work list that ends as zero.
-use mathlib.Core.Path.{_≡_, sym, _∙_, ap, subst}
-use mathlib.Core.Logic.{_≢_}
-use mathlib.Core.List.{List, _++_}
+use mathlib.Core.{Path._≡_, Path.sym, Path._∙_, Path.ap, Path.subst, Logic._≢_, List.List, List._++_}
 use Prim.Native.Nat.{ℕ, _+_, _-_, _*_, _^_, _≤_, _<_}
-use native.Mathlib.Nat.{mul-le-mul}
-use native.Mathlib.Omega.{arith}
-use native.Mathlib.Decide.{ℕ-discrete}
-use lib.ListN.{length, getD, take, drop}
-use lib.Dec.{leb, ltb}
+use native.Mathlib.{Nat.mul-le-mul, Omega.arith, Decide.ℕ-discrete}
+use lib.{ListN.length, ListN.getD, ListN.take, ListN.drop, Dec.leb, Dec.ltb}
 use borrow.Author.Tests.{leb-false, ltb-false, lt-leb, le-ltb, eq-eqb, ne-eqb}
 use Rattle.theory_loops.specs.Fill.{Filled, tab, length-tab, fill-within, overwritten, filled-list}
-use Rattle.theory_loops.specs.Grid.{gridAt}
-use Rattle.theory_loops.specs.Pick.{passed-by}
-use Rattle.theory_paths.specs.Earliest.{never}
-use Rattle.theory_paths.specs.Graph.{Graph}
+use Rattle.theory_loops.specs.{Grid.gridAt, Pick.passed-by}
+use Rattle.theory_paths.specs.{Earliest.never, Graph.Graph}
 use Rattle.theory_paths.specs.Least.{leastTicks, least-reach, least-bound, least-capped}
 use Rattle.file_refusals.specs.declared.Refusal.{Refusal}
 use Rattle.file_refusals.specs.declared.listing.Listing.{Listing}
@@ -22,19 +15,13 @@ use Rattle.file_refusals.specs.declared.listing.Listing.the-variants as answer
 use Rattle.file_refusals.specs.Listing.{unlisted, listAfter}
 use Rattle.network.specs.declared.answer.Opening.{Opening}
 use Rattle.network.specs.declared.answer.Opening.the-variants.{Opened, Refused}
-use Rattle.network.specs.declared.header.Header.{Header}
-use Rattle.network.specs.declared.header.Layout.{Layout}
-use Rattle.network.specs.Layout.{layoutOf}
-use Rattle.network.specs.Limits.{mostNodes, mostPeriod}
-use Rattle.network.specs.Network.{Network, nodes}
-use Rattle.network.specs.Decode.{decode}
-use Rattle.network.specs.Town.{graphOf}
-use Rattle.network.specs.Validate.{unopened, validated}
+use Rattle.network.specs.declared.header.{Header.Header, Layout.Layout}
+use Rattle.network.specs.{Layout.layoutOf, Limits.mostNodes, Limits.mostPeriod, Decode.decode, Town.graphOf}
+use Rattle.network.specs.{Network.Network, Network.nodes, Validate.unopened, Validate.validated}
 use Rattle.network.specs.Valid.{ValidFile, valid-exactly}
 use Rattle.search_chains.specs.Town.{Town}
-use Rattle.toward_list.specs.Rows.{WorkedRow}
+use Rattle.toward_list.specs.{Rows.WorkedRow, Work.size-is, Work.work-cleared}
 use Rattle.toward_node.specs.Turn.{modest}
-use Rattle.toward_list.specs.Work.{size-is, work-cleared}
 use Rattle.trip_call.specs.Stage.{not-opened, one-header, then-passed}
 use Rattle.day_arrivals.specs.Sheet.{arrivalAt, dayArrivals, sheetAsked, sheetBegin, listed, SheetCall}
 use Rattle.day_arrivals.specs.Sheet.{DaySheet}
@@ -145,10 +132,7 @@ module _ {file : List ℕ} {l : Layout} (town : Town file l) {from to p : ℕ} {
   pub row-none : {r : Listing} {list : List ℕ} → getD W p 0 ≡ never → r ≡ unlisted 28
       → Lists n from to list list r
   unfolding listed
-  row-none e f = record {
-    answer = rw (eq-eqb (leastTicks g to from 0) never (sym first ∙ e)) f;
-    list = rw f;
-  }
+  row-none e f = record { answer = rw (eq-eqb (leastTicks g to from 0) never (sym first ∙ e)) f; list = rw f }
 
   module _ (e : getD W p 0 ≢ never) where
     way : (t : ℕ) → t < g .period → leastTicks g to from t ≤ (g .nodes - 1) * g .period
@@ -218,11 +202,7 @@ module _ (network : List ℕ) (from to : ℕ) (work₀ list₀ : List ℕ) (b : 
   pub sheet-opened : {h : Header} {work₁ list₁ : List ℕ} {r : Listing} → b ≡ Opened h
       → SheetCall (Opened h) (decode network) from to work₀ work₁ list₀ list₁ r
       → DaySheet network from to work₀ work₁ list₀ list₁ r
-  sheet-opened f c = record {
-    answer = rw (← e, f) (c .answer);
-    work = rw (← e, f) (c .work);
-    list = c .list;
-  }
+  sheet-opened f c = record { answer = rw (← e, f) (c .answer); work = rw (← e, f) (c .work); list = c .list }
 
 -- for `search sheets` where the sheet answers
 pub ruleset sheets = (sheet-valid, sheet-asks, sheet-refused, sheet-opened)

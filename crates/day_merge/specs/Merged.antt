@@ -1,16 +1,11 @@
 -- What a merge leaves in the bytes of the ticks: bit 1 where the arc gives less than the node's own profile
 -- says, and the bits of `same` where it gives just that. Bits that stay the same from one span to the next
 -- wait, and are painted together.
-use mathlib.Core.Path.{_≡_, refl, sym, _∙_}
-use mathlib.Core.Logic.{_⊎_, inl, inr}
-use mathlib.Core.Bool.{cond}
+use mathlib.Core.{Path._≡_, Path.refl, Path.sym, Path._∙_, Logic._⊎_, Logic.inl, Logic.inr, Bool.cond}
 use mathlib.Core.List.{List}
 use Prim.Native.Nat.{ℕ, _+_, _-_, _%_, _≤_, _<_}
-use native.Mathlib.Decide.{decLt}
-use native.Mathlib.Omega.{arith}
-use lib.ListN.{length, getD}
-use lib.Dec.{ltb, eqb}
-use lib.Bits.{bitOr, or-zero-r}
+use native.Mathlib.{Decide.decLt, Omega.arith}
+use lib.{ListN.length, ListN.getD, Dec.ltb, Dec.eqb, Bits.bitOr, Bits.or-zero-r}
 use borrow.Author.Tests.{lt-ltb, le-ltb, eq-eqb, ne-eqb}
 use Rattle.theory_loops.specs.Fill.{Filled, fill-none}
 use Rattle.day_slopes.specs.Runs.{Runs}

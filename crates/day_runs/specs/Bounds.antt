@@ -2,8 +2,7 @@
 -- the one or above the other.
 use mathlib.Core.Path.{_≡_}
 use Prim.Native.Nat.{ℕ, _+_, _≤_, _<_, min, max}
-use native.Mathlib.Decide.{ℕ-discrete}
-use native.Mathlib.Omega.{arith}
+use native.Mathlib.{Decide.ℕ-discrete, Omega.arith}
 use Rattle.theory_travel.specs.Day.{Day, dayValue, day-least, day-most}
 
 -- m is at most the first k numbers, and at least them

@@ -1,8 +1,7 @@
 -- A day's runs, filled point by point: the runs before point k are the day's, the last of them open, and the
 -- line from point k to the next gives those up to the next. The laws know the points as functions, so that
 -- whoever reads them in place has them.
-use mathlib.Core.Path.{_≡_, sym}
-use mathlib.Core.List.{List}
+use mathlib.Core.{Path._≡_, Path.sym, List.List}
 use Prim.Native.Nat.{ℕ, _+_, _≤_, _<_}
 use native.Mathlib.Omega.{arith}
 use lib.ListN.{length, getD}

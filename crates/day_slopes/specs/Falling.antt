@@ -1,11 +1,8 @@
 -- The runs of a line that falls by less than its ticks: the laws of the loop that puts them.
-use mathlib.Core.Path.{_≡_, _∙_, ap}
-use mathlib.Core.List.{List}
+use mathlib.Core.{Path._≡_, Path._∙_, Path.ap, List.List}
 use Prim.Native.Nat.{ℕ, _+_, _-_, _*_, _/_, _≤_, _<_}
-use native.Mathlib.Nat.{mul-le-mul-right, div-mul-le-self}
-use native.Mathlib.Omega.{arith}
-use mir.Val.{Fits}
-use mir.Syntax.{w64}
+use native.Mathlib.{Nat.mul-le-mul-right, Nat.div-mul-le-self, Omega.arith}
+use mir.{Val.Fits, Syntax.w64}
 use lib.ListN.{set}
 use Rattle.theory_travel.specs.Pieces.{lineAt}
 use Rattle.travel_runs.specs.Fixed.{stepDown, ceiled, climb-ceiled}

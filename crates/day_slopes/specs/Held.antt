@@ -1,8 +1,7 @@
 -- The runs of one piece put after those before it: what the loops hold, the law of one run more, and the
 -- pieces of one run. All is told for whatever day the runs before are of, so that code needs no such
 -- argument.
-use mathlib.Core.Path.{_≡_, refl, _∙_}
-use mathlib.Core.List.{List}
+use mathlib.Core.{Path._≡_, Path.refl, Path._∙_, List.List}
 use Prim.Native.Nat.{ℕ, _+_, _≤_, _<_}
 use native.Mathlib.Omega.{arith}
 use lib.ListN.{length, getD, set, length-set}

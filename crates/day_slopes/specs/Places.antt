@@ -1,8 +1,7 @@
 -- Where the runs of a line begin, d of them in n ticks: no run is empty where there are at least as many
 -- ticks as runs, and the last run of a rising line begins before the piece ends.
 use Prim.Native.Nat.{ℕ, _+_, _*_, _≤_, _<_}
-use native.Mathlib.Nat.{mul-le-mul-right, lt-of-mul-lt-mul-right}
-use native.Mathlib.Omega.{arith}
+use native.Mathlib.{Nat.mul-le-mul-right, Nat.lt-of-mul-lt-mul-right, Omega.arith}
 use Rattle.travel_runs.specs.Fixed.{floored, ceiled, floored-is, ceiled-is}
 
 module _ (n d : ℕ) (some : 0 < d) where

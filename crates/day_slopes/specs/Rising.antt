@@ -1,13 +1,8 @@
 -- The runs of a line that rises by less than its ticks: the laws of the loop that puts them.
-use mathlib.Core.Path.{_≡_, _∙_, ap, subst}
-use mathlib.Core.List.{List}
+use mathlib.Core.{Path._≡_, Path._∙_, Path.ap, Path.subst, List.List}
 use Prim.Native.Nat.{ℕ, zero, suc, _+_, _-_, _*_, _/_, _≤_, _<_}
-use native.Mathlib.Nat.{mul-le-mul-right, div-mul-le-self}
-use native.Mathlib.Numerals.{add-one}
-use native.Mathlib.Decide.{decLt}
-use native.Mathlib.Omega.{arith}
-use mir.Val.{Fits}
-use mir.Syntax.{w64}
+use native.Mathlib.{Nat.mul-le-mul-right, Nat.div-mul-le-self, Numerals.add-one, Decide.decLt, Omega.arith}
+use mir.{Val.Fits, Syntax.w64}
 use lib.ListN.{set}
 use Rattle.theory_travel.specs.Pieces.{lineAt}
 use Rattle.travel_runs.specs.Fixed.{stepUp, floored, climb-floored}

@@ -1,13 +1,9 @@
 -- A day as runs of equal value: run i holds the ticks from starts[i] up to starts[i + 1], where starts[n] is
 -- the period.
-use mathlib.Core.Path.{_≡_, sym, _∙_}
-use mathlib.Core.List.{List}
+use mathlib.Core.{Path._≡_, Path.sym, Path._∙_, List.List}
 use Prim.Native.Nat.{ℕ, zero, suc, _+_, _-_, _≤_, _<_}
-use native.Mathlib.Numerals.{add-one}
-use native.Mathlib.Decide.{ℕ-discrete, decLt}
-use native.Mathlib.Omega.{arith}
-use lib.ListN.{length, getD, set}
-use lib.Seq.{getD-set-same, getD-set-other}
+use native.Mathlib.{Numerals.add-one, Decide.ℕ-discrete, Decide.decLt, Omega.arith}
+use lib.{ListN.length, ListN.getD, ListN.set, Seq.getD-set-same, Seq.getD-set-other}
 
 -- ticks that part a day into n runs
 pub record Grid (starts : List ℕ) (n period : ℕ) : Type 0 where
@@ -74,12 +70,7 @@ module _ (f : ℕ → ℕ) where
   runs-none starts values e =
       record {
         grid =
-            record {
-              begun =
-                  e;
-              ended = e;
-              rise = λ i l. absurd (omega arith);
-            };
+            record { begun = e; ended = e; rise = λ i l. absurd (omega arith) };
         held = λ i x l. absurd (omega arith);
       }
 

@@ -1,12 +1,10 @@
 -- The runs of a line that rises or falls by its ticks or more, one for each tick: the laws of the loops.
-use mathlib.Core.Path.{_≡_, _∙_}
-use mathlib.Core.List.{List}
+use mathlib.Core.{Path._≡_, Path._∙_, List.List}
 use Prim.Native.Nat.{ℕ, _+_, _-_, _*_, _≤_, _<_}
 use native.Mathlib.Omega.{arith}
 use lib.ListN.{set}
 use Rattle.theory_travel.specs.Pieces.{lineAt}
-use Rattle.travel_runs.specs.Fixed.{stepUp, stepDown}
-use Rattle.travel_runs.specs.Runs.{value-first}
+use Rattle.travel_runs.specs.{Fixed.stepUp, Fixed.stepDown, Runs.value-first}
 use Rattle.day_slopes.specs.Held.{Added, Held, Room, held-start, held-put, held-next}
 use Rattle.day_slopes.specs.Walk.{climbed, sunk, line-climbed, line-sunk}
 

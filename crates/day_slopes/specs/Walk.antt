@@ -5,11 +5,9 @@ use mathlib.Core.Path.{_≡_, sym, _∙_}
 use Prim.Native.Nat.{ℕ, _+_, _-_, _*_, _/_, _≤_, _<_}
 use native.Mathlib.Nat.{mul-le-mul-right, div-mul-le-self, le-of-lt, div-eq-of-lt-le, div-lt-iff-lt-mul}
 use native.Mathlib.Omega.{arith}
-use mir.Val.{Fits}
-use mir.Syntax.{w64}
-use Rattle.theory_travel.specs.Pieces.{lineAt}
+use mir.{Val.Fits, Syntax.w64}
+use Rattle.theory_travel.specs.{Pieces.lineAt, Line.line-rising, Line.line-falling}
 use Rattle.travel_runs.specs.Fixed.{stepUp, stepDown, floored, ceiled, climb-ceiled}
-use Rattle.theory_travel.specs.Line.{line-rising, line-falling}
 use Rattle.travel_runs.specs.Fixed.{steps-floored}
 
 -- the parts at tick x, of a walk that starts at tick a

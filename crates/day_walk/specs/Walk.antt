@@ -1,12 +1,9 @@
 -- Where a walk over runs stands, and on which ticks nothing changes.
-use mathlib.Core.Path.{_≡_, sym, _∙_, ap}
-use mathlib.Core.List.{List}
+use mathlib.Core.{Path._≡_, Path.sym, Path._∙_, Path.ap, List.List}
 use Prim.Native.Nat.{ℕ, _+_, _-_, _%_, _≤_, _<_}
-use native.Mathlib.Nat.{mod-eq-of-lt, mod-eq-sub-mod, mod-add-mod}
-use native.Mathlib.Decide.{ℕ-discrete, decLt}
+use native.Mathlib.{Nat.mod-eq-of-lt, Nat.mod-eq-sub-mod, Nat.mod-add-mod, Decide.ℕ-discrete, Decide.decLt}
 use native.Mathlib.Omega.{arith}
-use lib.ListN.{length, getD}
-use lib.Dec.{leb}
+use lib.{ListN.length, ListN.getD, Dec.leb}
 use mir.Val.{boolByte}
 use borrow.Author.Tests.{le-leb, lt-leb}
 use Rattle.day_slopes.specs.Runs.{Grid, starts-within}

@@ -1,19 +1,16 @@
 -- Import: the network that a text gives, the answer for any text, network number and lent bytes, and the
 -- call.
-use mathlib.Core.Path.{_≡_, refl, sym, _∙_}
-use mathlib.Core.List.{List, [], map}
+use mathlib.Core.{Path._≡_, Path.refl, Path.sym, Path._∙_, List.List, List.[], List.map}
 use Prim.Native.Nat.{ℕ, _-_}
 use lib.ListN.{length, replicate}
 use Rattle.file_refusals.specs.declared.Refusal.{Refusal}
 use Rattle.file_refusals.specs.declared.writing.Writing.{Writing}
 use Rattle.file_refusals.specs.declared.writing.Writing.the-variants.{Refused}
 use Rattle.file_refusals.specs.Writing.{writtenInto, Writes}
-use Rattle.network.specs.Limits.{mostPeriod}
-use Rattle.network.specs.Network.{Network}
+use Rattle.network.specs.{Limits.mostPeriod, Network.Network}
 use Rattle.network_encode.specs.Encode.{encode}
 use Rattle.text_lines.specs.Lines.{linesOf}
-use Rattle.dimacs_line.specs.declared.line.Sizes.{Sizes}
-use Rattle.dimacs_line.specs.declared.line.Arc.{Arc}
+use Rattle.dimacs_line.specs.declared.line.{Sizes.Sizes, Arc.Arc}
 use Rattle.dimacs_reading.specs.declared.verdict.Judgement.{Judgement}
 use Rattle.dimacs_reading.specs.declared.verdict.Judgement.the-variants.{Accepted, Refused as Rejected}
 use Rattle.dimacs_reading.specs.Reading.{judging}

@@ -1,23 +1,17 @@
 -- The network that a text gives: its entries, and that those of an accepted text are proper and sound.
-use mathlib.Core.Path.{_≡_, sym, _∙_}
-use mathlib.Core.List.{List, map}
+use mathlib.Core.{Path._≡_, Path.sym, Path._∙_, List.List, List.map}
 use Prim.Native.Nat.{ℕ, _-_, _<_}
-use native.Mathlib.Decide.{decLt}
-use native.Mathlib.Omega.{arith}
+use native.Mathlib.{Decide.decLt, Omega.arith}
 use lib.ListN.{length, getD, replicate, length-map, length-replicate, getD-replicate, List·getD-map}
-use lib.ListN.{List·getD-eq-default}
-use lib.Dec.{lit≤}
+use lib.{ListN.List·getD-eq-default, Dec.lit≤}
 use Rattle.text_lines.specs.Lines.{linesOf}
 use Rattle.network.specs.declared.header.Header.{Header}
 use Rattle.network.specs.Limits.{mostPeriod, WithinLimits}
 use Rattle.network.specs.Network.{cell, tail, head, count, tick, travel}
 use Rattle.network_encode.specs.Encode.{headerOf}
-use Rattle.dimacs_line.specs.declared.line.Sizes.{Sizes}
-use Rattle.dimacs_line.specs.declared.line.Arc.{Arc}
+use Rattle.dimacs_line.specs.declared.line.{Sizes.Sizes, Arc.Arc}
 use Rattle.dimacs_reading.specs.declared.verdict.Judgement.the-variants.{Accepted}
-use Rattle.dimacs_reading.specs.Reading.{judging}
-use Rattle.dimacs_reading.specs.Accepted.{Within}
-use Rattle.dimacs_reading.specs.AcceptedExact.{accepted-exactly}
+use Rattle.dimacs_reading.specs.{Reading.judging, Accepted.SizesWithin, AcceptedExact.accepted-exactly}
 use Rattle.dimacs_text.specs.Arcs.{arcsOf, arcAt, nowhere, Fit, text-arcs, text-fit}
 use Rattle.dimacs_import.specs.Import.{networkBy}
 
@@ -82,7 +76,7 @@ module _ (number : ℕ) (k : Sizes) (arcs : List Arc) (f : Fit k arcs) where
         hours = 0;
       }
 
-pub header-within : (number : ℕ) (k : Sizes) → Within k → WithinLimits (headerFor number k)
+pub header-within : (number : ℕ) (k : Sizes) → SizesWithin k → WithinLimits (headerFor number k)
 header-within number k w = record {
   period-some = lit≤ tt;
   period-most = lit≤ tt;

@@ -1,51 +1,36 @@
 -- What an import is good for: where a text is imported, it is one that the wish describes, and opening the
 -- file shows each of its arcs once, in order, nodes lowered by one, its weight the travel at every tick
 -- (`imported-opens`); where it is not, the refusal is 35, 36 or 31 (`import-numbers`).
-use mathlib.Core.Path.{_≡_, refl, sym, _∙_, ap, subst⁻¹}
-use mathlib.Core.Logic.{_⊎_, inl, inr}
-use mathlib.Core.Bool.{false, cond}
-use mathlib.Core.List.{List}
+use mathlib.Core.{Path._≡_, Path.refl, Path.sym, Path._∙_, Path.ap, Path.subst⁻¹, Bool.false, Bool.cond}
+use mathlib.Core.{Logic._⊎_, Logic.inl, Logic.inr, List.List}
 use Prim.Native.Nat.{ℕ, _-_, _^_, _<_}
 use native.Mathlib.Omega.{arith}
 use lib.ListN.{length, getD, take, List·getD-append, length-map, length-replicate}
-use lib.ListN.{getD-replicate}
-use lib.Seq.{take-at}
-use lib.Dec.{eqb, ltb}
-use Rattle.theory_loops.specs.Fill.{overwritten}
-use Rattle.theory_loops.specs.Pick.{cond-holds, passed-by}
+use lib.{ListN.getD-replicate, Seq.take-at, Dec.eqb, Dec.ltb}
+use Rattle.theory_loops.specs.{Fill.overwritten, Pick.cond-holds, Pick.passed-by}
 use Rattle.file_refusals.specs.declared.Refusal.{Refusal}
-use Rattle.file_refusals.specs.Refusal.{refusal}
-use Rattle.file_refusals.specs.declared.writing.Length.{Length}
-use Rattle.file_refusals.specs.declared.writing.Writing.{Writing}
+use Rattle.file_refusals.specs.{Refusal.refusal, Writing.writtenInto}
+use Rattle.file_refusals.specs.declared.writing.{Length.Length, Writing.Writing}
 use Rattle.file_refusals.specs.declared.writing.Writing.the-variants.{Written, Refused}
-use Rattle.file_refusals.specs.Writing.{writtenInto}
 use Rattle.network.specs.declared.answer.Opening.{Opening}
 use Rattle.network.specs.declared.answer.Opening.the-variants.{Opened}
 use Rattle.network.specs.declared.header.Header.{Header}
-use Rattle.network.specs.Limits.{mostPeriod}
-use Rattle.network.specs.Decode.{decode}
-use Rattle.network.specs.Network.{Network}
-use Rattle.network.specs.Tables.{Tables}
-use Rattle.network.specs.Town.{travelAt}
-use Rattle.network.specs.Valid.{valid-exactly}
-use Rattle.network.specs.Validate.{validated}
+use Rattle.network.specs.{Limits.mostPeriod, Decode.decode, Network.Network, Tables.Tables, Town.travelAt}
+use Rattle.network.specs.{Valid.valid-exactly, Validate.validated}
 use Rattle.network_open.specs.Open.{tooShort, tablesAfter, OpenCall}
 use Rattle.network_encode.specs.Encode.{headerOf, encode}
 use Rattle.network_pack.specs.RoundTrip.{decode-encode, encode-valid}
 use Rattle.text_lines.specs.Lines.{linesOf}
-use Rattle.dimacs_line.specs.declared.line.Sizes.{Sizes}
-use Rattle.dimacs_line.specs.declared.line.Arc.{Arc}
+use Rattle.dimacs_line.specs.declared.line.{Sizes.Sizes, Arc.Arc}
 use Rattle.dimacs_reading.specs.declared.verdict.Judgement.{Judgement}
 use Rattle.dimacs_reading.specs.declared.verdict.Judgement.the-variants.{Accepted, Refused as Rejected}
 use Rattle.dimacs_reading.specs.declared.reading.Reading.{Reading}
 use Rattle.dimacs_reading.specs.Reading.{begun, readAll, unfinished, judged, judging}
-use Rattle.dimacs_reading.specs.Accepted.{RoadText}
-use Rattle.dimacs_reading.specs.AcceptedExact.{accepted-exactly}
+use Rattle.dimacs_reading.specs.{Accepted.RoadText, AcceptedExact.accepted-exactly}
 use Rattle.dimacs_text.specs.Arcs.{arcAt, Fit, text-arcs, text-fit}
 use Rattle.dimacs_import.specs.Import.{networkBy, imported, importedFile, answerBy, importing}
-use Rattle.dimacs_import.specs.Import.{ImportCall}
+use Rattle.dimacs_import.specs.{Import.ImportCall, Imported.headerFor, Imported.header-is}
 use Rattle.dimacs_import.specs.Imported.{cell-at, tail-at, head-at, count-at, tick-at, travel-at}
-use Rattle.dimacs_import.specs.Imported.{headerFor, header-is}
 use Rattle.dimacs_import.specs.Sound.{imported-proper, imported-sound, imported-travel}
 
 -- the header and the tables that Open leaves, by a text's sizes and roads

@@ -1,7 +1,6 @@
 -- The file of a network whose arcs are noted in tables, and that those of an accepted text make the network
 -- that the text gives.
-use mathlib.Core.Path.{_≡_, refl, sym, _∙_, ap}
-use mathlib.Core.List.{List, _∷_}
+use mathlib.Core.{Path._≡_, Path.refl, Path.sym, Path._∙_, Path.ap, List.List, List._∷_}
 use Prim.Native.Nat.{ℕ, zero, suc, _-_, _*_, _^_, _≤_, _<_}
 use native.Mathlib.Omega.{arith}
 use lib.ListN.{length, getD, take, replicate, length-map, length-replicate}
@@ -13,23 +12,18 @@ use Rattle.file_refusals.specs.declared.writing.Writing.the-variants.{Written}
 use Rattle.file_refusals.specs.Writing.{unwritten, writtenInto, Writes, into-short, into-whole}
 use Rattle.text_lines.specs.Lines.{linesOf}
 use Rattle.network.specs.declared.header.Layout.{Layout}
-use Rattle.network.specs.Limits.{mostNodes, mostArcs, mostPeriod}
+use Rattle.network.specs.{Limits.mostNodes, Limits.mostArcs, Limits.mostPeriod, Validate.blocks-few}
 use Rattle.network.specs.Layout.{layoutOf, layout-blocks, mostBlocks}
 use Rattle.network.specs.Network.{tail, head, travel}
 use Rattle.network.specs.Tables.{Tables, tables, networkOf}
-use Rattle.network.specs.Validate.{blocks-few}
-use Rattle.network_encode.specs.Encode.{encode}
-use Rattle.network_encode.specs.Packable.{Packable}
+use Rattle.network_encode.specs.{Encode.encode, Packable.Packable}
 use Rattle.network_pack.specs.Proper.{packed-long}
-use Rattle.dimacs_line.specs.declared.line.Sizes.{Sizes}
-use Rattle.dimacs_line.specs.declared.line.Arc.{Arc}
-use Rattle.dimacs_reading.specs.Accepted.{Within}
-use Rattle.dimacs_text.specs.Arcs.{arcsOf, arcAt, Fit}
+use Rattle.dimacs_line.specs.declared.line.{Sizes.Sizes, Arc.Arc}
+use Rattle.dimacs_reading.specs.{Accepted.SizesWithin, Reading.judging}
+use Rattle.dimacs_text.specs.{Arcs.arcsOf, Arcs.arcAt, Arcs.Fit, Noting.JudgedInto}
 use Rattle.dimacs_reading.specs.declared.verdict.Judgement.{Judgement}
 use Rattle.dimacs_reading.specs.declared.verdict.Judgement.the-variants.{Accepted}
-use Rattle.dimacs_reading.specs.Reading.{judging}
 use Rattle.dimacs_text.specs.Noting.{lowered, shortened, tailOf, headOf, travelOf, TablesLong, Column, Noted}
-use Rattle.dimacs_text.specs.Noting.{JudgedInto}
 use Rattle.dimacs_import.specs.Import.{networkBy, ImportCall, import-accepted}
 use Rattle.dimacs_import.specs.Imported.{tail-at, head-at, travel-at, accepted-fit, headerFor}
 use Rattle.dimacs_import.specs.Imported.{header-within}
@@ -44,12 +38,12 @@ abbrev pub roadsFile : ℕ → Sizes → List ℕ → List ℕ → List ℕ → 
 roadsFile number k tails heads travels =
     encode (networkOf (headerFor number k) (roadTables tails heads travels))
 
-pub roads-few : (number : ℕ) (k : Sizes) (l : Layout) → Within k → l ≡ layoutOf (headerFor number k)
+pub roads-few : (number : ℕ) (k : Sizes) (l : Layout) → SizesWithin k → l ≡ layoutOf (headerFor number k)
     → l .blocks ≤ mostBlocks
 roads-few number k l w is = blocks-few (headerFor number k) l (header-within number k w) is
 
 -- FOR THE CODE: its writing
-module _ (number : ℕ) (k : Sizes) (l : Layout) (tails heads travels : List ℕ) (w : Within k)
+module _ (number : ℕ) (k : Sizes) (l : Layout) (tails heads travels : List ℕ) (w : SizesWithin k)
     (t : TablesLong tails heads travels) (b : number < 2 ^ 32) (is : l ≡ layoutOf (headerFor number k)) where
   pub roads-packable : Packable (headerFor number k) l (roadTables tails heads travels)
   roads-packable =
@@ -173,7 +167,7 @@ roads-imported text number k tails heads travels before after j r h e w =
     after r w
 
 pub accepted-within : (text : List ℕ) (k : Sizes) (tails heads travels : List ℕ) (j : Judgement)
-    → JudgedInto text j tails heads travels → j ≡ Accepted k → Within k × TablesLong tails heads travels
+    → JudgedInto text j tails heads travels → j ≡ Accepted k → SizesWithin k × TablesLong tails heads travels
 accepted-within text k tails heads travels j h e = (
   accepted-fit text k (sym (h .told) ∙ e) .within,
   record {

@@ -1,27 +1,21 @@
 -- The network of an accepted text fits its file's fields (`imported-proper`) and meets the rules 7 to 10
 -- (`imported-sound`); an arc's travel is its weight at every tick (`imported-travel`).
-use mathlib.Core.Path.{_≡_, refl, sym, _∙_, subst}
-use mathlib.Core.List.{List}
+use mathlib.Core.{Path._≡_, Path.refl, Path.sym, Path._∙_, Path.subst, List.List}
 use Prim.Native.Nat.{ℕ, zero, suc, _+_, _^_, _≤_, _<_}
-use native.Mathlib.Decide.{decLt}
-use native.Mathlib.Omega.{arith}
+use native.Mathlib.{Decide.decLt, Omega.arith}
 use lib.ListN.{length, getD, replicate, length-map, length-replicate, getD-replicate, List·getD-eq-default}
 use lib.Dec.{lit≤}
 use Rattle.theory_loops.specs.Total.{total}
-use Rattle.theory_travel.specs.Day.{closed-in, closed-end, day-least, day-most}
-use Rattle.theory_travel.specs.Table.{entryAt}
-use Rattle.network.specs.Limits.{mostNodes, mostPeriod, WithinLimits}
+use Rattle.theory_travel.specs.{Day.closed-in, Day.closed-end, Day.day-least, Day.day-most, Table.entryAt}
+use Rattle.network.specs.{Limits.mostNodes, Limits.mostPeriod, Limits.WithinLimits, Town.travelAt}
 use Rattle.network.specs.Network.{Network, nodes, arcs, count, start}
 use Rattle.network.specs.Rules.{ticksOf, travelsOf}
 use Rattle.network.specs.Sound.{SoundHours, SoundArc, SoundPoints, SoundNetwork}
-use Rattle.network.specs.Town.{travelAt}
 use Rattle.network_encode.specs.Encode.{Proper}
-use Rattle.dimacs_line.specs.declared.line.Sizes.{Sizes}
-use Rattle.dimacs_line.specs.declared.line.Arc.{Arc}
+use Rattle.dimacs_line.specs.declared.line.{Sizes.Sizes, Arc.Arc}
 use Rattle.dimacs_text.specs.Arcs.{arcAt, nowhere, Fit}
-use Rattle.dimacs_import.specs.Import.{networkBy}
+use Rattle.dimacs_import.specs.{Import.networkBy, Imported.header-is, Imported.header-within}
 use Rattle.dimacs_import.specs.Imported.{cell-at, tail-at, head-at, count-at, tick-at, travel-at}
-use Rattle.dimacs_import.specs.Imported.{header-is, header-within}
 
 module _ (number : ℕ) (k : Sizes) (roads : List Arc) (f : Fit k roads) where
   abbrev n : Network

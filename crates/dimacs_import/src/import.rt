@@ -22,7 +22,7 @@ ghost use Rattle.file_refusals.specs.Writing.{writtenInto, Writes};
 ghost use Rattle.network.specs.Tables.{networkOf};
 ghost use Rattle.network_encode.specs.Encode.{encode};
 ghost use Rattle.network_encode.specs.Packable.{Packable};
-ghost use Rattle.dimacs_reading.specs.Accepted.{Within};
+ghost use Rattle.dimacs_reading.specs.Accepted.{SizesWithin};
 ghost use Rattle.dimacs_text.specs.Noting.{TablesLong};
 ghost use Rattle.dimacs_import.specs.Import.{ImportCall};
 ghost use Rattle.dimacs_import.specs.Roads.{roadTables, roadsFile};
@@ -72,7 +72,7 @@ fn import_sized(
     travels: &[u16; MOST_ARCS],
     out: &mut [u8],
 ) -> Writing
-    requires { ⌜ Within k × TablesLong (now tails) (now heads) (now travels) ⌝ }
+    requires { ⌜ SizesWithin k × TablesLong (now tails) (now heads) (now travels) ⌝ }
     ensures { λ r. ⌜ Writes
         (writtenInto
         (length (roadsFile number k (now (tails .entry)) (now (heads .entry)) (now (travels .entry))))

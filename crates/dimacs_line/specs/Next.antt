@@ -1,14 +1,10 @@
 -- The line that starts at a place of a text, by its shape and its end; and that a line is found to be a
 -- remark by its first byte, and an arc by three numbers as they come.
-use mathlib.Core.Path.{_≡_, sym, _∙_}
-use mathlib.Core.Logic.{_≢_}
-use mathlib.Core.Bool.{Bool, true, false}
+use mathlib.Core.{Path._≡_, Path.sym, Path._∙_, Logic._≢_, Bool.Bool, Bool.true, Bool.false}
 use mathlib.Core.List.{List, [], _∷_, _++_}
 use Prim.Native.Nat.{ℕ, _+_, _-_, _≤_, _<_}
-use native.Mathlib.Decide.{decLt}
-use native.Mathlib.Omega.{arith}
-use lib.ListN.{length, getD}
-use lib.Dec.{eqb}
+use native.Mathlib.{Decide.decLt, Omega.arith}
+use lib.{ListN.length, ListN.getD, Dec.eqb}
 use borrow.Author.Tests.{eqb-true}
 use Rattle.text_lines.specs.Lines.{Unended, LineTo, unended-join, unended-byte}
 use Rattle.text_numbers.specs.Spaced.{Spaced, one, more}
@@ -16,10 +12,8 @@ use Rattle.text_numbers.specs.Digits.{part, DigitsAt, part-split, part-first, d
 use Rattle.dimacs_line.specs.declared.line.Arc.{Arc}
 use Rattle.dimacs_line.specs.declared.line.Shape.the-variants.{Remark}
 use Rattle.dimacs_line.specs.declared.line.Shape.the-variants.{Arc as ArcLine}
-use Rattle.dimacs_line.specs.declared.next.Line.{Line}
-use Rattle.dimacs_line.specs.declared.next.Met.{Met}
-use Rattle.dimacs_line.specs.Shape.{shapeOf}
-use Rattle.dimacs_line.specs.ShapeExact.{remark-exactly, arc-exactly}
+use Rattle.dimacs_line.specs.declared.next.{Line.Line, Met.Met}
+use Rattle.dimacs_line.specs.{Shape.shapeOf, ShapeExact.remark-exactly, ShapeExact.arc-exactly}
 
 pub record NextLine (text : List ℕ) (at : ℕ) (l : Line) : Type 0 where
   pub to : LineTo text at (l .end)
@@ -137,8 +131,8 @@ module _ (text : List ℕ) (at tail tailEnd head headEnd weight end : ℕ) (star
   }
 
 -- FOR A TEST that answers a bool: what holds if the answer is yes
-pub never : {P : Type 0} → _≡_ {A = Bool} false true → P
-never e = let z : _≡_ {A = ℕ} 0 1 = cc in absurd (omega arith)
+pub false-true : {P : Type 0} → _≡_ {A = Bool} false true → P
+false-true e = let z : _≡_ {A = ℕ} 0 1 = cc in absurd (omega arith)
 
 pub unmet : {P : Type 0} (at end : ℕ) → end ≡ at → at < end → P
 unmet at end e l = absurd (omega arith)

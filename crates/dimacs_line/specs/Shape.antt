@@ -1,23 +1,16 @@
 -- The lines of a DIMACS road file: `c` and anything is a remark, `p sp NODES ARCS` gives the sizes, and `a
 -- TAIL HEAD WEIGHT` is an arc; numbers have one to nine digits, leading zeros counted, one space apart, and
 -- nothing stands before or after. `shapeOf` works out which of these a line is.
-use mathlib.Core.Path.{_≡_, refl, sym, _∙_}
+use mathlib.Core.{Path._≡_, Path.refl, Path.sym, Path._∙_, List.List, List.[], List._∷_, List._++_}
 use mathlib.Core.Bool.{Bool, true, false, cond, _&&_}
-use mathlib.Core.List.{List, [], _∷_, _++_}
 use Prim.Native.Nat.{ℕ, zero, suc, _-_, _≤_, _<_}
-use native.Mathlib.Decide.{decLt}
-use native.Mathlib.Omega.{arith}
-use lib.ListN.{length, getD, take, drop, length-drop}
-use lib.Seq.{take-all}
-use lib.Dec.{eqb}
+use native.Mathlib.{Decide.decLt, Omega.arith}
+use lib.{ListN.length, ListN.getD, ListN.take, ListN.drop, ListN.length-drop, Seq.take-all, Dec.eqb}
 use borrow.Author.Tests.{eq-eqb, ne-eqb}
 use Rattle.text_spaced.specs.declared.spaced.Scan.{Scan}
-use Rattle.text_numbers.specs.Text.{ascii}
-use Rattle.text_numbers.specs.Spaced.{Spaced}
+use Rattle.text_numbers.specs.{Text.ascii, Spaced.Spaced}
 use Rattle.text_spaced.specs.Scanning.{fresh, scannedAll, whole}
-use Rattle.dimacs_line.specs.declared.line.Sizes.{Sizes}
-use Rattle.dimacs_line.specs.declared.line.Arc.{Arc}
-use Rattle.dimacs_line.specs.declared.line.Shape.{Shape}
+use Rattle.dimacs_line.specs.declared.line.{Sizes.Sizes, Arc.Arc, Shape.Shape}
 use Rattle.dimacs_line.specs.declared.line.Shape.the-variants.{Remark, Other}
 use Rattle.dimacs_line.specs.declared.line.Shape.the-variants.{Sizes as SizesLine, Arc as ArcLine}
 

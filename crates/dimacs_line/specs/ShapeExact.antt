@@ -1,21 +1,15 @@
 -- A line has a shape exactly where it is such a line (`remark-exactly`, `sizes-exactly`, `arc-exactly`).
-use mathlib.Core.Path.{_≡_, refl, subst}
-use mathlib.Core.Logic.{_↔_}
+use mathlib.Core.{Path._≡_, Path.refl, Path.subst, Logic._↔_, List.List, List.[], List._∷_, List._++_}
 use mathlib.Core.Bool.{Bool, true, false, cond, and-eq-true-iff}
-use mathlib.Core.List.{List, [], _∷_, _++_}
 use Prim.Native.Nat.{ℕ}
 use native.Mathlib.Omega.{arith}
-use lib.ListN.{length, drop}
-use lib.Dec.{eqb}
+use lib.{ListN.length, ListN.drop, Dec.eqb}
 use borrow.Author.Tests.{lt-ltb, eqb-true}
 use Rattle.text_spaced.specs.declared.spaced.Scan.{Scan}
-use Rattle.text_numbers.specs.Text.{ascii}
-use Rattle.text_numbers.specs.Spaced.{Spaced}
+use Rattle.text_numbers.specs.{Text.ascii, Spaced.Spaced}
 use Rattle.text_spaced.specs.Scanning.{fresh, scannedAll, whole}
 use Rattle.text_spaced.specs.SpacedExact.{scanned-spaced, two-values, three-values, two-read, three-read}
-use Rattle.dimacs_line.specs.declared.line.Sizes.{Sizes}
-use Rattle.dimacs_line.specs.declared.line.Arc.{Arc}
-use Rattle.dimacs_line.specs.declared.line.Shape.{Shape}
+use Rattle.dimacs_line.specs.declared.line.{Sizes.Sizes, Arc.Arc, Shape.Shape}
 use Rattle.dimacs_line.specs.declared.line.Shape.the-variants.{Remark, Other}
 use Rattle.dimacs_line.specs.declared.line.Shape.the-variants.{Sizes as SizesLine, Arc as ArcLine}
 use Rattle.dimacs_line.specs.Shape.{IsRemark, IsSizes, IsArc, startsWith, sizesBy, arcBy, sizesShape}

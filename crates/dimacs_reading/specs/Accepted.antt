@@ -1,17 +1,14 @@
 -- The texts that are accepted, in the wish's words: remarks anywhere, one `p` line before every `a` line, as
 -- many `a` lines as it says, and sizes, ends and weights that a network may hold.
-use mathlib.Core.Path.{_≡_}
-use mathlib.Core.Logic.{_≢_}
-use mathlib.Core.List.{List, [], _∷_}
+use mathlib.Core.{Path._≡_, Logic._≢_, List.List, List.[], List._∷_}
 use Prim.Native.Nat.{ℕ, _≤_}
 use lib.ListN.{length}
 use Rattle.network.specs.Limits.{mostNodes, mostArcs, mostPeriod}
-use Rattle.dimacs_line.specs.declared.line.Sizes.{Sizes}
-use Rattle.dimacs_line.specs.declared.line.Arc.{Arc}
+use Rattle.dimacs_line.specs.declared.line.{Sizes.Sizes, Arc.Arc}
 use Rattle.dimacs_line.specs.Shape.{IsRemark, IsSizes, IsArc}
 
 -- sizes within the limits
-pub record Within (k : Sizes) : Type 0 where
+pub record SizesWithin (k : Sizes) : Type 0 where
   pub some : 1 ≤ k .nodes
   pub nodes-few : k .nodes ≤ mostNodes
   pub arcs-few : k .arcs ≤ mostArcs
@@ -38,5 +35,5 @@ pub data ArcLines (nodes : ℕ) : List (List ℕ) → List Arc → Type 0 where
 pub data RoadText (k : Sizes) : List (List ℕ) → List Arc → Type 0 where
   remark-first : (line : List ℕ) (lines : List (List ℕ)) (arcs : List Arc) → IsRemark line
       → RoadText k lines arcs → RoadText k (line ∷ lines) arcs
-  sizes : (line : List ℕ) (lines : List (List ℕ)) (arcs : List Arc) → IsSizes line k → Within k
+  sizes : (line : List ℕ) (lines : List (List ℕ)) (arcs : List Arc) → IsSizes line k → SizesWithin k
       → ArcLines (k .nodes) lines arcs → length arcs ≡ k .arcs → RoadText k (line ∷ lines) arcs

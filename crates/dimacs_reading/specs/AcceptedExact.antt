@@ -1,22 +1,16 @@
 -- A text is accepted, with its sizes, exactly where it is one of those that the wish describes
 -- (`accepted-exactly`).
-use mathlib.Core.Path.{_≡_, refl, _∙_, ap, subst}
-use mathlib.Core.Logic.{_≢_, _↔_}
-use mathlib.Core.Bool.{Bool, true, false, cond}
-use mathlib.Core.List.{List, [], _∷_}
+use mathlib.Core.{Path._≡_, Path.refl, Path._∙_, Path.ap, Path.subst, Logic._≢_, Logic._↔_}
+use mathlib.Core.{Bool.Bool, Bool.true, Bool.false, Bool.cond, List.List, List.[], List._∷_}
 use Prim.Native.Nat.{ℕ, _+_, _≤_, _<_}
-use native.Mathlib.Decide.{decLt}
-use native.Mathlib.Omega.{arith}
-use lib.ListN.{length}
-use lib.Dec.{eqb, leb, ltb}
+use native.Mathlib.{Decide.decLt, Omega.arith}
+use lib.{ListN.length, Dec.eqb, Dec.leb, Dec.ltb}
 use borrow.Author.Tests.{eqb-false, ne-eqb, ltb-false, le-ltb, le-leb, lt-leb}
 use Rattle.theory_loops.specs.Pick.{or-passed, passed-by, cond-holds}
 use Rattle.file_refusals.specs.declared.Refusal.{Refusal}
 use Rattle.network.specs.Limits.{mostNodes, mostArcs, mostPeriod}
 use Rattle.text_lines.specs.Lines.{linesOf}
-use Rattle.dimacs_line.specs.declared.line.Sizes.{Sizes}
-use Rattle.dimacs_line.specs.declared.line.Arc.{Arc}
-use Rattle.dimacs_line.specs.declared.line.Shape.{Shape}
+use Rattle.dimacs_line.specs.declared.line.{Sizes.Sizes, Arc.Arc, Shape.Shape}
 use Rattle.dimacs_line.specs.declared.line.Shape.the-variants.{Remark, Other}
 use Rattle.dimacs_line.specs.declared.line.Shape.the-variants.{Sizes as SizesLine, Arc as ArcLine}
 use Rattle.dimacs_line.specs.Shape.{shapeOf, IsSizes, IsArc}
@@ -24,14 +18,13 @@ use Rattle.dimacs_line.specs.ShapeExact.{remark-exactly, sizes-exactly, arc-exa
 use Rattle.dimacs_reading.specs.declared.reading.Reading.{Reading}
 use Rattle.dimacs_reading.specs.declared.verdict.Judgement.{Judgement}
 use Rattle.dimacs_reading.specs.declared.verdict.Judgement.the-variants.{Accepted, Refused}
-use Rattle.dimacs_reading.specs.Accepted.{Within, Fitting, ArcLines, none, remark, arc, RoadText}
-use Rattle.dimacs_reading.specs.Accepted.{remark-first, sizes}
+use Rattle.dimacs_reading.specs.Accepted.{SizesWithin, Fitting, ArcLines, none, remark, arc, RoadText}
+use Rattle.dimacs_reading.specs.{Accepted.remark-first, Accepted.sizes, Reading.read-none}
 use Rattle.dimacs_reading.specs.Reading.{outside, misfit, noted, passedBy, sizedBy, arcBy, stepped}
 use Rattle.dimacs_reading.specs.Reading.{readAll, unfinished, judged, judging, read-stopped, read-line}
-use Rattle.dimacs_reading.specs.Reading.{read-none}
 
 -- THE RULES of 36 as facts
-within-limits : (k : Sizes) → outside k ≡ false → Within k
+within-limits : (k : Sizes) → outside k ≡ false → SizesWithin k
 unfolding outside
 within-limits k e =
     let (z, f) = or-passed (eqb (k .nodes) 0) _ e in
@@ -42,7 +35,7 @@ within-limits k e =
       arcs-few = ltb-false mostArcs (k .arcs) a;
     }
 
-limits-within : (k : Sizes) → Within k → outside k ≡ false
+limits-within : (k : Sizes) → SizesWithin k → outside k ≡ false
 unfolding outside
 limits-within k w = rw (
   ne-eqb (k .nodes) 0 (omega (arith, w .some)),
@@ -87,15 +80,7 @@ before n = record { lines = n; stopped = false; sized = false; nodes = 0; arcs =
 
 abbrev after : ℕ → Sizes → ℕ → Reading
 after n k s =
-    record {
-      lines = n;
-      stopped = false;
-      sized = true;
-      nodes = k .nodes;
-      arcs = k .arcs;
-      seen = s;
-      wrong = 0;
-    }
+    record { lines = n; stopped = false; sized = true; nodes = k .nodes; arcs = k .arcs; seen = s; wrong = 0 }
 
 zero-one : _≡_ {A = ℕ} 0 1 → ⊥
 zero-one z = omega arith

@@ -2,23 +2,18 @@
 -- 35 is at the first line of no shape, at a second `p` line, at an `a` line that no count of arcs covers, or,
 -- at the line count, where the `p` line or arcs are missing. It is judged of the whole text before 36, which
 -- is at the first line whose sizes, ends or weight are outside what a network may hold.
-use mathlib.Core.Path.{_≡_, refl, sym, _∙_, ap}
-use mathlib.Core.Logic.{_≢_}
+use mathlib.Core.{Path._≡_, Path.refl, Path.sym, Path._∙_, Path.ap, Logic._≢_, List.List, List.[], List._∷_}
 use mathlib.Core.Bool.{Bool, true, false, cond, not, _||_}
-use mathlib.Core.List.{List, [], _∷_}
 use Prim.Native.Nat.{ℕ, _+_, _-_, _≤_, _<_, min}
 use native.Mathlib.Omega.{arith}
-use lib.ListN.{length, take, drop}
-use lib.Dec.{eqb, leb, ltb}
+use lib.{ListN.length, ListN.take, ListN.drop, Dec.eqb, Dec.leb, Dec.ltb}
 use borrow.Author.Tests.{lt-leb, ne-eqb}
 use Rattle.theory_loops.specs.Pick.{cond-holds}
 use Rattle.file_refusals.specs.declared.Refusal.{Refusal}
 use Rattle.file_refusals.specs.Refusal.{refusal}
 use Rattle.network.specs.Limits.{mostNodes, mostArcs, mostPeriod}
 use Rattle.text_lines.specs.Lines.{linesOf, LineTo, next-line, last-line}
-use Rattle.dimacs_line.specs.declared.line.Sizes.{Sizes}
-use Rattle.dimacs_line.specs.declared.line.Arc.{Arc}
-use Rattle.dimacs_line.specs.declared.line.Shape.{Shape}
+use Rattle.dimacs_line.specs.declared.line.{Sizes.Sizes, Arc.Arc, Shape.Shape}
 use Rattle.dimacs_line.specs.declared.line.Shape.the-variants.{Remark, Other}
 use Rattle.dimacs_line.specs.declared.line.Shape.the-variants.{Sizes as SizesLine, Arc as ArcLine}
 use Rattle.dimacs_line.specs.Shape.{shapeOf}
@@ -28,15 +23,7 @@ use Rattle.dimacs_reading.specs.declared.verdict.Judgement.the-variants.
 
 -- before the first line
 abbrev pub begun : Reading
-begun = record {
-  lines = 0;
-  stopped = false;
-  sized = false;
-  nodes = 0;
-  arcs = 0;
-  seen = 0;
-  wrong = 0;
-}
+begun = record { lines = 0; stopped = false; sized = false; nodes = 0; arcs = 0; seen = 0; wrong = 0 }
 
 -- 36: sizes outside the limits; equal ends, an end that is none of the nodes, or a weight that is no travel
 unfoldable pub outside : Sizes → Bool

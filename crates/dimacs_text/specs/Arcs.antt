@@ -1,18 +1,15 @@
 -- The arcs of a text, in the order of its lines, and that an accepted text's are those that it is described
 -- by, each fit for a network.
-use mathlib.Core.Path.{_≡_, refl, _∙_, ap}
-use mathlib.Core.List.{List, [], _∷_}
+use mathlib.Core.{Path._≡_, Path.refl, Path._∙_, Path.ap, List.List, List.[], List._∷_}
 use Prim.Native.Nat.{ℕ, zero, suc, _<_}
 use native.Mathlib.Omega.{arith}
 use lib.ListN.{length, getD}
-use Rattle.dimacs_line.specs.declared.line.Sizes.{Sizes}
-use Rattle.dimacs_line.specs.declared.line.Arc.{Arc}
-use Rattle.dimacs_line.specs.declared.line.Shape.{Shape}
+use Rattle.dimacs_line.specs.declared.line.{Sizes.Sizes, Arc.Arc, Shape.Shape}
 use Rattle.dimacs_line.specs.declared.line.Shape.the-variants.{Remark, Other}
 use Rattle.dimacs_line.specs.declared.line.Shape.the-variants.{Sizes as SizesLine, Arc as ArcLine}
 use Rattle.dimacs_line.specs.Shape.{shapeOf}
 use Rattle.dimacs_line.specs.ShapeExact.{remark-exactly, sizes-exactly, arc-exactly}
-use Rattle.dimacs_reading.specs.Accepted.{Within, Fitting, ArcLines, none, remark, arc, RoadText}
+use Rattle.dimacs_reading.specs.Accepted.{SizesWithin, Fitting, ArcLines, none, remark, arc, RoadText}
 use Rattle.dimacs_reading.specs.Accepted.{remark-first, sizes}
 
 -- the arcs of one line more, and of all lines
@@ -65,7 +62,7 @@ lines-fit nodes _ _ (arc line a lines arcs h f al) (suc i) l = lines-fit nodes l
 
 -- its sizes, and each of its arcs
 pub record Fit (k : Sizes) (arcs : List Arc) : Type 0 where
-  pub within : Within k
+  pub within : SizesWithin k
   pub long : length arcs ≡ k .arcs
   pub fits : (i : ℕ) → i < length arcs → Fitting (k .nodes) (arcAt arcs i)
 

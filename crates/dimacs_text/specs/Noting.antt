@@ -1,22 +1,17 @@
 -- The arcs of a text, noted in three tables as its lines are read: an arc's entry is a number of 16 bits for
 -- each end, lowered by one, and for its weight.
-use mathlib.Core.Path.{_≡_, refl, sym, _∙_, ap, subst⁻¹}
+use mathlib.Core.{Path._≡_, Path.refl, Path.sym, Path._∙_, Path.ap, Path.subst⁻¹, List.List, List._∷_}
 use mathlib.Core.Bool.{Bool, true, false, cond, not}
-use mathlib.Core.List.{List, _∷_}
 use Prim.Native.Nat.{ℕ, suc, _+_, _%_, _≤_, _<_}
-use native.Mathlib.Decide.{ℕ-discrete}
-use native.Mathlib.Omega.{arith}
+use native.Mathlib.{Decide.ℕ-discrete, Omega.arith}
 use lib.ListN.{length, getD, set, drop, length-drop, length-set}
-use lib.Seq.{drop-cons, getD-set-same, getD-set-other, set-out}
-use lib.Dec.{leb, eqb}
+use lib.{Seq.drop-cons, Seq.getD-set-same, Seq.getD-set-other, Seq.set-out, Dec.leb, Dec.eqb}
 use borrow.Author.Tests.{leb-false, ltb-false}
 use Rattle.theory_loops.specs.Pick.{or-passed}
 use Rattle.file_refusals.specs.declared.Refusal.{Refusal}
 use Rattle.network.specs.Limits.{mostArcs}
 use Rattle.text_lines.specs.Lines.{linesOf, next-line}
-use Rattle.dimacs_line.specs.declared.line.Sizes.{Sizes}
-use Rattle.dimacs_line.specs.declared.line.Arc.{Arc}
-use Rattle.dimacs_line.specs.declared.line.Shape.{Shape}
+use Rattle.dimacs_line.specs.declared.line.{Sizes.Sizes, Arc.Arc, Shape.Shape}
 use Rattle.dimacs_line.specs.declared.line.Shape.the-variants.{Remark, Other}
 use Rattle.dimacs_line.specs.declared.line.Shape.the-variants.{Sizes as SizesLine, Arc as ArcLine}
 use Rattle.dimacs_line.specs.declared.next.Line.{Line}
@@ -25,8 +20,7 @@ use Rattle.dimacs_reading.specs.declared.reading.Reading.{Reading}
 use Rattle.dimacs_reading.specs.declared.verdict.Judgement.{Judgement}
 use Rattle.dimacs_reading.specs.declared.verdict.Judgement.the-variants.{Accepted, Refused}
 use Rattle.dimacs_reading.specs.Reading.{begun, passedBy, sizedBy, arcBy, stepped, unfinished, judged}
-use Rattle.dimacs_reading.specs.Reading.{readAll, judging}
-use Rattle.dimacs_reading.specs.AcceptedExact.{refused-only}
+use Rattle.dimacs_reading.specs.{Reading.readAll, Reading.judging, AcceptedExact.refused-only}
 use Rattle.dimacs_text.specs.Arcs.{arcFirst, arcsOf, arcAt, nowhere}
 
 -- an end lowered by one, and a weight, in 16 bits; and so an arc's three entries

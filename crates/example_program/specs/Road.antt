@@ -1,13 +1,11 @@
 -- The travel of road 1 of Quay town as the program has it: by the plain trip from place 1 to place 2, which
 -- it alone leads to from there.
-use mathlib.Core.Path.{_≡_}
-use mathlib.Core.List.{List}
+use mathlib.Core.{Path._≡_, List.List}
 use Prim.Native.Nat.{ℕ, _-_, _≤_}
 use native.Mathlib.Omega.{arith}
 use lib.ListN.{getD}
 use Rattle.file_refusals.specs.declared.Refusal.{Refusal}
-use Rattle.search_path.specs.declared.answer.Arrival.{Arrival}
-use Rattle.search_path.specs.declared.answer.Answer.{Answer}
+use Rattle.search_path.specs.declared.answer.{Arrival.Arrival, Answer.Answer}
 use Rattle.search_path.specs.declared.answer.Answer.the-variants.{Arrived, Refused}
 use Rattle.search_path.specs.Says.{tripSays}
 use Rattle.trip.specs.Calls.{plainCall}

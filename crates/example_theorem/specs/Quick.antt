@@ -1,19 +1,14 @@
 -- A block's check and form in forms that go through the block once, proved equal to those of the crate
 -- `file_blocks`, which count from the list's start at every index. The checker computes these in a moment,
 -- and those in seconds a block.
-use mathlib.Core.Path.{_≡_, refl, sym, _∙_, ap}
+use mathlib.Core.{Path._≡_, Path.refl, Path.sym, Path._∙_, Path.ap, List.List}
 use mathlib.Core.Bool.{Bool, true, false, _&&_, and-eq-true-iff}
-use mathlib.Core.List.{List}
 use Prim.Native.Nat.{ℕ, zero, suc, _+_, _-_, _*_, _%_, _<_}
-use native.Mathlib.Nat.{add-zero, zero-add}
-use native.Mathlib.Omega.{arith}
-use lib.ListN.{getD, drop}
-use lib.Seq.{getD-drop, drop-drop}
-use lib.Dec.{eqb}
+use native.Mathlib.{Nat.add-zero, Nat.zero-add, Omega.arith}
+use lib.{ListN.getD, ListN.drop, Seq.getD-drop, Seq.drop-drop, Dec.eqb}
 use borrow.Author.Tests.{eqb-true, eq-eqb}
-use Rattle.file_fields.specs.Fields.{le16, le32}
-use Rattle.file_fields.specs.Sum.{sums, summedPart, good}
-use Rattle.file_blocks.specs.Form.{zeros, formed, zeros-each, zeros-all}
+use Rattle.file_fields.specs.{Fields.le16, Fields.le32, Sum.sums, Sum.summedPart, Sum.good}
+use Rattle.file_forms.specs.Form.{zeros, formed, zeros-each, zeros-all}
 use Rattle.file_fields.specs.declared.sum.Sums.{Sums}
 
 -- THE CHECK

@@ -7,14 +7,11 @@ use lib.ListN.{length, take, replicate}
 use Rattle.theory_paths.specs.Graph.{driven}
 use Rattle.file_refusals.specs.Says as says
 use Rattle.file_fields.specs.Block.{blockSize}
-use Rattle.network.specs.Answer.{openingSays}
-use Rattle.network.specs.Decode.{decode}
-use Rattle.network.specs.Tables.{Tables, tables}
+use Rattle.network.specs.{Answer.openingSays, Decode.decode, Tables.Tables, Tables.tables}
 use Rattle.network.specs.Town.{travelAt, graphOf, partitionOf}
 use Rattle.network_open.specs.Open.{opening}
 use Rattle.plan.specs.Border.{borders}
-use Rattle.plan_check.specs.Answer.{checkingSays}
-use Rattle.plan_check.specs.CheckPlan.{checking}
+use Rattle.plan_check.specs.{Answer.checkingSays, CheckPlan.checking}
 use Rattle.search_path.specs.declared.answer.Answer.{Answer}
 use Rattle.search_path.specs.Says.{tripSays, tripCount}
 use Rattle.trip.specs.Calls.{plainCall, plainPath, flaggedCall, flaggedPath}
@@ -38,11 +35,11 @@ pub data Question : Type 0 where
 
 -- ANSWERS AS NUMBERS: refusal or 0, three places, the values; and after those of a trip its roads, as many as
 -- it counts
-abbrev pub told : says.Says → List ℕ
-told s = s .number ∷ says.numbersOf s
+abbrev pub numbersTold : says.Says → List ℕ
+numbersTold s = s .number ∷ says.numbersOf s
 
 abbrev pub tripTold : Answer → List ℕ → List ℕ
-tripTold a path = told (tripSays a) ++ take (tripCount a) path
+tripTold a path = numbersTold (tripSays a) ++ take (tripCount a) path
 
 -- the tables that are lent to Open have room for 4 nodes, 4 arcs and 5 points
 abbrev pub lent : Tables
@@ -55,10 +52,10 @@ answerTo (blocks file) = length file % blockSize ∷ length file / blockSize ∷
 answerTo (bordering network) = borders (partitionOf (decode network))
 answerTo (travel network road tick) = travelAt (decode network) road tick ∷ []
 answerTo (drives network roads tick) = driven (graphOf (decode network)) roads tick ∷ []
-answerTo (opens network) = told (openingSays (opening network lent))
+answerTo (opens network) = numbersTold (openingSays (opening network lent))
 answerTo (plain network from to departure) =
     tripTold (plainCall network from to departure) (plainPath network from to departure)
-answerTo (checks network plan) = told (checkingSays (checking network plan))
+answerTo (checks network plan) = numbersTold (checkingSays (checking network plan))
 answerTo (flagged network plan from to departure) =
     tripTold (flaggedCall network plan from to departure) (flaggedPath network plan from to departure)
 answerTo (prints network plan input) = sheetText network plan input
@@ -67,10 +64,11 @@ answerTo (prints network plan input) = sheetText network plan input
 -- by these roads
 abbrev pub refused : ℕ → ℕ → ℕ → ℕ → ℕ → List ℕ
 refused count number first second third =
-    told (says.refuses count (record { number = number; first = first; second = second; third = third }))
+    numbersTold
+    (says.refuses count (record { number = number; first = first; second = second; third = third }))
 
 abbrev pub granted : List ℕ → List ℕ
-granted values = told (says.answers values)
+granted values = numbersTold (says.answers values)
 
 abbrev pub arrived : ℕ → List ℕ → List ℕ
 arrived tick roads = granted (tick ∷ length roads ∷ []) ++ roads

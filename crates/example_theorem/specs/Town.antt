@@ -1,37 +1,24 @@
 -- Quay town in one theorem: the answer to every row's question is the row's answer (`quay-town`). A test
 -- computes it for all rows, by the quick forms of validation, and a law turns the test into the rule.
-use mathlib.Core.Path.{_≡_, refl, sym, _∙_}
-use mathlib.Core.Logic.{Or·elim}
+use mathlib.Core.{Path._≡_, Path.refl, Path.sym, Path._∙_, Logic.Or·elim}
 use mathlib.Core.Bool.{Bool, true, false, cond, _&&_, and-eq-true-iff, true≢false, So-prop}
 use mathlib.Core.List.{List, [], _∷_, _++_, List·Mem, not-mem-nil, eq-or-mem-of-mem-cons}
 use Prim.Native.Nat.{ℕ}
-use lib.ListN.{length, take}
-use lib.Dec.{eqb, ltb}
+use lib.{ListN.length, ListN.take, Dec.eqb, Dec.ltb}
 use borrow.Author.Tests.{eqb-true}
-use Rattle.theory_loops.specs.First.{first}
-use Rattle.theory_loops.specs.Pick.{firstRung}
-use Rattle.theory_loops.specs.Triple.{firstTripleRung}
-use Rattle.theory_loops.specs.Select.{select}
+use Rattle.theory_loops.specs.{First.first, Pick.firstRung, Triple.firstTripleRung, Select.select, Fill.tab}
 use Rattle.theory_loops.specs.Total.{total}
-use Rattle.theory_loops.specs.Fill.{tab}
-use Rattle.theory_paths.specs.Graph.{all, ends}
-use Rattle.theory_paths.specs.Labels.{relaxed, rounds, labels}
-use Rattle.theory_paths.specs.Hops.{hops}
+use Rattle.theory_paths.specs.{Graph.all, Graph.ends, Labels.relaxed, Labels.rounds, Labels.labels, Hops.hops}
 use Rattle.theory_paths.specs.Chosen.{lowest, back, traced, chosen}
-use Rattle.theory_travel.specs.Line.{line}
-use Rattle.theory_travel.specs.Points.{segment, value}
-use Rattle.theory_travel.specs.Day.{closed, dayValue}
-use Rattle.theory_travel.specs.Table.{entryAt}
-use Rattle.theory_travel.specs.Ticks.{badTick}
+use Rattle.theory_travel.specs.{Line.line, Points.segment, Points.value, Day.closed, Day.dayValue}
+use Rattle.theory_travel.specs.{Table.entryAt, Ticks.badTick}
 use Rattle.file_blocks.specs.Place.{offset}
-use Rattle.file_blocks.specs.Form.{badLength}
+use Rattle.file_forms.specs.Form.{badLength}
 use Rattle.network.specs.declared.answer.Opening.{Opening}
 use Rattle.network.specs.declared.answer.Opening.the-variants as opening
 use Rattle.network.specs.declared.header.Header.{Header}
-use Rattle.network.specs.Limits.{mostNodes, mostRoads, made}
-use Rattle.network.specs.Answer.{openingSays}
-use Rattle.network.specs.Network.{Network, start}
-use Rattle.network.specs.Decode.{decode}
+use Rattle.network.specs.{Limits.mostNodes, Limits.mostRoads, Limits.made, Answer.openingSays, Decode.decode}
+use Rattle.network.specs.{Network.Network, Network.start, Validate.validated}
 use Rattle.network.specs.Rules.{
   judged,
   judgedHours,
@@ -46,28 +33,21 @@ use Rattle.network.specs.Rules.{
   overtaken,
 }
 use Rattle.network.specs.Node.{nodeKind, nodeSize, nodePer, nodeBlocks}
-use Rattle.network.specs.Validate.{validated}
 use Rattle.network.specs.Town.{graphOf, partitionOf, travelAt}
 use Rattle.network_open.specs.Open.{openedIn, tooShort, tooShortBy}
 use Rattle.plan.specs.declared.answer.Planning.{Planning}
-use Rattle.plan.specs.Border.{borders, isBorder}
-use Rattle.plan.specs.Plan.{pointStart, profileValue}
-use Rattle.plan.specs.PlanDecode.{decodePlan}
+use Rattle.plan.specs.{Border.borders, Border.isBorder, Plan.pointStart, Plan.profileValue}
+use Rattle.plan.specs.{PlanDecode.decodePlan, PlanValidate.matching, PlanValidate.planned}
 use Rattle.plan.specs.PlanRules as rules
-use Rattle.plan.specs.PlanValidate.{matching, planned}
 use Rattle.plan_tests.specs.Tests.{fails, fails22, given}
 use Rattle.plan_check.specs.declared.answer.Checking.{Checking}
 use Rattle.plan_check.specs.declared.answer.Checking.the-variants as checking
-use Rattle.plan_check.specs.Answer.{checkingSays}
-use Rattle.plan_check.specs.Check.{checked, tripleRung}
-use Rattle.plan_check.specs.CheckPlan.{checkedBy}
+use Rattle.plan_check.specs.{Answer.checkingSays, Check.checked, Check.tripleRung, CheckPlan.checkedBy}
 use Rattle.search_path.specs.declared.answer.Answer.{Answer}
 use Rattle.trip_call.specs.Trip.{asked, andThen, tripAnswer}
 use Rattle.search_path.specs.Answer.{searched}
-use Rattle.trip.specs.Flagged.{plannedThen, flaggedArcs}
-use Rattle.trip.specs.Calls.{plainPath, flaggedPath}
-use Rattle.text_numbers.specs.Text.{ascii}
-use Rattle.text_numbers.specs.Number.{decimal, digitsOf}
+use Rattle.trip.specs.{Flagged.plannedThen, Flagged.flaggedArcs, Calls.plainPath, Calls.flaggedPath}
+use Rattle.text_numbers.specs.{Text.ascii, Number.decimal, Number.digitsOf}
 use Rattle.sheet_line.specs.declared.line.Line.{Line}
 use Rattle.sheet_line.specs.declared.line.Line.the-variants.{Asks, Other}
 use Rattle.text_spaced.specs.Fold.{folded}
@@ -77,8 +57,7 @@ use Rattle.sheet_text.specs.Numbers.{spaced}
 use Rattle.sheet_text.specs.Head.{most, headText, verdictText, isAccepted, reads}
 use Rattle.sheet_text.specs.TripText.{lineText, tripText, tripOf, pathFor, askingText, answerText}
 use Rattle.text_lines.specs.Lines.{linesOf, linesFrom}
-use Rattle.sheet.specs.Reading.{textsOf}
-use Rattle.sheet.specs.Sheet.{sheetText}
+use Rattle.sheet.specs.{Reading.textsOf, Sheet.sheetText}
 use Rattle.example_theorem.specs.Files.{networkFile, planFile}
 use Rattle.example_theorem.specs.Quick.{summed, blank, quickFormed}
 use Rattle.example_theorem.specs.Validation.{
@@ -98,7 +77,7 @@ use Rattle.example_theorem.specs.Rows.{
   checks,
   flagged,
   prints,
-  told,
+  numbersTold,
   tripTold,
   lent,
   answerTo,
@@ -148,10 +127,10 @@ module _ (opened : List ℕ → Opening) (planning : Header → Network → List
   answerBy (bordering network) = answerTo (bordering network)
   answerBy (travel network road tick) = answerTo (travel network road tick)
   answerBy (drives network roads tick) = answerTo (drives network roads tick)
-  answerBy (opens network) = told (openingSays (openedIn (opened network) (λ h. tooShort h lent)))
+  answerBy (opens network) = numbersTold (openingSays (openedIn (opened network) (λ h. tooShort h lent)))
   answerBy (plain network from to departure) =
       tripTold (plainBy network from to departure) (plainPath network from to departure)
-  answerBy (checks network file) = told (checkingSays (checkBy network file))
+  answerBy (checks network file) = numbersTold (checkingSays (checkBy network file))
   answerBy (flagged network file from to departure) =
       tripTold (flaggedBy network file from to departure) (flaggedPath network file from to departure)
   answerBy (prints network file input) = sheetBy network file input

@@ -1,36 +1,25 @@
 -- Validation of the two files with the tests of a block's check and form as arguments. With those of the
 -- crate `file_blocks` it is the validation that the contracts cite; with the quick ones it computes fast; and
 -- since the tests are equal, so are the answers.
-use mathlib.Core.Path.{_≡_, refl, _∙_}
-use mathlib.Core.Bool.{Bool, cond, not, _&&_}
-use mathlib.Core.List.{List}
+use mathlib.Core.{Path._≡_, Path.refl, Path._∙_, Bool.Bool, Bool.cond, Bool.not, Bool._&&_, List.List}
 use Prim.Native.Nat.{ℕ, _+_, _*_, _/_}
-use lib.ListN.{length}
-use lib.Dec.{ltb, eqb}
+use lib.{ListN.length, Dec.ltb, Dec.eqb}
 use Rattle.theory_loops.specs.Pick.{firstRung}
-use Rattle.file_fields.specs.Fields.{le16}
+use Rattle.file_fields.specs.{Fields.le16, Sum.good}
 use Rattle.file_blocks.specs.Place.{blocks, entriesIn}
-use Rattle.file_fields.specs.Sum.{good}
-use Rattle.file_blocks.specs.Form.{formed, unformedOr, badLength}
+use Rattle.file_forms.specs.Form.{formed, unformedOr, badLength}
 use Rattle.network.specs.declared.answer.Opening.{Opening}
-use Rattle.network.specs.declared.header.Header.{Header}
-use Rattle.network.specs.declared.header.Made.{Made}
+use Rattle.network.specs.declared.header.{Header.Header, Made.Made}
 use Rattle.network.specs.declared.header.Made.the-variants.{Inside, Outside}
-use Rattle.network.specs.Network.{Network}
-use Rattle.network.specs.Node.{nodeKind, nodeSize, nodePer}
+use Rattle.network.specs.{Network.Network, Node.nodeKind, Node.nodeSize, Node.nodePer, Decode.decode}
 use Rattle.network.specs.Layout.{arcBlock, pointBlock, allBlocks, mostBytes}
-use Rattle.network.specs.Decode.{decode}
-use Rattle.network.specs.Town.{partitionOf}
-use Rattle.network.specs.Rules.{judged}
+use Rattle.network.specs.{Town.partitionOf, Rules.judged}
 use Rattle.network.specs.Validate as network
 use Rattle.plan.specs.declared.answer.Planning.{Planning}
 use Rattle.plan.specs.declared.header.PlanHeader.{PlanHeader}
-use Rattle.plan.specs.Border.{borderCount}
-use Rattle.plan.specs.PlanLimits.{mostPlanBytes}
-use Rattle.plan.specs.PlanHeader.{planHeaderAt}
+use Rattle.plan.specs.{Border.borderCount, PlanLimits.mostPlanBytes, PlanHeader.planHeaderAt}
 use Rattle.plan.specs.PlanLayout.{profileCount, countBlock, planPointBlock, planBlocks}
-use Rattle.plan.specs.PlanDecode.{decodePlan}
-use Rattle.plan.specs.PlanRules.{planJudged}
+use Rattle.plan.specs.{PlanDecode.decodePlan, PlanRules.planJudged}
 use Rattle.plan.specs.PlanValidate as plan
 use Rattle.example_theorem.specs.Quick.{quickGood, good-quick, quickFormed, formed-quick}
 

@@ -1,7 +1,6 @@
 -- A file that is as long as its header says, laid out so: what all reading in place requires. Said once, over
 -- the numbers in its first block (H), the layout that they make (L), their limits, and the count of blocks.
-use mathlib.Core.Path.{_≡_, _∙_, ap}
-use mathlib.Core.List.{List}
+use mathlib.Core.{Path._≡_, Path._∙_, Path.ap, List.List}
 use Prim.Native.Nat.{ℕ, _*_}
 use lib.ListN.{length}
 use Rattle.file_fields.specs.Block.{blockSize}

@@ -5,10 +5,3 @@ pub mod Laid
 pub mod Table
 pub mod Pairs
 pub mod Walk
-pub mod Form
-pub mod Read
-pub mod SoundBlock
-pub mod Bytes
-pub mod Run
-pub mod RunLaws
-pub mod Write

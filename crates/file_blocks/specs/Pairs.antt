@@ -1,7 +1,6 @@
 -- Entries that are two fields of 16 bits side by side: such an entry as one number, and the tables of its two
 -- fields, filled by it.
-use mathlib.Core.Path.{_≡_}
-use mathlib.Core.List.{List}
+use mathlib.Core.{Path._≡_, List.List}
 use Prim.Native.Nat.{ℕ, _+_, _*_, _/_, _%_, _≤_, _<_}
 use native.Mathlib.Nat.{add-zero}
 use lib.ListN.{length, set}

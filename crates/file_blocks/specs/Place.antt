@@ -1,8 +1,7 @@
 -- Where the entries of a kind stand. A kind's blocks are a run from block `from` on, with `per` entries of
 -- `size` bytes a block, all blocks but the last full: entry i is entry i % per of block from + i / per.
 -- Nothing here says what an entry means.
-use mathlib.Core.Path.{_≡_, _∙_, ap}
-use mathlib.Core.List.{List}
+use mathlib.Core.{Path._≡_, Path._∙_, Path.ap, List.List}
 use Prim.Native.Nat.{ℕ, _+_, _-_, _*_, _/_, _%_, _^_, _≤_, _<_, min}
 use native.Mathlib.Nat.{mod-lt, mul-le-mul-left, le-div-iff-mul-le, div-mul-le-self, div-add-mod, mul-add-div}
 use native.Mathlib.Nat.{mul-add-mod-self-left, div-eq-of-lt, mod-eq-of-lt, mul-comm, min-le-left}

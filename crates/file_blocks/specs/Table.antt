@@ -1,16 +1,13 @@
 -- The fields of a kind's entries: one that is read in place is the table's, and a table is filled from those
 -- of 16 bits block by block, so that no entry costs a division.
-use mathlib.Core.Path.{_≡_, sym, _∙_}
-use mathlib.Core.List.{List}
+use mathlib.Core.{Path._≡_, Path.sym, Path._∙_, List.List}
 use Prim.Native.Nat.{ℕ, _+_, _-_, _*_, _≤_, _<_, min}
-use native.Mathlib.Nat.{mul-le-mul-left, lt-div-mul-add, mul-comm}
-use native.Mathlib.Omega.{arith}
+use native.Mathlib.{Nat.mul-le-mul-left, Nat.lt-div-mul-add, Nat.mul-comm, Omega.arith}
 use lib.ListN.{length, getD, set}
 use Rattle.theory_loops.specs.Fill.{Filled, fill-none, fill-up, fill-end, fill-within, fill-join}
 use Rattle.theory_loops.specs.Fill.{tab, getD-tab}
-use Rattle.file_fields.specs.Fields.{le16, le32, le64}
+use Rattle.file_fields.specs.{Fields.le16, Fields.le32, Fields.le64, Block.blockSize, Block.headSize}
 use Rattle.file_blocks.specs.Place.{offset, blocks, entriesIn, RunInFile, offset-at, block-starts}
-use Rattle.file_fields.specs.Block.{blockSize, headSize}
 
 -- the field at byte `at` of entry i, read by w: of two, of four or of eight bytes
 abbrev pub entry : (List ℕ → ℕ → ℕ) → List ℕ → ℕ → ℕ → ℕ → ℕ → ℕ → ℕ

@@ -1,14 +1,11 @@
 -- Where a walk by bytes over the entries of a run stands before entry i: the byte at which that starts, and
 -- how many entries its block has from it on. The laws say that a step takes it before entry i + 1, and what
 -- code reads where it stands.
-use mathlib.Core.Path.{_≡_, refl, _∙_, ap}
-use mathlib.Core.Bool.{Bool, true, false, cond}
+use mathlib.Core.{Path._≡_, Path.refl, Path._∙_, Path.ap, Bool.Bool, Bool.true, Bool.false, Bool.cond}
 use mathlib.Core.List.{List}
 use Prim.Native.Nat.{ℕ, _+_, _-_, _*_, _/_, _%_, _^_, _≤_, _<_}
-use native.Mathlib.Nat.{mod-lt, div-add-mod}
-use native.Mathlib.Omega.{arith}
-use lib.ListN.{length}
-use lib.Dec.{ltb}
+use native.Mathlib.{Nat.mod-lt, Nat.div-add-mod, Omega.arith}
+use lib.{ListN.length, Dec.ltb}
 use borrow.Author.Tests.{ltb-true, ltb-false}
 use Rattle.file_blocks.specs.Place.{offset, offset-in, index-block, index-entry, EntryInFile}
 use Rattle.file_blocks.specs.Table.{entry}

@@ -1,11 +1,9 @@
 -- Fields of a list of bytes, low byte first: a field's value, its bound, and its bytes back from it.
 -- `le8`, `le16`, `le32` and `le64` are the widths that the files have; the laws are stated once, over the
 -- width, on `number` and `byteOf`.
-use mathlib.Core.Path.{_≡_, refl, _∙_}
-use mathlib.Core.List.{List}
+use mathlib.Core.{Path._≡_, Path.refl, Path._∙_, List.List}
 use Prim.Native.Nat.{ℕ, zero, suc, _+_, _*_, _/_, _%_, _^_, _<_}
-use native.Mathlib.Nat.{add-zero, add-assoc, mul-assoc, pow-succ'}
-use native.Mathlib.Omega.{arith}
+use native.Mathlib.{Nat.add-zero, Nat.add-assoc, Nat.mul-assoc, Nat.pow-succ', Omega.arith}
 use lib.ListN.{getD}
 
 -- the fields at byte o

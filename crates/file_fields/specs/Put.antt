@@ -1,12 +1,9 @@
 -- Fields written low byte first: what a write leaves, that it is read back, and a run of fields written one
 -- after the other. Stated once, over the width.
-use mathlib.Core.Path.{_≡_, refl, ap, _∙_}
-use mathlib.Core.List.{List}
+use mathlib.Core.{Path._≡_, Path.refl, Path.ap, Path._∙_, List.List}
 use Prim.Native.Nat.{ℕ, zero, suc, _+_, _-_, _*_, _/_, _%_, _^_, _≤_, _<_}
-use native.Mathlib.Nat.{add-zero, mul-assoc, pow-succ'}
-use native.Mathlib.Omega.{arith}
-use lib.ListN.{length, set}
-use lib.Seq.{sets}
+use native.Mathlib.{Nat.add-zero, Nat.mul-assoc, Nat.pow-succ', Omega.arith}
+use lib.{ListN.length, ListN.set, Seq.sets}
 use Rattle.theory_loops.specs.Fill.{Filled, tab, fill-none, fill-up, fill-end}
 use Rattle.file_fields.specs.Fields.{byteOf}
 

@@ -1,19 +1,13 @@
 -- A block's check, as document 01 words it: over 254 sixteen-bit words, A and then B, each reduced at every
 -- step. The code adds plain numbers, four columns of the words at once, and reduces once: the laws below say
 -- that this is the same.
-use mathlib.Core.Path.{_≡_, refl, sym, _∙_}
-use mathlib.Core.Bool.{Bool, _&&_}
-use mathlib.Core.List.{List}
+use mathlib.Core.{Path._≡_, Path.refl, Path.sym, Path._∙_, Bool.Bool, Bool._&&_, List.List}
 use Prim.Native.Nat.{ℕ, zero, suc, _+_, _-_, _*_, _%_, _≤_, _<_}
-use native.Mathlib.Nat.{mod-add-mod, add-mod}
-use native.Mathlib.Numerals.{add-one}
-use native.Mathlib.Omega.{arith}
-use lib.ListN.{take, drop}
-use lib.Dec.{eqb}
+use native.Mathlib.{Nat.mod-add-mod, Nat.add-mod, Numerals.add-one, Omega.arith}
+use lib.{ListN.take, ListN.drop, Dec.eqb}
 use borrow.Author.Tests.{eq-eqb, ne-eqb}
-use Rattle.file_fields.specs.Fields.{le16}
+use Rattle.file_fields.specs.{Fields.le16, Block.blockSize, Block.summedSize, Block.summedWords}
 use Rattle.file_fields.specs.declared.sum.Sums.{Sums}
-use Rattle.file_fields.specs.Block.{blockSize, summedSize, summedWords}
 
 -- A and B after the first n words
 unfoldable pub sums : List ℕ → ℕ → Sums

@@ -1,19 +1,15 @@
 -- The frames of a run of blocks, each a head and zeros up to its check (`Framed`), and the body that they
 -- make: that of the run before any entry is in (`run-framed`).
-use mathlib.Core.Path.{_≡_, refl, _∙_, ap, sym}
+use mathlib.Core.{Path._≡_, Path.refl, Path._∙_, Path.ap, Path.sym, List.List}
 use mathlib.Core.Bool.{Bool, true, false, cond}
-use mathlib.Core.List.{List}
 use Prim.Native.Nat.{ℕ, _+_, _-_, _*_, _/_, _^_, _≤_, _<_}
-use native.Mathlib.Omega.{arith}
-use native.Mathlib.Decide.{decLt}
-use lib.ListN.{length, getD}
-use lib.Dec.{ltb}
+use native.Mathlib.{Omega.arith, Decide.decLt}
+use lib.{ListN.length, ListN.getD, Dec.ltb}
 use borrow.Author.Tests.{lt-ltb, le-ltb}
 use Rattle.theory_loops.specs.Fill.{Filled, fill-within, fill-join}
 use Rattle.file_fields.specs.Block.{blockSize, summedSize, headSize, entriesSize}
 use Rattle.file_blocks.specs.Place.{blocks, entriesIn, block-used}
-use Rattle.file_blocks.specs.Run.{headByte, entryByte, runBody}
-use Rattle.file_blocks.specs.Write.{headed, headed-filled}
+use Rattle.file_write.specs.{Run.headByte, Run.entryByte, Run.runBody, Write.headed, Write.headed-filled}
 use Rattle.file_frames.specs.Laid.{BodyLaid, none}
 
 -- a run of n entries from block `from` on, whose frames a list of `room` bytes has room for

@@ -1,23 +1,16 @@
 -- A file in the making, block by block, whatever its entries mean: the bytes of each block but its check are
 -- those of a body (`BodyLaid`), and an entry put at its place makes the body that has it too (`entry-laid`).
-use mathlib.Core.Path.{_≡_, refl, sym, _∙_, ap}
-use mathlib.Core.Bool.{cond}
-use mathlib.Core.List.{List}
+use mathlib.Core.{Path._≡_, Path.refl, Path.sym, Path._∙_, Path.ap, Bool.cond, List.List}
 use Prim.Native.Nat.{ℕ, zero, suc, _+_, _-_, _*_, _/_, _%_, _≤_, _<_}
-use native.Mathlib.Nat.{mul-le-mul-left, mod-lt, div-add-mod}
-use native.Mathlib.Omega.{arith}
-use native.Mathlib.Decide.{decLt}
-use lib.ListN.{length, getD}
-use lib.Dec.{ltb}
+use native.Mathlib.{Nat.mul-le-mul-left, Nat.mod-lt, Nat.div-add-mod, Omega.arith, Decide.decLt}
+use lib.{ListN.length, ListN.getD, Dec.ltb}
 use borrow.Author.Tests.{lt-ltb, le-ltb}
 use Rattle.theory_loops.specs.Fill.{Filled}
 use Rattle.file_fields.specs.Block.{blockSize, summedSize, headSize, entriesSize}
-use Rattle.file_fields.specs.Fields.{byteOf}
-use Rattle.file_fields.specs.Put.{put, put-filled}
+use Rattle.file_fields.specs.{Fields.byteOf, Put.put, Put.put-filled}
 use Rattle.file_blocks.specs.Place.{offset, blocks, entriesIn, index-in, index-block, index-entry}
 use Rattle.file_blocks.specs.Place.{block-below}
-use Rattle.file_blocks.specs.Run.{entryByte, runBody}
-use Rattle.file_blocks.specs.RunLaws.{entry-byte}
+use Rattle.file_write.specs.{Run.entryByte, Run.runBody, RunLaws.entry-byte}
 
 -- the first n blocks of a list have the body's bytes, what stands in their checks is anything, and the rest
 -- is old

@@ -1,26 +1,17 @@
 -- A file of a header and three runs of entries behind each other, by its shape: which kinds, and how many
 -- entries. Its body is given by its entries' bytes (`runsBody`); the laws say how the body grows while the
 -- file is written: frames, the header, an entry of one of the runs, and the checks.
-use mathlib.Core.Path.{_≡_, refl, sym, _∙_, ap}
-use mathlib.Core.Bool.{cond}
-use mathlib.Core.List.{List}
+use mathlib.Core.{Path._≡_, Path.refl, Path.sym, Path._∙_, Path.ap, Bool.cond, List.List}
 use Prim.Native.Nat.{ℕ, _+_, _*_, _≤_, _<_}
-use native.Mathlib.Omega.{arith}
-use native.Mathlib.Decide.{decLt}
-use lib.ListN.{length}
-use lib.Dec.{ltb, lit<}
+use native.Mathlib.{Omega.arith, Decide.decLt}
+use lib.{ListN.length, Dec.ltb, Dec.lit<}
 use borrow.Author.Tests.{lt-ltb, le-ltb}
 use Rattle.theory_loops.specs.Fill.{overwritten}
-use Rattle.file_fields.specs.Block.{blockSize, headSize, entriesSize}
-use Rattle.file_fields.specs.Fields.{byteOf}
-use Rattle.file_fields.specs.Put.{put}
-use Rattle.file_blocks.specs.Bytes.{fileOf}
+use Rattle.file_fields.specs.{Block.blockSize, Block.headSize, Block.entriesSize, Fields.byteOf, Put.put}
+use Rattle.file_write.specs.{Bytes.fileOf, Run.runBody, RunLaws.same-body}
 use Rattle.file_blocks.specs.Place.{offset, blocks}
-use Rattle.file_blocks.specs.Run.{runBody}
-use Rattle.file_blocks.specs.RunLaws.{same-body}
 use Rattle.file_frames.specs.Laid.{BodyLaid, laid-start, laid-same, upTo, none, upTo-none, upTo-below}
-use Rattle.file_frames.specs.Laid.{entry-laid}
-use Rattle.file_frames.specs.Framed.{Framed, run-framed}
+use Rattle.file_frames.specs.{Laid.entry-laid, Framed.Framed, Framed.run-framed}
 use Rattle.file_frames.specs.Sealed.{sealedTo, laid-sealed}
 
 -- a run of `count` entries of a kind

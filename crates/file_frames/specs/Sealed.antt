@@ -1,14 +1,13 @@
 -- The checks of a file whose other bytes stand: each block in its order (`sealedTo`). A file in the making is
 -- the body's file then (`laid-sealed`).
-use mathlib.Core.Path.{_≡_, refl, sym, _∙_}
-use mathlib.Core.List.{List}
+use mathlib.Core.{Path._≡_, Path.refl, Path.sym, Path._∙_, List.List}
 use Prim.Native.Nat.{ℕ, zero, suc, _+_, _-_, _*_, _≤_}
 use native.Mathlib.Omega.{arith}
 use lib.ListN.{length, getD}
 use Rattle.theory_loops.specs.Fill.{Filled, fill-none, fill-join, filled-list, length-tab, overwritten}
 use Rattle.file_fields.specs.Block.{blockSize, summedSize}
-use Rattle.file_blocks.specs.Bytes.{fileByte, fileOf, fileByte-at, stored-body}
-use Rattle.file_blocks.specs.Write.{sealed, sealed-block}
+use Rattle.file_write.specs.Bytes.{fileByte, fileOf, fileByte-at, stored-body}
+use Rattle.file_write.specs.Write.{sealed, sealed-block}
 use Rattle.file_frames.specs.Laid.{BodyLaid}
 
 -- the checks of the first n blocks

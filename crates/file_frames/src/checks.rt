@@ -1,5 +1,5 @@
 // The checks of a file whose other bytes stand.
-use file_blocks::write::write_check;
+use file_write::write::write_check;
 ghost use mathlib.Core.Path.{_≡_};
 ghost use Prim.Native.Nat.{_*_, _≤_};
 ghost use lib.ListN.{length};

@@ -1,11 +1,11 @@
 // The frames of a run of blocks: each block with its head and zeros, before any entry is in.
 use file_blocks::place::blocks;
 use file_blocks::place::entries_in;
-use file_blocks::write::write_head;
-use file_blocks::write::write_zeros;
 use file_fields::BLOCK;
 use file_fields::HEAD;
 use file_fields::SUMMED;
+use file_write::write::write_head;
+use file_write::write::write_zeros;
 ghost use mathlib.Core.Path.{_≡_};
 ghost use Prim.Native.Nat.{_+_, _*_, _^_, _≤_, _<_};
 ghost use lib.ListN.{length};

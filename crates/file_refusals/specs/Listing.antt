@@ -5,8 +5,7 @@ use Prim.Native.Nat.{ℕ}
 use Rattle.theory_loops.specs.Fill.{overwritten}
 use Rattle.file_refusals.specs.declared.listing.Listing.{Listing}
 use Rattle.file_refusals.specs.declared.listing.Listing.the-variants.{Listed, Refused}
-use Rattle.file_refusals.specs.Refusal.{refusal}
-use Rattle.file_refusals.specs.Says.{Says, answers, refuses}
+use Rattle.file_refusals.specs.{Refusal.refusal, Says.Says, Says.answers, Says.refuses}
 
 abbrev pub listingSays : Listing → Says
 listingSays (Listed c) = answers (c .entries ∷ [])

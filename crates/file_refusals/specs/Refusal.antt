@@ -1,7 +1,6 @@
 -- A refusal at one place, and a judgement that is one. The other two places are 0.
 use Prim.Native.Nat.{ℕ}
-use Rattle.file_refusals.specs.declared.Refusal.{Refusal}
-use Rattle.file_refusals.specs.declared.Judged.{Judged}
+use Rattle.file_refusals.specs.declared.{Refusal.Refusal, Judged.Judged}
 use Rattle.file_refusals.specs.declared.Judged.the-variants.{Faulty}
 
 abbrev pub refusal : ℕ → ℕ → Refusal

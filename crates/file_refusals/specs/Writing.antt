@@ -1,17 +1,13 @@
 -- What an operation that writes a file answers, in document 01's terms: the file's length. The lent bytes are
 -- written only where nothing is refused, and then the first of them alone, which become the file.
-use mathlib.Core.Path.{_≡_}
-use mathlib.Core.Bool.{cond}
-use mathlib.Core.List.{List, [], _∷_}
+use mathlib.Core.{Path._≡_, Bool.cond, List.List, List.[], List._∷_}
 use Prim.Native.Nat.{ℕ, _≤_, _<_}
-use lib.ListN.{length}
-use lib.Dec.{ltb}
+use lib.{ListN.length, Dec.ltb}
 use borrow.Author.Tests.{lt-ltb, le-ltb}
 use Rattle.theory_loops.specs.Fill.{overwritten}
 use Rattle.file_refusals.specs.declared.writing.Writing.{Writing}
 use Rattle.file_refusals.specs.declared.writing.Writing.the-variants.{Written, Refused}
-use Rattle.file_refusals.specs.Refusal.{refusal}
-use Rattle.file_refusals.specs.Says.{Says, answers, refuses}
+use Rattle.file_refusals.specs.{Refusal.refusal, Says.Says, Says.answers, Says.refuses}
 
 abbrev pub writingSays : Writing → Says
 writingSays (Written l) = answers (l .bytes ∷ [])

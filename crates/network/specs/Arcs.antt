@@ -1,15 +1,10 @@
 -- An arc's entry as it is read by its block and its place there.
-use mathlib.Core.Path.{_≡_}
-use mathlib.Core.List.{List}
+use mathlib.Core.{Path._≡_, List.List}
 use Prim.Native.Nat.{ℕ, _+_, _*_, _≤_, _<_}
-use native.Mathlib.Nat.{add-zero}
-use native.Mathlib.Omega.{arith}
-use lib.ListN.{length}
-use lib.Dec.{lit<}
-use Rattle.file_fields.specs.Block.{blockSize, headSize}
-use Rattle.file_fields.specs.Fields.{le16}
-use Rattle.file_blocks.specs.Kind.{arcSize, arcPer}
-use Rattle.file_blocks.specs.Place.{offset, offset-at}
+use native.Mathlib.{Nat.add-zero, Omega.arith}
+use lib.{ListN.length, Dec.lit<}
+use Rattle.file_fields.specs.{Block.blockSize, Block.headSize, Fields.le16}
+use Rattle.file_blocks.specs.{Kind.arcSize, Kind.arcPer, Place.offset, Place.offset-at}
 use Rattle.network.specs.declared.header.Layout.{Layout}
 use Rattle.network.specs.declared.arcs.Entry.{Entry}
 use Rattle.network.specs.Network.{Network, tail, head, count}

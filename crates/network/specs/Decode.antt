@@ -1,29 +1,22 @@
 -- The network that a file holds, field by field, and the laws by which code reads it in place.
 -- Every list of bytes decodes to some network; what makes it a network file is validation.
-use mathlib.Core.Path.{_≡_, refl, sym, _∙_}
-use mathlib.Core.List.{List}
+use mathlib.Core.{Path._≡_, Path.refl, Path.sym, Path._∙_, List.List}
 use Prim.Native.Nat.{ℕ, zero, suc, _+_, _*_, _^_, _≤_, _<_}
 use native.Mathlib.Omega.{arith}
-use lib.ListN.{length, getD}
-use lib.Dec.{lit<, lit≤}
+use lib.{ListN.length, ListN.getD, Dec.lit<, Dec.lit≤}
 use Rattle.theory_loops.specs.Fill.{tab, length-tab, getD-tab}
-use Rattle.file_fields.specs.Block.{blockSize}
-use Rattle.file_fields.specs.Fields.{le8, le16, le32}
-use Rattle.file_blocks.specs.Table.{entry16, entry-is}
+use Rattle.file_fields.specs.{Block.blockSize, Fields.le8, Fields.le16, Fields.le32}
+use Rattle.file_blocks.specs.{Table.entry16, Table.entry-is, Laid.LaidOut, Kind.pointPer}
 use Rattle.file_blocks.specs.Place.{blocks, RunInFile, EntryInFile, entry-stands}
-use Rattle.file_blocks.specs.Laid.{LaidOut}
-use Rattle.network.specs.declared.header.Header.{Header}
-use Rattle.network.specs.declared.header.Layout.{Layout}
+use Rattle.network.specs.declared.header.{Header.Header, Layout.Layout}
 use Rattle.network.specs.Limits.{WithinLimits, mostPeriod, mostNodes, mostArcs, mostCells, mostPoints}
-use Rattle.network.specs.Limits.{mostHours}
+use Rattle.network.specs.{Limits.mostHours, Layout.LaidBlocks, Layout.layout-blocks}
 use Rattle.network.specs.Node.{nodeSize, nodePer, nodeBlocks, node-fits, node-blocks-most}
 use Rattle.network.specs.Node.{size-plain, per-plain, size-held, per-held}
 use Rattle.network.specs.Layout.{arcBlock, pointBlock, allBlocks, mostBlocks, mostBytes, layoutOf}
-use Rattle.network.specs.Layout.{LaidBlocks, layout-blocks}
 use Rattle.network.specs.Network.{Network, nodes, arcs, points, cell, opensAt, closesAt, tail, head}
 use Rattle.network.specs.Network.{count, tick, travel}
 use Rattle.file_blocks.specs.Kind.{cellSize, cellPer, hoursSize, hoursPer, arcSize, arcPer, pointSize}
-use Rattle.file_blocks.specs.Kind.{pointPer}
 
 -- the numbers in a file's first block
 abbrev pub headerAt : List ℕ → Header

@@ -1,12 +1,10 @@
 -- The first point of all arcs at which a test holds: the first arc that has such a point, and its first. The
 -- laws lead from the arcs to `firstPoint`.
-use mathlib.Core.Path.{_≡_}
-use mathlib.Core.Bool.{Bool}
+use mathlib.Core.{Path._≡_, Bool.Bool}
 use Prim.Native.Nat.{ℕ, _+_, _≤_, _<_}
 use native.Mathlib.Omega.{arith}
 use borrow.Author.Tests.{lt-ltb, le-ltb}
-use Rattle.theory_loops.specs.First.{first, any}
-use Rattle.theory_loops.specs.Total.{total-part}
+use Rattle.theory_loops.specs.{First.first, First.any, Total.total-part}
 use Rattle.network.specs.Network.{Network, arcs, points, count, start}
 use Rattle.network.specs.Rules.{firstPoint}
 

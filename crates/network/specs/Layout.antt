@@ -3,11 +3,9 @@
 use mathlib.Core.Path.{_≡_, refl}
 use Prim.Native.Nat.{ℕ, _+_, _*_}
 use Rattle.file_fields.specs.Block.{blockSize}
-use Rattle.file_blocks.specs.Place.{blocks}
+use Rattle.file_blocks.specs.{Place.blocks, Kind.hoursPer, Kind.arcPer, Kind.pointPer}
 use Rattle.network.specs.Limits.{mostNodes, mostArcs, mostPoints}
-use Rattle.network.specs.declared.header.Header.{Header}
-use Rattle.network.specs.declared.header.Layout.{Layout}
-use Rattle.file_blocks.specs.Kind.{hoursPer, arcPer, pointPer}
+use Rattle.network.specs.declared.header.{Header.Header, Layout.Layout}
 use Rattle.network.specs.Node.{nodePer, nodeBlocks}
 
 -- the first block of the arcs and of the points, and how many blocks there are

@@ -1,12 +1,10 @@
 -- The limits of a network's numbers, and the header that numbers within them make.
-use mathlib.Core.Path.{_≡_, refl, sym}
-use mathlib.Core.Bool.{Bool, true, false, cond}
+use mathlib.Core.{Path._≡_, Path.refl, Path.sym, Bool.Bool, Bool.true, Bool.false, Bool.cond}
 use Prim.Native.Nat.{ℕ, _-_, _≤_}
 use native.Mathlib.Omega.{arith}
 use lib.Dec.{ltb}
 use borrow.Author.Tests.{ltb-false, le-ltb}
-use Rattle.network.specs.declared.header.Header.{Header}
-use Rattle.network.specs.declared.header.Made.{Made}
+use Rattle.network.specs.declared.header.{Header.Header, Made.Made}
 use Rattle.network.specs.declared.header.Made.the-variants.{Inside, Outside}
 
 abbrev pub mostPeriod : ℕ

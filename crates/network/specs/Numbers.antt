@@ -1,24 +1,19 @@
 -- The numbers of refusals: those of a network file are 1 to 10 and 37, and those of its rules 7 to 10 and 37.
-use mathlib.Core.Path.{_≡_, refl}
-use mathlib.Core.Logic.{_⊎_, inl, inr, ⊎-elim}
-use mathlib.Core.List.{List}
+use mathlib.Core.{Path._≡_, Path.refl, Logic._⊎_, Logic.inl, Logic.inr, Logic.⊎-elim, List.List}
 use Prim.Native.Nat.{ℕ, _+_, _*_, _≤_}
 use native.Mathlib.Omega.{arith}
-use lib.ListN.{length}
-use lib.Dec.{eqb, ltb}
+use lib.{ListN.length, Dec.eqb, Dec.ltb}
 use Rattle.theory_loops.specs.Pick.{cond-holds, rung-holds}
-use Rattle.file_blocks.specs.Form.{formed, badLength}
-use Rattle.file_refusals.specs.declared.Refusal.{Refusal}
-use Rattle.file_refusals.specs.declared.Judged.{Judged}
+use Rattle.file_forms.specs.Form.{formed, badLength}
+use Rattle.file_blocks.specs.Kind.{networkKind, networkSize}
+use Rattle.file_refusals.specs.declared.{Refusal.Refusal, Judged.Judged}
 use Rattle.file_refusals.specs.declared.Judged.the-variants.{Sound, Faulty}
 use Rattle.network.specs.declared.answer.Opening.{Opening}
 use Rattle.network.specs.declared.answer.Opening.the-variants.{Refused}
-use Rattle.network.specs.declared.header.Header.{Header}
-use Rattle.network.specs.declared.header.Made.{Made}
+use Rattle.network.specs.declared.header.{Header.Header, Made.Made}
 use Rattle.network.specs.declared.header.Made.the-variants.{Inside, Outside}
-use Rattle.network.specs.Layout.{allBlocks, mostBytes}
+use Rattle.network.specs.{Layout.allBlocks, Layout.mostBytes, Decode.decode}
 use Rattle.network.specs.Network.{Network, arcs, points, start}
-use Rattle.network.specs.Decode.{decode}
 use Rattle.file_refusals.specs.Refusal.{refusal}
 use Rattle.file_refusals.specs.Numbered.{Between, Numbered, numbered, same-faulty}
 use Rattle.network.specs.Rules.{firstPoint, badPointOf, overtakenOf, judgedPoints, judgedSum}
@@ -26,7 +21,6 @@ use Rattle.network.specs.Rules.{judgedArcs, judgedHours, judged}
 use Rattle.network.specs.Validate.{firstUnformed, madeAt, validatedRules, validatedForm}
 use Rattle.network.specs.Validate.{validatedLength, validatedHeader, validatedFirst, validated}
 use Rattle.file_fields.specs.Block.{blockSize, headSize}
-use Rattle.file_blocks.specs.Kind.{networkKind, networkSize}
 
 pub same-refused : (q r : Refusal) → Refused q ≡ Refused r → q ≡ r
 same-refused q r e = cc

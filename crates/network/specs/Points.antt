@@ -1,15 +1,11 @@
 -- Where the points of a stretch stand: side by side, from its first one on to the end of that one's block.
 -- The code steps from one to the next, and to the next block's first, without a division.
-use mathlib.Core.Path.{_≡_}
-use mathlib.Core.List.{List}
+use mathlib.Core.{Path._≡_, List.List}
 use Prim.Native.Nat.{ℕ, _+_, _-_, _*_, _%_, _≤_, _<_}
-use native.Mathlib.Nat.{add-zero}
-use native.Mathlib.Omega.{arith}
+use native.Mathlib.{Nat.add-zero, Omega.arith}
 use lib.ListN.{length}
-use Rattle.file_fields.specs.Block.{blockSize}
-use Rattle.file_fields.specs.Fields.{le16}
-use Rattle.file_blocks.specs.Kind.{pointSize, pointPer}
-use Rattle.file_blocks.specs.Place.{offset}
+use Rattle.file_fields.specs.{Block.blockSize, Fields.le16}
+use Rattle.file_blocks.specs.{Kind.pointSize, Kind.pointPer, Place.offset}
 use Rattle.network.specs.declared.header.Layout.{Layout}
 use Rattle.network.specs.declared.points.Stretch.{Stretch}
 use Rattle.network.specs.Network.{tick, travel}

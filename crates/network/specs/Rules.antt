@@ -1,23 +1,17 @@
 -- The rules 7 to 10 and 37 that a network's tables keep, as tests and as one ladder, in which 37 stands
 -- straight after 7: the first number that fails anywhere, then its lowest place. Points are numbered through
 -- all arcs, so the lowest point is the lowest of the first arc that has one.
-use mathlib.Core.Path.{_≡_}
-use mathlib.Core.Bool.{Bool, false, cond, not, _||_}
-use mathlib.Core.List.{List}
+use mathlib.Core.{Path._≡_, Bool.Bool, Bool.false, Bool.cond, Bool.not, Bool._||_, List.List}
 use Prim.Native.Nat.{ℕ, suc, _+_}
 use lib.Dec.{leb, ltb, eqb}
-use Rattle.theory_loops.specs.First.{first, any}
-use Rattle.theory_loops.specs.Pick.{firstRung}
-use Rattle.theory_travel.specs.Ticks.{badTick}
-use Rattle.theory_travel.specs.Day.{closed}
-use Rattle.theory_travel.specs.Table.{entryAt}
+use Rattle.theory_loops.specs.{First.first, First.any, Pick.firstRung}
+use Rattle.theory_travel.specs.{Ticks.badTick, Day.closed, Table.entryAt}
 use Rattle.file_refusals.specs.declared.Judged.{Judged}
 use Rattle.file_refusals.specs.declared.Judged.the-variants.{Sound}
 use Rattle.file_refusals.specs.Refusal.{faulty}
 use Rattle.network.specs.declared.header.Layout.{Layout}
-use Rattle.network.specs.Decode.{decode, Laid, laid-sizes}
+use Rattle.network.specs.{Decode.decode, Decode.Laid, Decode.laid-sizes, Network.count, Network.start}
 use Rattle.network.specs.Network.{Network, nodes, arcs, points, cell, opensAt, closesAt, tail, head}
-use Rattle.network.specs.Network.{count, start}
 
 -- 7: a cell that is not below the count of cells
 abbrev pub badCell : Network → ℕ → Bool

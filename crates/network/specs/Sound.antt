@@ -1,17 +1,13 @@
 -- What the rules 7 to 10 and 37 ask of a network, said of its nodes, arcs and points (`SoundNetwork`). The
 -- ladder of tests judges a network sound exactly when this holds (`sound-exactly`).
-use mathlib.Core.Path.{_≡_, refl, _∙_}
-use mathlib.Core.Logic.{_≢_, _↔_}
-use mathlib.Core.Bool.{Bool, false}
+use mathlib.Core.{Path._≡_, Path.refl, Path._∙_, Logic._≢_, Logic._↔_, Bool.Bool, Bool.false}
 use Prim.Native.Nat.{ℕ, zero, suc, _≤_, _<_}
-use native.Mathlib.Omega.{arith}
-use native.Mathlib.Decide.{decLt}
+use native.Mathlib.{Omega.arith, Decide.decLt}
 use borrow.Author.Tests.{ltb-true, ltb-false, leb-false, eqb-true, eqb-false, not-false, lt-leb, le-ltb}
 use borrow.Author.Tests.{eq-eqb, ne-eqb}
 use Rattle.theory_loops.specs.First.{first, first-le, clear, all-clear, found}
 use Rattle.theory_loops.specs.Pick.{or-passed, passed-by, reached-by, rung-passed, rung-clear}
-use Rattle.theory_travel.specs.Points.{Fifo}
-use Rattle.theory_travel.specs.Day.{Day, closed, closed-in}
+use Rattle.theory_travel.specs.{Points.Fifo, Day.Day, Day.closed, Day.closed-in}
 use Rattle.theory_travel.specs.Ticks.{badTick, ticks-day}
 use Rattle.file_refusals.specs.declared.Judged.the-variants.{Sound}
 use Rattle.network.specs.Network.{Network, nodes, arcs, points, cell, opensAt, closesAt, tail, head}

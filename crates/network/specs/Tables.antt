@@ -1,7 +1,6 @@
 -- The eight tables of a network as a caller lends them, which may be longer than their counts, and the
 -- network of their first entries.
-use mathlib.Core.Path.{_≡_}
-use mathlib.Core.List.{List}
+use mathlib.Core.{Path._≡_, List.List}
 use Prim.Native.Nat.{ℕ}
 use lib.ListN.{take}
 use Rattle.network.specs.declared.header.Header.{Header}

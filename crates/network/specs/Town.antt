@@ -1,12 +1,10 @@
 -- The graph of a network: its arcs, and their travel on the straight line. The graph of a sound network is
 -- lawful, so that all that the theory of paths proves holds of it.
 use Prim.Native.Nat.{ℕ, _≤_}
-use Rattle.theory_paths.specs.Graph.{Graph, Lawful, Bounded, ends}
-use Rattle.theory_paths.specs.Partition.{Partition}
+use Rattle.theory_paths.specs.{Graph.Graph, Graph.Lawful, Graph.Bounded, Graph.ends, Partition.Partition}
 use Rattle.theory_travel.specs.Day.{dayValue, day-least, day-most, day-fifo}
 use Rattle.network.specs.Network.{Network, nodes, arcs, cell, tail, head, count}
-use Rattle.network.specs.Rules.{ticksOf, travelsOf}
-use Rattle.network.specs.Sound.{SoundNetwork}
+use Rattle.network.specs.{Rules.ticksOf, Rules.travelsOf, Sound.SoundNetwork}
 
 -- how many ticks arc a takes when it is taken at tick x of the period
 unfoldable pub travelAt : Network → ℕ → ℕ → ℕ

@@ -1,37 +1,30 @@
 -- What a file that validation lets pass is, block by block and rule by rule: `ValidFile`, and that this is
 -- exactly what is let pass (`valid-exactly`). Nothing of the file is left out: its length, every sum, every
 -- block's form, the header and the tables.
-use mathlib.Core.Path.{_≡_, refl, _∙_, ap, subst}
-use mathlib.Core.Logic.{_↔_}
+use mathlib.Core.{Path._≡_, Path.refl, Path._∙_, Path.ap, Path.subst, Logic._↔_, List.List}
 use mathlib.Core.Bool.{true, false, not}
-use mathlib.Core.List.{List}
 use Prim.Native.Nat.{ℕ, _+_, _*_, _/_, _≤_, _<_}
 use native.Mathlib.Omega.{arith}
-use lib.ListN.{length}
-use lib.Dec.{ltb, eqb}
+use lib.{ListN.length, Dec.ltb, Dec.eqb}
 use borrow.Author.Tests.{ltb-false, eqb-true, not-false, le-ltb, eq-eqb}
 use Rattle.theory_loops.specs.Pick.{firstRung, passed-by, reached-by, rung-passed, rung-clear}
-use Rattle.file_blocks.specs.Laid.{laid-by}
-use Rattle.file_fields.specs.Sum.{good}
-use Rattle.file_blocks.specs.Form.{formed, RunFormed, badLength, formed-past, past-formed, fine-length}
-use Rattle.file_blocks.specs.Read.{bad}
+use Rattle.file_blocks.specs.{Laid.laid-by, Kind.pointPer}
+use Rattle.file_forms.specs.Read.{bad}
+use Rattle.file_fields.specs.{Sum.good, Block.blockSize, Block.headSize}
+use Rattle.file_forms.specs.Form.{formed, RunFormed, badLength, formed-past, past-formed, fine-length}
 use Rattle.file_refusals.specs.declared.Judged.{Judged}
 use Rattle.file_refusals.specs.declared.Judged.the-variants.{Sound, Faulty}
 use Rattle.network.specs.declared.answer.Opening.the-variants.{Opened}
-use Rattle.network.specs.declared.header.Header.{Header}
-use Rattle.network.specs.declared.header.Made.{Made}
+use Rattle.network.specs.declared.header.{Header.Header, Made.Made}
 use Rattle.network.specs.declared.header.Made.the-variants.{Inside, Outside}
-use Rattle.network.specs.Limits.{WithinLimits, within-made}
+use Rattle.network.specs.{Limits.WithinLimits, Limits.within-made, Rules.judged}
 use Rattle.network.specs.Layout.{arcBlock, pointBlock, allBlocks, layoutOf, mostBytes}
 use Rattle.network.specs.Decode.{headerAt, decode, Laid}
-use Rattle.network.specs.Rules.{judged}
 use Rattle.network.specs.Sound.{SoundNetwork, sound-exactly}
 use Rattle.network.specs.Validate.{unopened, firstUnformed}
 use Rattle.network.specs.Validate.{validatedRules, validatedForm, validatedLength, validatedHeader}
 use Rattle.network.specs.Validate.{madeAt, validatedFirst, validated, header-within, header-is}
-use Rattle.file_fields.specs.Block.{blockSize, headSize}
 use Rattle.file_blocks.specs.Kind.{networkKind, networkSize, arcKind, arcSize, arcPer, pointKind, pointSize}
-use Rattle.file_blocks.specs.Kind.{pointPer}
 use Rattle.network.specs.Node.{nodeKind, nodeSize, nodePer, nodeBlocks, node-blocks-most}
 
 pub record ValidFile (file : List ℕ) (h : Header) : Type 0 where

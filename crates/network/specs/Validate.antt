@@ -1,38 +1,28 @@
 -- Validation of a network file, refusals 1 to 10 in the order of document 01, and 37 straight after 7: the
 -- length, every block's check, the first block's form, the header's limits, the length again, the later
 -- blocks' forms, and the rules of the tables. Every whole block is summed before the header is looked at.
-use mathlib.Core.Path.{_≡_, sym, _∙_}
-use mathlib.Core.Bool.{cond}
-use mathlib.Core.List.{List}
+use mathlib.Core.{Path._≡_, Path.sym, Path._∙_, Bool.cond, List.List}
 use Prim.Native.Nat.{ℕ, _+_, _*_, _/_, _≤_, _<_}
 use native.Mathlib.Omega.{arith}
-use lib.ListN.{length}
-use lib.Dec.{ltb, eqb}
+use lib.{ListN.length, Dec.ltb, Dec.eqb}
 use borrow.Author.Tests.{lt-ltb, le-ltb, eq-eqb, ne-eqb}
 use Rattle.theory_loops.specs.Pick.{firstRung}
-use Rattle.file_fields.specs.Fields.{le8, le16, le32}
-use Rattle.file_blocks.specs.Place.{blocks}
-use Rattle.file_blocks.specs.Laid.{laid-by}
-use Rattle.file_blocks.specs.Form.{formed, unformedOr, badLength, run-taken, run-passed, run-last}
-use Rattle.file_blocks.specs.Read.{bad}
-use Rattle.file_refusals.specs.declared.Refusal.{Refusal}
-use Rattle.file_refusals.specs.declared.Judged.{Judged}
+use Rattle.file_fields.specs.{Fields.le8, Fields.le16, Fields.le32, Block.blockSize, Block.headSize}
+use Rattle.file_blocks.specs.{Place.blocks, Laid.laid-by, Kind.pointPer}
+use Rattle.file_forms.specs.Read.{bad}
+use Rattle.file_forms.specs.Form.{formed, unformedOr, badLength, run-taken, run-passed, run-last}
+use Rattle.file_refusals.specs.declared.{Refusal.Refusal, Judged.Judged}
 use Rattle.file_refusals.specs.declared.Judged.the-variants.{Sound, Faulty}
 use Rattle.network.specs.declared.answer.Opening.{Opening}
 use Rattle.network.specs.declared.answer.Opening.the-variants.{Opened, Refused}
-use Rattle.network.specs.declared.header.Header.{Header}
-use Rattle.network.specs.declared.header.Made.{Made}
+use Rattle.network.specs.declared.header.{Header.Header, Made.Made, Layout.Layout}
 use Rattle.network.specs.declared.header.Made.the-variants.{Inside, Outside}
-use Rattle.network.specs.Limits.{made, WithinLimits, made-within}
+use Rattle.network.specs.{Limits.made, Limits.WithinLimits, Limits.made-within, Decode.points-stored}
 use Rattle.network.specs.Layout.{arcBlock, pointBlock, allBlocks, layoutOf, mostBlocks, mostBytes}
-use Rattle.network.specs.declared.header.Layout.{Layout}
 use Rattle.network.specs.Decode.{headerAt, decode, Laid, laid-blocks, nodes-stored, arcs-stored}
-use Rattle.network.specs.Decode.{points-stored}
 use Rattle.file_refusals.specs.Refusal.{refusal}
 use Rattle.network.specs.Rules.{judged}
-use Rattle.file_fields.specs.Block.{blockSize, headSize}
 use Rattle.file_blocks.specs.Kind.{networkKind, networkSize, arcKind, arcSize, arcPer, pointKind, pointSize}
-use Rattle.file_blocks.specs.Kind.{pointPer}
 use Rattle.network.specs.Node.{nodeKind, nodeSize, nodePer, nodeBlocks, node-blocks-most}
 
 abbrev pub unopened : ℕ → ℕ → Opening

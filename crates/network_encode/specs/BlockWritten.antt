@@ -1,20 +1,15 @@
 -- A whole block of a run as it is written: a head, entries, zeros and a check make the file's block
 -- (`block-written`), and bytes that agree where a block has any make the same block. Said once over the kind.
-use mathlib.Core.Path.{_≡_, sym, _∙_}
-use mathlib.Core.List.{List}
+use mathlib.Core.{Path._≡_, Path.sym, Path._∙_, List.List}
 use Prim.Native.Nat.{ℕ, _+_, _-_, _*_, _/_, _%_, _≤_, _<_}
-use native.Mathlib.Nat.{div-lt-iff-lt-mul}
-use native.Mathlib.Nat.{mul-comm}
-use native.Mathlib.Omega.{arith}
-use lib.ListN.{length}
-use lib.Seq.{ext-getD}
+use native.Mathlib.{Nat.div-lt-iff-lt-mul, Nat.mul-comm, Omega.arith}
+use lib.{ListN.length, Seq.ext-getD}
 use borrow.Author.Tests.{lt-ltb, le-ltb}
 use Rattle.theory_loops.specs.Fill.{Filled, tab, length-tab, getD-tab, fill-within, fill-join}
 use Rattle.file_blocks.specs.Place.{entriesIn}
-use Rattle.file_blocks.specs.Bytes.{stored, fileByte, fileByte-at, stored-body}
-use Rattle.file_blocks.specs.Run.{headByte, entryByte, runBody}
-use Rattle.file_blocks.specs.RunLaws.{past-byte}
-use Rattle.file_blocks.specs.Write.{headed, sealed, headed-filled, sealed-block}
+use Rattle.file_write.specs.{Run.headByte, Run.entryByte, Run.runBody, RunLaws.past-byte}
+use Rattle.file_write.specs.Bytes.{stored, fileByte, fileByte-at, stored-body}
+use Rattle.file_write.specs.Write.{headed, sealed, headed-filled, sealed-block}
 use Rattle.file_fields.specs.Block.{blockSize, summedSize, headSize, entriesSize}
 use Rattle.network_encode.specs.Entries.{partByte}
 

@@ -1,27 +1,20 @@
 -- The bytes of a network: block 0 for its header, then a run of blocks for the nodes, one for the arcs and
 -- one for the points, each with its check. An entry is one number, its fields one behind the other, low byte
 -- first. `Proper` says which networks fit into these fields.
-use mathlib.Core.Path.{_≡_, refl, sym, _∙_}
-use mathlib.Core.Bool.{cond}
-use mathlib.Core.List.{List}
+use mathlib.Core.{Path._≡_, Path.refl, Path.sym, Path._∙_, Bool.cond, List.List}
 use Prim.Native.Nat.{ℕ, zero, suc, _+_, _*_, _^_, _≤_, _<_}
 use native.Mathlib.Omega.{arith}
-use lib.ListN.{length, getD}
-use lib.Dec.{ltb}
-use lib.Seq.{ext-getD}
+use lib.{ListN.length, ListN.getD, Dec.ltb, Seq.ext-getD}
 use borrow.Author.Tests.{lt-ltb, le-ltb}
 use Rattle.theory_loops.specs.Fill.{tab, length-tab, getD-tab}
 use Rattle.file_fields.specs.Fields.{byteOf, byteOf-low, byteOf-high}
-use Rattle.file_blocks.specs.Bytes.{fileOf}
-use Rattle.file_blocks.specs.Run.{runBody, headerBody}
+use Rattle.file_write.specs.{Bytes.fileOf, Run.runBody, Run.headerBody}
+use Rattle.file_blocks.specs.Kind.{pointPer}
 use Rattle.network.specs.declared.header.Header.{Header}
-use Rattle.network.specs.Limits.{WithinLimits}
-use Rattle.network.specs.Layout.{arcBlock, pointBlock, allBlocks}
-use Rattle.network.specs.Network.{Network, nodes, arcs, points}
-use Rattle.network.specs.Sound.{SoundHours}
+use Rattle.network.specs.{Limits.WithinLimits, Layout.arcBlock, Layout.pointBlock, Layout.allBlocks}
+use Rattle.network.specs.{Network.Network, Network.nodes, Network.arcs, Network.points, Sound.SoundHours}
 use Rattle.network.specs.Node.{nodeKind, nodeSize, nodePer}
 use Rattle.file_blocks.specs.Kind.{networkKind, networkSize, arcKind, arcSize, arcPer, pointKind, pointSize}
-use Rattle.file_blocks.specs.Kind.{pointPer}
 
 abbrev pub headerOf : Network → Header
 headerOf n = record {

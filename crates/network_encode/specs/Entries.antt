@@ -1,17 +1,13 @@
 -- The entries of a block as a loop writes them, one behind the other (`partByte`), and what the writing of a
 -- block of a run requires (`InRun`). Said once over the kind.
-use mathlib.Core.Path.{_≡_, sym, _∙_}
-use mathlib.Core.List.{List}
+use mathlib.Core.{Path._≡_, Path.sym, Path._∙_, List.List}
 use Prim.Native.Nat.{ℕ, _+_, _-_, _*_, _/_, _%_, _≤_, _<_}
 use native.Mathlib.Nat.{mul-add-div, mul-add-mod-self-left, div-eq-of-lt, mod-eq-of-lt}
-use native.Mathlib.Nat.{mul-le-mul-left}
-use native.Mathlib.Omega.{arith}
+use native.Mathlib.{Nat.mul-le-mul-left, Omega.arith}
 use lib.ListN.{length}
 use Rattle.theory_loops.specs.Fill.{Filled, fill-none, fill-end}
-use Rattle.file_fields.specs.Fields.{byteOf}
+use Rattle.file_fields.specs.{Fields.byteOf, Put.put, Put.fill-put, Block.blockSize}
 use Rattle.file_blocks.specs.Place.{blocks}
-use Rattle.file_fields.specs.Put.{put, fill-put}
-use Rattle.file_fields.specs.Block.{blockSize}
 use Rattle.network.specs.Layout.{mostBlocks}
 
 -- byte i of entries of `size` bytes that start at byte `base`, the first of them entry `first`; entry e has

@@ -1,11 +1,8 @@
 -- What the writing of a network's file from lent tables requires.
 use mathlib.Core.Path.{_≡_}
 use Prim.Native.Nat.{_^_, _<_}
-use Rattle.network.specs.declared.header.Header.{Header}
-use Rattle.network.specs.declared.header.Layout.{Layout}
-use Rattle.network.specs.Limits.{WithinLimits}
-use Rattle.network.specs.Layout.{layoutOf}
-use Rattle.network.specs.Tables.{Tables}
+use Rattle.network.specs.declared.header.{Header.Header, Layout.Layout}
+use Rattle.network.specs.{Limits.WithinLimits, Layout.layoutOf, Tables.Tables}
 use Rattle.network_open.specs.Open.{Room}
 
 -- a header within the limits, its layout, and tables with room for its counts

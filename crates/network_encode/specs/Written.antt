@@ -1,34 +1,24 @@
 -- A network's file as it is written from lent tables: an entry is put as one number, a block of a run is a
 -- block of the file, and the file stands once all blocks do. The tables may be longer than their counts; the
 -- file is that of their first entries.
-use mathlib.Core.Path.{_≡_, refl, sym, _∙_, ap, subst⁻¹}
-use mathlib.Core.List.{List}
+use mathlib.Core.{Path._≡_, Path.refl, Path.sym, Path._∙_, Path.ap, Path.subst⁻¹, List.List}
 use Prim.Native.Nat.{ℕ, zero, suc, _+_, _*_, _^_, _≤_, _<_}
 use native.Mathlib.Omega.{arith}
-use lib.ListN.{length, getD, take}
-use lib.Seq.{getD-take, length-take-le}
-use lib.Dec.{lit<}
+use lib.{ListN.length, ListN.getD, ListN.take, Seq.getD-take, Seq.length-take-le, Dec.lit<}
 use Rattle.theory_loops.specs.Fill.{Filled, filled-list, length-tab, overwritten, fill-join}
-use Rattle.file_blocks.specs.Bytes.{fileByte}
-use Rattle.file_blocks.specs.Run.{runBody, headerBody}
-use Rattle.file_blocks.specs.RunLaws.{same-body}
-use Rattle.file_fields.specs.Put.{put, put-join}
-use Rattle.network.specs.declared.header.Header.{Header}
-use Rattle.network.specs.declared.header.Layout.{Layout}
-use Rattle.network.specs.Limits.{WithinLimits}
+use Rattle.file_write.specs.{Bytes.fileByte, Run.runBody, Run.headerBody, RunLaws.same-body}
+use Rattle.file_blocks.specs.Place.{blocks}
+use Rattle.file_fields.specs.{Put.put, Put.put-join, Block.blockSize, Block.headSize}
+use Rattle.network.specs.declared.header.{Header.Header, Layout.Layout}
+use Rattle.network.specs.{Limits.WithinLimits, Network.Network, Tables.Tables, Tables.networkOf}
 use Rattle.network.specs.Layout.{arcBlock, pointBlock, allBlocks, mostBlocks, LaidBlocks, layout-blocks}
-use Rattle.network.specs.Network.{Network}
-use Rattle.network.specs.Tables.{Tables, networkOf}
 use Rattle.network_encode.specs.Encode.{headerOf, encodeBy, encode, headerNumber, headerByte, cellByte}
 use Rattle.network_encode.specs.Encode.{nodeByte, tripleByte, pointByte, bodyBy, header-body}
 use Rattle.network_encode.specs.Encode.{nodes-body, arcs-body, points-body}
 use Rattle.network_encode.specs.Entries.{partByte, InRun, entry-none, entry-put}
-use Rattle.network_encode.specs.BlockWritten.{same-block}
-use Rattle.network_encode.specs.Packable.{Packable}
-use Rattle.file_fields.specs.Block.{blockSize, headSize}
+use Rattle.network_encode.specs.{BlockWritten.same-block, Packable.Packable}
 use Rattle.network.specs.Node.{nodeKind, nodeSize, nodePer, nodeBlocks, node-fits, node-blocks-most}
 use Rattle.network.specs.Node.{per-plain, per-held}
-use Rattle.file_blocks.specs.Place.{blocks}
 use Rattle.file_blocks.specs.Kind.{networkKind, networkSize, cellKind, cellSize, cellPer, arcKind, arcSize}
 use Rattle.file_blocks.specs.Kind.{arcPer, pointKind, pointSize, pointPer, hoursKind}
 

@@ -1,19 +1,15 @@
 -- When a node is open: from its open tick up to, and without, its close tick, every day. The first tick at or
 -- after another at which it is open, as a formula that computes, and what that is (`first-open`): no tick
 -- before it will do, over days laid end to end.
-use mathlib.Core.Path.{_≡_, _∙_}
-use mathlib.Core.Bool.{cond}
-use mathlib.Core.List.{List}
+use mathlib.Core.{Path._≡_, Path._∙_, Bool.cond, List.List}
 use Prim.Native.Nat.{ℕ, _+_, _-_, _*_, _/_, _%_, _≤_, _<_}
-use native.Mathlib.Decide.{decLt}
+use native.Mathlib.{Decide.decLt, Omega.arith}
 use native.Mathlib.Nat.{div-add-mod', mod-lt, mod-eq-of-lt, mul-add-mod-self-right, mul-le-mul-right}
-use native.Mathlib.Omega.{arith}
 use lib.Dec.{ltb}
 use borrow.Author.Tests.{lt-ltb, le-ltb}
 use Rattle.network.specs.declared.header.Layout.{Layout}
-use Rattle.network.specs.Network.{Network, opensAt, closesAt}
+use Rattle.network.specs.{Network.Network, Network.opensAt, Network.closesAt, Sound.SoundHours}
 use Rattle.network.specs.Decode.{decode, Laid, laid-sizes}
-use Rattle.network.specs.Sound.{SoundHours}
 
 -- node v is open at tick x
 pub record IsOpen (n : Network) (v x : ℕ) : Type 0 where

@@ -1,19 +1,15 @@
 -- Which numbers Open's refusals have: 1 to 10, 37, or 30 (`open-numbers`).
-use mathlib.Core.Path.{_≡_, sym, ap}
-use mathlib.Core.Bool.{Bool, true, false, cond}
+use mathlib.Core.{Path._≡_, Path.sym, Path.ap, Bool.Bool, Bool.true, Bool.false, Bool.cond, List.List}
 use mathlib.Core.Logic.{_⊎_, inl, inr}
-use mathlib.Core.List.{List}
 use Prim.Native.Nat.{ℕ}
 use native.Mathlib.Omega.{arith}
-use Rattle.file_refusals.specs.Numbered.{Numbered}
-use Rattle.file_refusals.specs.Refusal.{refusal}
+use Rattle.file_refusals.specs.{Numbered.Numbered, Refusal.refusal}
 use Rattle.file_refusals.specs.declared.Refusal.{Refusal}
 use Rattle.network.specs.declared.answer.Opening.{Opening}
 use Rattle.network.specs.declared.answer.Opening.the-variants.{Opened, Refused}
 use Rattle.network.specs.declared.header.Header.{Header}
 use Rattle.network.specs.Numbers.{NetworkNumber, same-refused, validated-numbers}
-use Rattle.network.specs.Tables.{Tables}
-use Rattle.network.specs.Validate.{unopened, validated}
+use Rattle.network.specs.{Tables.Tables, Validate.unopened, Validate.validated}
 use Rattle.network_open.specs.Open.{tooShort, openedIn, opening}
 
 -- the papers' numbers for Open

@@ -1,11 +1,9 @@
 -- Opening a network: the answer, what becomes of the eight lent tables, and the call (`OpenCall`). The tables
 -- are written only where the file opens, and then in their first entries alone, which become the network's.
-use mathlib.Core.Path.{_≡_, refl, sym, _∙_}
+use mathlib.Core.{Path._≡_, Path.refl, Path.sym, Path._∙_, List.List}
 use mathlib.Core.Bool.{Bool, true, false, cond, _||_}
-use mathlib.Core.List.{List}
 use Prim.Native.Nat.{ℕ, _≤_}
-use lib.ListN.{length}
-use lib.Dec.{ltb}
+use lib.{ListN.length, Dec.ltb}
 use borrow.Author.Tests.{ltb-false}
 use Rattle.theory_loops.specs.Pick.{or-passed}
 use Rattle.theory_loops.specs.Fill.{Filled, filled-list, fill-within, overwritten, tab, length-tab}
@@ -14,15 +12,10 @@ use Rattle.file_blocks.specs.Table.{entry16}
 use Rattle.file_refusals.specs.declared.Refusal.{Refusal}
 use Rattle.network.specs.declared.answer.Opening.{Opening}
 use Rattle.network.specs.declared.answer.Opening.the-variants.{Opened, Refused}
-use Rattle.network.specs.declared.header.Header.{Header}
-use Rattle.network.specs.declared.header.Layout.{Layout}
-use Rattle.network.specs.Limits.{WithinLimits}
-use Rattle.network.specs.Layout.{layoutOf}
-use Rattle.network.specs.Network.{Network}
-use Rattle.network.specs.Tables.{Tables, each}
-use Rattle.network.specs.Node.{nodeSize, nodePer}
+use Rattle.network.specs.declared.header.{Header.Header, Layout.Layout}
+use Rattle.network.specs.{Limits.WithinLimits, Layout.layoutOf, Network.Network, Tables.Tables, Tables.each}
+use Rattle.network.specs.{Node.nodeSize, Node.nodePer, Decode.opens-there, Decode.closes-there}
 use Rattle.network.specs.Decode.{headerAt, decode, Laid, laid-blocks, laid-sizes, opens-plain, closes-plain}
-use Rattle.network.specs.Decode.{opens-there, closes-there}
 use Rattle.network.specs.Validate.{unopened, validated}
 use Rattle.network.specs.Valid.{ValidFile, valid-laid, valid-exactly}
 

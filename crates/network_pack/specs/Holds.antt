@@ -1,28 +1,19 @@
 -- A file that holds a network: each block has its head, the entries of the network's tables, and zeros after
 -- them. Both ways between this and the bytes of `encode`.
-use mathlib.Core.Path.{_≡_, sym, _∙_, ap, subst}
-use mathlib.Core.Bool.{true}
-use mathlib.Core.List.{List}
+use mathlib.Core.{Path._≡_, Path.sym, Path._∙_, Path.ap, Path.subst, Bool.true, List.List}
 use Prim.Native.Nat.{ℕ, _+_, _-_, _*_, _≤_, _<_}
-use native.Mathlib.Omega.{arith}
-use native.Mathlib.Decide.{decLt}
-use lib.ListN.{length, getD}
-use lib.Dec.{lit<, lit≤}
-use Rattle.file_fields.specs.Fields.{Bytes}
-use Rattle.file_blocks.specs.Place.{blocks}
-use Rattle.file_fields.specs.Sum.{good}
-use Rattle.file_blocks.specs.Bytes.{file-is}
-use Rattle.file_blocks.specs.Run.{runBody, RunLaid}
-use Rattle.file_blocks.specs.RunLaws.{laid-run, file-run}
+use native.Mathlib.{Omega.arith, Decide.decLt}
+use lib.{ListN.length, ListN.getD, Dec.lit<, Dec.lit≤}
+use Rattle.file_fields.specs.{Fields.Bytes, Sum.good, Block.blockSize, Block.summedSize, Block.entriesSize}
+use Rattle.file_blocks.specs.{Place.blocks, Kind.pointPer}
+use Rattle.file_write.specs.{Bytes.file-is, Run.runBody, Run.RunLaid}
+use Rattle.file_write.specs.RunLaws.{laid-run, file-run}
 use Rattle.network.specs.declared.header.Header.{Header}
-use Rattle.network.specs.Layout.{arcBlock, pointBlock, allBlocks}
-use Rattle.network.specs.Network.{Network}
+use Rattle.network.specs.{Layout.arcBlock, Layout.pointBlock, Layout.allBlocks, Network.Network}
 use Rattle.network.specs.Node.{nodeKind, nodeSize, nodePer, nodeBlocks, NodeFits, node-fits}
 use Rattle.network_encode.specs.Encode.{headerByte, nodeByte, tripleByte, pointByte, bodyBy, encodeBy}
 use Rattle.network_encode.specs.Encode.{header-body, nodes-body, arcs-body, points-body}
-use Rattle.file_fields.specs.Block.{blockSize, summedSize, entriesSize}
 use Rattle.file_blocks.specs.Kind.{networkKind, networkSize, arcKind, arcSize, arcPer, pointKind, pointSize}
-use Rattle.file_blocks.specs.Kind.{pointPer}
 
 pub record Holds (file : List ℕ) (h : Header) (n : Network) : Type 0 where
   pub header : RunLaid file 0 networkKind 1 networkSize 1 (λ _. headerByte h) 0

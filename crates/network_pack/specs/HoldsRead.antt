@@ -1,24 +1,19 @@
 -- What is read of a file that holds a network: the tests find every block in its form, and `decode` gives the
 -- network back. And back: a file in its form holds the network that it decodes to.
-use mathlib.Core.Path.{_≡_, refl, sym, ap, _∙_, subst}
-use mathlib.Core.Bool.{true}
-use mathlib.Core.List.{List}
+use mathlib.Core.{Path._≡_, Path.refl, Path.sym, Path.ap, Path._∙_, Path.subst, Bool.true, List.List}
 use Prim.Native.Nat.{ℕ, zero, suc, _+_, _*_, _^_, _≤_, _<_}
-use native.Mathlib.Nat.{add-zero, add-assoc}
-use native.Mathlib.Omega.{arith}
-use lib.ListN.{length, getD}
-use lib.Dec.{lit<, lit≤}
+use native.Mathlib.{Nat.add-zero, Nat.add-assoc, Omega.arith}
+use lib.{ListN.length, ListN.getD, Dec.lit<, Dec.lit≤}
 use Rattle.theory_loops.specs.Fill.{tab, getD-tab}
 use Rattle.file_fields.specs.Fields.{Bytes, le8, le16, le32, number, byteOf, byteOf-number, le16-number}
-use Rattle.file_fields.specs.Fields.{le16-is, le32-is}
+use Rattle.file_fields.specs.{Fields.le16-is, Fields.le32-is, Block.headSize, Block.entriesSize}
 use Rattle.file_blocks.specs.Place.{offset, blocks}
-use Rattle.file_blocks.specs.Form.{formed, RunFormed}
-use Rattle.file_blocks.specs.Run.{RunLaid}
-use Rattle.file_blocks.specs.RunLaws.{run-formed, formed-run, run-table}
+use Rattle.file_write.specs.Run.{RunLaid}
+use Rattle.file_forms.specs.Form.{formed, RunFormed}
+use Rattle.file_write.specs.RunLaws.{run-formed, formed-run, run-table}
 use Rattle.file_blocks.specs.Table.{entry16}
 use Rattle.network.specs.declared.header.Header.{Header}
-use Rattle.network.specs.Limits.{WithinLimits}
-use Rattle.network.specs.Layout.{arcBlock, pointBlock}
+use Rattle.network.specs.{Limits.WithinLimits, Layout.arcBlock, Layout.pointBlock}
 use Rattle.network.specs.Network.{Network, nodes, arcs, points}
 use Rattle.network.specs.Decode.{headerAt, opensIn, closesIn, decodeBy, decode}
 use Rattle.network.specs.Node.{nodeKind, nodeSize, nodePer, nodeBlocks, node-fits, node-blocks-most}
@@ -27,7 +22,6 @@ use Rattle.network_encode.specs.Encode.{Words, Proper, heldOpens, heldCloses, h
 use Rattle.network_encode.specs.Encode.{node-first, first-byte, second-byte, third-byte, tick-byte}
 use Rattle.network_encode.specs.Encode.{travel-byte, number-byte, period-byte, nodes-byte, arcs-byte}
 use Rattle.network_encode.specs.Encode.{cells-byte, points-byte}
-use Rattle.file_fields.specs.Block.{headSize, entriesSize}
 use Rattle.file_blocks.specs.Kind.{networkKind, networkSize, cellSize, cellPer, arcKind, arcSize, arcPer}
 use Rattle.file_blocks.specs.Kind.{pointKind, pointSize, pointPer, hoursKind, hoursSize, hoursPer}
 use Rattle.network_pack.specs.Holds.{Holds}

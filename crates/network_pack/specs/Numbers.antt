@@ -1,27 +1,20 @@
 -- Which numbers Pack's refusals have: 4, 7 to 10, 37, 30 or 31 (`pack-numbers`).
-use mathlib.Core.Path.{_≡_, refl, ap}
-use mathlib.Core.Logic.{_⊎_, inl, inr}
+use mathlib.Core.{Path._≡_, Path.refl, Path.ap, Logic._⊎_, Logic.inl, Logic.inr}
 use Prim.Native.Nat.{ℕ}
 use native.Mathlib.Omega.{arith}
-use lib.Dec.{ltb}
-use lib.ListN.{length}
+use lib.{Dec.ltb, ListN.length}
 use Rattle.theory_loops.specs.Pick.{cond-holds}
-use Rattle.file_refusals.specs.Numbered.{Numbered}
-use Rattle.file_refusals.specs.Refusal.{refusal}
-use Rattle.file_refusals.specs.declared.Refusal.{Refusal}
-use Rattle.file_refusals.specs.declared.Judged.{Judged}
+use Rattle.file_refusals.specs.{Numbered.Numbered, Refusal.refusal, Writing.writtenInto}
+use Rattle.file_refusals.specs.declared.{Refusal.Refusal, Judged.Judged}
 use Rattle.file_refusals.specs.declared.Judged.the-variants.{Sound, Faulty}
-use Rattle.network.specs.declared.header.Header.{Header}
-use Rattle.network.specs.declared.header.Made.{Made}
+use Rattle.network.specs.declared.header.{Header.Header, Made.Made}
 use Rattle.network.specs.declared.header.Made.the-variants.{Inside, Outside}
-use Rattle.network.specs.Numbers.{RuleNumber, judged-numbers}
-use Rattle.network.specs.Tables.{Tables, networkOf}
+use Rattle.network.specs.{Numbers.RuleNumber, Numbers.judged-numbers, Tables.Tables, Tables.networkOf}
 use Rattle.network.specs.Rules.{judged}
 use Rattle.network_open.specs.Open.{tooShort}
 use Rattle.network_encode.specs.Encode.{encode}
 use Rattle.file_refusals.specs.declared.writing.Writing.{Writing}
 use Rattle.file_refusals.specs.declared.writing.Writing.the-variants.{Written, Refused}
-use Rattle.file_refusals.specs.Writing.{writtenInto}
 use Rattle.network_pack.specs.Pack.{packedRules, packedTables, packedMade, madeOf, packing}
 
 -- the papers' numbers for Pack

@@ -1,26 +1,18 @@
 -- Packing a network: the answer, what becomes of the lent bytes, and the call (`PackCall`). The bytes that
 -- are written become the network's file.
-use mathlib.Core.Path.{_≡_, refl, sym, _∙_, ap, subst}
+use mathlib.Core.{Path._≡_, Path.refl, Path.sym, Path._∙_, Path.ap, Path.subst, List.List}
 use mathlib.Core.Bool.{Bool, true, false, cond}
-use mathlib.Core.List.{List}
 use Prim.Native.Nat.{ℕ, _^_, _<_}
 use native.Mathlib.Omega.{arith}
 use lib.ListN.{length}
-use Rattle.file_refusals.specs.declared.Refusal.{Refusal}
-use Rattle.file_refusals.specs.declared.Judged.{Judged}
+use Rattle.file_refusals.specs.declared.{Refusal.Refusal, Judged.Judged}
 use Rattle.file_refusals.specs.declared.Judged.the-variants.{Sound, Faulty}
-use Rattle.network.specs.declared.header.Header.{Header}
-use Rattle.network.specs.declared.header.Made.{Made}
+use Rattle.network.specs.declared.header.{Header.Header, Made.Made, Layout.Layout}
 use Rattle.network.specs.declared.header.Made.the-variants.{Inside, Outside}
-use Rattle.network.specs.declared.header.Layout.{Layout}
-use Rattle.network.specs.Limits.{made, WithinLimits, made-within}
-use Rattle.network.specs.Layout.{layoutOf}
-use Rattle.network.specs.Network.{Network}
-use Rattle.network.specs.Tables.{Tables, networkOf}
-use Rattle.network.specs.Rules.{judged}
+use Rattle.network.specs.{Limits.made, Limits.WithinLimits, Limits.made-within, Layout.layoutOf, Rules.judged}
+use Rattle.network.specs.{Network.Network, Tables.Tables, Tables.networkOf}
 use Rattle.network_open.specs.Open.{tooShort, open-room}
-use Rattle.network_encode.specs.Encode.{encode}
-use Rattle.network_encode.specs.Packable.{Packable}
+use Rattle.network_encode.specs.{Encode.encode, Packable.Packable}
 use Rattle.file_refusals.specs.declared.writing.Writing.{Writing}
 use Rattle.file_refusals.specs.declared.writing.Writing.the-variants.{Refused}
 use Rattle.file_refusals.specs.Writing.{unwritten, writtenInto, bytesAfter, Writes, writes-refused}

@@ -1,46 +1,32 @@
 -- What Pack and Open promise together: what Pack writes opens to the same header and tables (`packed-opens`),
 -- and a file that opens packs to the same bytes (`opened-packs`).
-use mathlib.Core.Path.{_≡_, refl, sym, _∙_, ap, subst, subst⁻¹}
+use mathlib.Core.{Path._≡_, Path.refl, Path.sym, Path._∙_, Path.ap, Path.subst, Path.subst⁻¹, List.List}
 use mathlib.Core.Bool.{Bool, false}
-use mathlib.Core.List.{List}
 use Prim.Native.Nat.{ℕ, _^_, _≤_, _<_}
 use native.Mathlib.Omega.{arith}
-use lib.Dec.{ltb}
-use lib.ListN.{length, take, drop, length-append}
+use lib.{Dec.ltb, ListN.length, ListN.take, ListN.drop, ListN.length-append, Seq.take-at}
 use borrow.Author.Tests.{le-ltb}
-use lib.Seq.{take-at}
-use Rattle.theory_loops.specs.Fill.{length-tab, overwritten}
-use Rattle.theory_loops.specs.Pick.{passed-by}
+use Rattle.theory_loops.specs.{Fill.length-tab, Fill.overwritten, Pick.passed-by}
 use Rattle.file_fields.specs.Fields.{Bytes}
-use Rattle.file_refusals.specs.declared.Judged.{Judged}
+use Rattle.file_refusals.specs.declared.{Judged.Judged, Refusal.Refusal}
 use Rattle.file_refusals.specs.declared.Judged.the-variants.{Sound, Faulty}
 use Rattle.network.specs.declared.answer.Opening.{Opening}
-use Rattle.file_refusals.specs.declared.Refusal.{Refusal}
 use Rattle.network.specs.declared.answer.Opening.the-variants.{Opened}
-use Rattle.network.specs.declared.header.Header.{Header}
+use Rattle.network.specs.declared.header.{Header.Header, Made.Made}
 use Rattle.file_refusals.specs.declared.writing.Length.{Length}
 use Rattle.file_refusals.specs.declared.writing.Writing.the-variants.{Written, Refused}
-use Rattle.network.specs.declared.header.Made.{Made}
 use Rattle.network.specs.declared.header.Made.the-variants.{Inside, Outside}
-use Rattle.network.specs.Limits.{WithinLimits, made-within, within-made}
-use Rattle.network.specs.Layout.{layoutOf}
-use Rattle.network.specs.Network.{Network}
-use Rattle.network.specs.Tables.{Tables, each, networkOf}
-use Rattle.network.specs.Decode.{headerAt, decode}
-use Rattle.file_refusals.specs.Refusal.{refusal}
-use Rattle.network.specs.Rules.{judged}
-use Rattle.network.specs.Sound.{sound-exactly}
-use Rattle.network.specs.Validate.{validated}
+use Rattle.network.specs.{Limits.WithinLimits, Limits.made-within, Limits.within-made, Layout.layoutOf}
+use Rattle.network.specs.{Network.Network, Tables.Tables, Tables.each, Tables.networkOf, Rules.judged}
+use Rattle.network.specs.{Decode.headerAt, Decode.decode, Sound.sound-exactly, Validate.validated}
+use Rattle.file_refusals.specs.{Refusal.refusal, Writing.writtenInto}
 use Rattle.network.specs.Valid.{ValidFile, valid-exactly}
 use Rattle.network_open.specs.Open.{tooShortBy, tooShort, openedIn, opening}
-use Rattle.network_encode.specs.Encode.{headerOf, encode, Proper}
+use Rattle.network_encode.specs.{Encode.headerOf, Encode.encode, Encode.Proper, Packable.Packable}
 use Rattle.network_pack.specs.RoundTrip.{decode-encode, encode-valid, encode-decode}
-use Rattle.network_encode.specs.Packable.{Packable}
-use Rattle.file_refusals.specs.Writing.{writtenInto}
 use Rattle.network_pack.specs.Pack.{packedRules, packedTables, packedMade, madeOf, packing}
-use Rattle.network_pack.specs.Pack.{now-packable}
+use Rattle.network_pack.specs.{Pack.now-packable, Proper.Fields, Proper.packed-proper}
 use Rattle.network_encode.specs.Written.{packed-header}
-use Rattle.network_pack.specs.Proper.{Fields, packed-proper}
 
 -- THE FIRST PROMISE: the file that Pack writes has the length that it answers, and opens to the same header
 -- and tables

@@ -1,10 +1,8 @@
 -- The network that is packed: its file has the length that the layout says, and its numbers fit their fields
 -- where the tables are of 16-bit numbers.
-use mathlib.Core.Path.{_≡_, sym, _∙_, ap, subst⁻¹}
-use mathlib.Core.List.{List}
+use mathlib.Core.{Path._≡_, Path.sym, Path._∙_, Path.ap, Path.subst⁻¹, List.List}
 use Prim.Native.Nat.{ℕ, _*_, _≤_, _<_}
-use native.Mathlib.Omega.{arith}
-use native.Mathlib.Decide.{decLt}
+use native.Mathlib.{Omega.arith, Decide.decLt}
 use lib.ListN.{length, take, length-take, List·getD-eq-default}
 use lib.Seq.{getD-take, length-take-le}
 use Rattle.theory_loops.specs.Fill.{overwritten}
@@ -12,17 +10,12 @@ use Rattle.file_fields.specs.Block.{blockSize}
 use Rattle.file_refusals.specs.declared.writing.Writing.{Writing}
 use Rattle.file_refusals.specs.declared.writing.Writing.the-variants.{Written}
 use Rattle.file_refusals.specs.Writing.{unwritten, into-short, into-whole}
-use Rattle.network.specs.declared.header.Header.{Header}
-use Rattle.network.specs.declared.header.Layout.{Layout}
-use Rattle.network.specs.Limits.{WithinLimits}
-use Rattle.network.specs.Layout.{allBlocks, LaidBlocks, layout-blocks}
-use Rattle.network.specs.Network.{Network}
-use Rattle.network.specs.Tables.{Tables, networkOf}
-use Rattle.network_encode.specs.Encode.{encode, Words, Proper}
-use Rattle.network_encode.specs.Packable.{Packable}
+use Rattle.network.specs.declared.header.{Header.Header, Layout.Layout}
+use Rattle.network.specs.{Limits.WithinLimits, Layout.allBlocks, Layout.LaidBlocks, Layout.layout-blocks}
+use Rattle.network.specs.{Network.Network, Tables.Tables, Tables.networkOf}
+use Rattle.network_encode.specs.{Encode.encode, Encode.Words, Encode.Proper, Packable.Packable}
 use Rattle.network_encode.specs.Written.{packed-header}
-use Rattle.network_pack.specs.Pack.{WritesNetwork}
-use Rattle.network_pack.specs.RoundTrip.{encode-long}
+use Rattle.network_pack.specs.{Pack.WritesNetwork, RoundTrip.encode-long}
 
 -- the entries of the tables have two bytes each
 pub record Fields (t : Tables) : Type 0 where

@@ -1,32 +1,24 @@
 -- Both round trips, and what they give together: the files that open are exactly the files of proper, sound
 -- networks (`opens-exactly`). They are equations of bytes, so it does no harm that a block's check cannot
 -- tell word 0 from word 65,535.
-use mathlib.Core.Path.{_≡_, sym, _∙_, ap, subst}
-use mathlib.Core.Logic.{_↔_}
-use mathlib.Core.List.{List}
+use mathlib.Core.{Path._≡_, Path.sym, Path._∙_, Path.ap, Path.subst, Logic._↔_, List.List}
 use Prim.Native.Nat.{ℕ, zero, suc, _+_, _*_, _<_}
-use native.Mathlib.Omega.{arith}
-use native.Mathlib.Decide.{decLt}
+use native.Mathlib.{Omega.arith, Decide.decLt}
 use lib.ListN.{length, List·getD-eq-default}
 use Rattle.theory_loops.specs.Fill.{tab, getD-tab, length-tab}
-use Rattle.file_fields.specs.Fields.{Bytes}
-use Rattle.file_blocks.specs.Place.{offset}
-use Rattle.file_blocks.specs.Bytes.{file-good}
-use Rattle.file_blocks.specs.Table.{entry16}
+use Rattle.file_fields.specs.{Fields.Bytes, Block.blockSize}
+use Rattle.file_blocks.specs.{Place.offset, Table.entry16}
+use Rattle.file_write.specs.Bytes.{file-good}
 use Rattle.network.specs.declared.answer.Opening.the-variants.{Opened}
 use Rattle.network.specs.declared.header.Header.{Header}
-use Rattle.network.specs.Layout.{arcBlock, pointBlock, allBlocks}
-use Rattle.network.specs.Network.{Network}
-use Rattle.network.specs.Node.{nodeSize, nodePer}
+use Rattle.network.specs.{Layout.arcBlock, Layout.pointBlock, Layout.allBlocks, Network.Network}
+use Rattle.network.specs.{Node.nodeSize, Node.nodePer, Sound.SoundNetwork, Validate.validated}
 use Rattle.network.specs.Decode.{headerAt, opensIn, closesIn, decodeBy, decode}
-use Rattle.network.specs.Sound.{SoundNetwork}
-use Rattle.network.specs.Validate.{validated}
 use Rattle.network.specs.Valid.{ValidFile, valid-exactly}
 use Rattle.network_encode.specs.Encode.{headerOf, bodyBy, encodeBy, encode, Words, Proper, held, held-same}
 use Rattle.network_pack.specs.Holds.{encode-holds, holds-encode}
 use Rattle.network_pack.specs.HoldsRead.{header-formed, nodes-formed, arcs-formed, points-formed}
 use Rattle.network_pack.specs.HoldsRead.{header-read, tables-read, formed-holds}
-use Rattle.file_fields.specs.Block.{blockSize}
 use Rattle.file_blocks.specs.Kind.{hoursSize, hoursPer, arcSize, arcPer, pointSize, pointPer}
 
 -- THE FILE OF A NETWORK

@@ -1,15 +1,11 @@
 -- Rule 37 as code finds it in a file, which without hours has no node that breaks it.
-use mathlib.Core.Path.{_≡_, refl, sym, _∙_}
-use mathlib.Core.Bool.{false}
-use mathlib.Core.List.{List}
+use mathlib.Core.{Path._≡_, Path.refl, Path.sym, Path._∙_, Bool.false, List.List}
 use Prim.Native.Nat.{ℕ, _<_}
 use native.Mathlib.Omega.{arith}
 use Rattle.theory_loops.specs.First.{first, all-clear}
 use Rattle.network.specs.declared.header.Layout.{Layout}
-use Rattle.network.specs.Network.{opensAt, closesAt}
+use Rattle.network.specs.{Network.opensAt, Network.closesAt, Rules.badHoursOf, Sound.sound-hours}
 use Rattle.network.specs.Decode.{decode, Laid, laid-sizes, laid-small, opens-all, closes-all}
-use Rattle.network.specs.Rules.{badHoursOf}
-use Rattle.network.specs.Sound.{sound-hours}
 
 -- without hours every node is open all day
 module _ {file : List ℕ} {l : Layout} (s : Laid file l) where

@@ -4,20 +4,16 @@ use mathlib.Core.Path.{_≡_, sym, _∙_}
 use Prim.Native.Nat.{ℕ, _≤_, _<_}
 use native.Mathlib.Omega.{arith}
 use borrow.Author.Tests.{lt-ltb, le-ltb, eq-eqb, ne-eqb}
-use Rattle.theory_loops.specs.First.{first, first-le, clear}
-use Rattle.theory_loops.specs.Pick.{at-first, past-first}
+use Rattle.theory_loops.specs.{First.first, First.first-le, First.clear, Pick.at-first, Pick.past-first}
 use Rattle.file_refusals.specs.declared.Judged.{Judged}
 use Rattle.file_refusals.specs.declared.Judged.the-variants.{Sound}
 use Rattle.network.specs.declared.header.Layout.{Layout}
 use Rattle.network_scan.specs.declared.scan.Scan.{Scan}
 use Rattle.network.specs.Network.{Network, nodes, arcs, points, start}
-use Rattle.network.specs.Decode.{Sizes}
+use Rattle.network.specs.{Decode.Sizes, Rules.judgedHours, Rules.judged, FirstPoint.Counted, Sound.arc-sound}
 use Rattle.file_refusals.specs.Refusal.{faulty}
 use Rattle.network.specs.Rules.{badCell, badHoursOf, badArc, judgedPoints, judgedSum, judgedArcs}
-use Rattle.network.specs.Rules.{judgedHours, judged}
-use Rattle.network.specs.FirstPoint.{Counted}
 use Rattle.network_scan.specs.ScanAll.{ScannedAll}
-use Rattle.network.specs.Sound.{arc-sound}
 
 module _ {n : Network} {l : Layout} (s : Sizes n l) where
   -- 7

@@ -1,13 +1,11 @@
 -- A pass over the arcs, block by block: no arc before arc k breaks rule 8, and their points are added up
 -- (`ArcsPassed`), or one does (`ArcsScanned`).
-use mathlib.Core.Path.{_≡_, sym}
-use mathlib.Core.Bool.{true, false}
+use mathlib.Core.{Path._≡_, Path.sym, Bool.true, Bool.false}
 use Prim.Native.Nat.{ℕ, _+_, _*_, _≤_, _<_}
 use native.Mathlib.Omega.{arith}
 use Rattle.theory_loops.specs.First.{first, none-yet, pass, stop, first-is, least, found}
 use Rattle.theory_loops.specs.Total.{total-none, total-more}
-use Rattle.network.specs.Network.{Network, start, count}
-use Rattle.network.specs.Rules.{badArc}
+use Rattle.network.specs.{Network.Network, Network.start, Network.count, Rules.badArc}
 
 pub record ArcsPassed (n : Network) (k sum : ℕ) : Type 0 where
   pub none : first k (badArc n) ≡ k

@@ -1,17 +1,14 @@
 -- One pass over the points that judges rules 9 and 10 together: the invariant of the loop over an arc's
 -- points and of the loop over the arcs, with the laws of each step in the shape of the code's needs. Rule 10
 -- is judged of a point once the next one is read.
-use mathlib.Core.Path.{_≡_, refl, sym, _∙_}
+use mathlib.Core.{Path._≡_, Path.refl, Path.sym, Path._∙_, List.List}
 use mathlib.Core.Bool.{Bool, true, false, cond, not, _||_}
-use mathlib.Core.List.{List}
 use Prim.Native.Nat.{ℕ, zero, suc, _+_, _-_, _≤_, _<_}
 use native.Mathlib.Omega.{arith}
-use lib.ListN.{getD}
-use lib.Dec.{leb, ltb, eqb}
+use lib.{ListN.getD, Dec.leb, Dec.ltb, Dec.eqb}
 use borrow.Author.Tests.{ne-eqb}
 use Rattle.theory_loops.specs.First.{first, none-yet, pass, stop, done, first-more}
-use Rattle.theory_travel.specs.Day.{closed-in, closed-end}
-use Rattle.theory_travel.specs.Ticks.{badTick}
+use Rattle.theory_travel.specs.{Day.closed-in, Day.closed-end, Ticks.badTick}
 use Rattle.theory_travel.specs.Table.{entryAt, entry-first}
 use Rattle.network_scan.specs.declared.scan.Scan.{Scan}
 use Rattle.network.specs.Rules.{badPoint, overtaken}
@@ -112,10 +109,7 @@ module _ (ticks travels : List ℕ) (period from m : ℕ) where
 
     pub scan-stop : b ≡ true
         → Scanned period (entryAt ticks from) (entryAt travels from) m (record { bad = i; late = 0 })
-    scan-stop h = record {
-      bad = stop _ m i (s .fine) l (sym told-bad ∙ h);
-      late = λ q. absurd (omega arith);
-    }
+    scan-stop h = record { bad = stop _ m i (s .fine) l (sym told-bad ∙ h); late = λ q. absurd (omega arith) }
 
     pub scan-more : (next : ℕ) → b ≡ false → next ≡ lateAt late i end (x + y)
         → Scanning period (entryAt ticks from) (entryAt travels from) m (i + 1) x (x + y) next

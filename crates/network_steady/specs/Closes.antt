@@ -1,32 +1,21 @@
 -- The closes of the arcs' days, as code asks for them: of an arc whose ends it has read as numbers, and of
 -- arcs by their blocks.
-use mathlib.Core.Path.{_≡_, refl, sym, _∙_}
+use mathlib.Core.{Path._≡_, Path.refl, Path.sym, Path._∙_, List.List}
 use mathlib.Core.Bool.{Bool, true, false, not, _||_}
-use mathlib.Core.List.{List}
 use Prim.Native.Nat.{ℕ, _+_, _-_, _*_, _/_, _%_, _≤_, _<_}
-use native.Mathlib.Nat.{add-zero}
-use native.Mathlib.Omega.{arith}
-use lib.Dec.{leb, ltb, lit<, lit≤}
-use lib.ListN.{length}
-use borrow.Author.Count.{below-more}
-use borrow.Author.Tests.{ltb-false, leb-false, not-true, not-false}
-use Rattle.theory_loops.specs.Pick.{or-passed}
-use Rattle.theory_loops.specs.Total.{total-none, total-more}
+use native.Mathlib.{Nat.add-zero, Omega.arith}
+use lib.{Dec.leb, Dec.ltb, Dec.lit<, Dec.lit≤, ListN.length}
+use borrow.Author.{Count.below-more, Tests.ltb-false, Tests.leb-false, Tests.not-true, Tests.not-false}
+use Rattle.theory_loops.specs.{Pick.or-passed, Total.total-none, Total.total-more}
 use Rattle.theory_travel.specs.Table.{entryAt}
-use Rattle.file_fields.specs.Block.{blockSize, headSize}
-use Rattle.file_fields.specs.Fields.{le16}
-use Rattle.file_blocks.specs.Kind.{pointSize, pointPer}
-use Rattle.file_blocks.specs.Place.{offset, offset-apart}
+use Rattle.file_fields.specs.{Block.blockSize, Block.headSize, Fields.le16}
+use Rattle.file_blocks.specs.{Kind.pointSize, Kind.pointPer, Place.offset, Place.offset-apart}
 use Rattle.network.specs.declared.header.Layout.{Layout}
-use Rattle.network.specs.Limits.{mostPoints}
+use Rattle.network.specs.{Limits.mostPoints, Layout.mostBytes, Decode.tick-is, Decode.travel-is}
 use Rattle.network.specs.Network.{Network, arcs, points, count, start, tick, travel}
-use Rattle.network.specs.Layout.{mostBytes}
 use Rattle.network.specs.Decode.{decode, Laid, Sizes, Small, laid-small, laid-bytes, point-in}
-use Rattle.network.specs.Decode.{tick-is, travel-is}
-use Rattle.network.specs.FirstPoint.{Counted, points-in}
-use Rattle.network.specs.Rules.{ticksOf, travelsOf}
-use Rattle.network_steady.specs.Joins.{PointAt}
-use Rattle.network_steady.specs.Steady.{Closed, AllClosed}
+use Rattle.network.specs.{FirstPoint.Counted, FirstPoint.points-in, Rules.ticksOf, Rules.travelsOf}
+use Rattle.network_steady.specs.{Joins.PointAt, Steady.Closed, Steady.AllClosed}
 
 -- point q of a network is the number r
 pub record PointOf (n : Network) (q r : ℕ) : Type 0 where

@@ -1,29 +1,21 @@
 -- Where the order of points goes on: from one point to the next, by a test of both as numbers (`joinOf`), at
 -- every point of a row (`joined`), and as code counts it in the points of a file.
-use mathlib.Core.Path.{_≡_, sym, _∙_, ap}
+use mathlib.Core.{Path._≡_, Path.sym, Path._∙_, Path.ap, List.List}
 use mathlib.Core.Bool.{Bool, true, _&&_, and-eq-true-iff}
-use mathlib.Core.List.{List}
 use Prim.Native.Nat.{ℕ, suc, _+_, _-_, _*_, _/_, _%_, _^_, _≤_, _<_, min}
-use native.Mathlib.Nat.{add-zero}
-use native.Mathlib.Decide.{decLt}
-use native.Mathlib.Omega.{arith}
-use lib.Bits.{bitAnd, and-shr, and-mod, and-le-l, and-le-r}
-use lib.Dec.{eqb, ltb, lit<}
+use native.Mathlib.{Nat.add-zero, Decide.decLt, Omega.arith}
+use lib.{Bits.bitAnd, Bits.and-shr, Bits.and-mod, Bits.and-le-l, Bits.and-le-r, Dec.eqb, Dec.ltb, Dec.lit<}
 use lib.ListN.{length}
 use borrow.Author.Tests.{eqb-true, ltb-true, lt-ltb, eq-eqb, ne-eqb}
 use Rattle.theory_loops.specs.Count as Count
 use Rattle.theory_breaks.specs.Tally.{flag, flag-few, before, tally-more, tally-block}
-use Rattle.file_fields.specs.Block.{blockSize, headSize}
-use Rattle.file_fields.specs.Fields.{le16}
-use Rattle.file_blocks.specs.Kind.{pointSize, pointPer}
+use Rattle.file_fields.specs.{Block.blockSize, Block.headSize, Fields.le16}
+use Rattle.file_blocks.specs.{Kind.pointSize, Kind.pointPer, Place.block-starts, Place.block-fits}
 use Rattle.file_blocks.specs.Place.{offset, blocks, entriesIn, offset-at, index-below, block-used, block-in}
-use Rattle.file_blocks.specs.Place.{block-starts, block-fits}
 use Rattle.network.specs.declared.header.Layout.{Layout}
-use Rattle.network.specs.Network.{Network, points, tick, travel}
+use Rattle.network.specs.{Network.Network, Network.points, Network.tick, Network.travel, Layout.mostBytes}
 use Rattle.network.specs.Decode.{decode, Laid, laid-sizes, laid-small, laid-bytes, points-stored}
-use Rattle.network.specs.Decode.{tick-is, travel-is}
-use Rattle.network.specs.Layout.{mostBytes}
-use Rattle.network.specs.Limits.{mostPeriod, mostPoints}
+use Rattle.network.specs.{Decode.tick-is, Decode.travel-is, Limits.mostPeriod, Limits.mostPoints}
 
 -- THE TEST. A point is one number, its tick below its travel, 16 bits each. A difference wraps below 0:
 -- bit 15 says whether its lower half did, bit 31 whether its upper half did.
@@ -228,12 +220,7 @@ module _ {file : List ℕ} {l : Layout} (s : Laid file l) where
   unfolding before
   counting-none R e =
       let z : min (l .points) (pointPer * 0) ≡ 0 = omega arith in
-      record {
-        blocks-are = e;
-        within = omega arith;
-        last-is = rw z;
-        counted = rw z (Count.count-none p);
-      }
+      record { blocks-are = e; within = omega arith; last-is = rw z; counted = rw z (Count.count-none p) }
 
   module _ (R j last c : ℕ) (i : Counting (decode file) l R j last c) (g : j < R) where
     h : j < blocks pointPer (l .points)

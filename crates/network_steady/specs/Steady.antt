@@ -1,31 +1,21 @@
 -- Whether all points keep the rules 9 and 10, yes or no: where the order of the points goes on at all but as
 -- many points as there are arcs, and every arc's day closes, no point breaks a rule.
-use mathlib.Core.Path.{_≡_, refl, sym, _∙_}
-use mathlib.Core.Bool.{Bool, true, false, not}
+use mathlib.Core.{Path._≡_, Path.refl, Path.sym, Path._∙_, Bool.Bool, Bool.true, Bool.false, Bool.not}
 use mathlib.Core.List.{List}
 use Prim.Native.Nat.{ℕ, zero, suc, _+_, _-_, _^_, _≤_, _<_}
-use native.Mathlib.Nat.{le-of-lt}
-use native.Mathlib.Decide.{decLt}
-use native.Mathlib.Numerals.{add-one}
-use native.Mathlib.Omega.{arith}
+use native.Mathlib.{Nat.le-of-lt, Decide.decLt, Numerals.add-one, Omega.arith}
 use borrow.Author.Tests.{le-ltb, not-false}
 use Rattle.theory_loops.specs.Count as Count
-use Rattle.theory_loops.specs.First.{first, all-clear}
-use Rattle.theory_loops.specs.Total.{total, total-none, total-more}
-use Rattle.theory_breaks.specs.Tally.{before, tally-all}
-use Rattle.theory_breaks.specs.Breaks.{Begun, only-first}
-use Rattle.theory_travel.specs.Day.{Day, closed-in, closed-end}
-use Rattle.theory_travel.specs.Points.{climbs}
+use Rattle.theory_loops.specs.{First.first, First.all-clear, Total.total, Total.total-none, Total.total-more}
+use Rattle.theory_breaks.specs.{Tally.before, Tally.tally-all, Breaks.Begun, Breaks.only-first}
+use Rattle.theory_travel.specs.{Day.Day, Day.closed-in, Day.closed-end, Points.climbs, Ticks.ticks-day}
 use Rattle.theory_travel.specs.Table.{entryAt, entry-first}
-use Rattle.theory_travel.specs.Ticks.{ticks-day}
 use Rattle.file_refusals.specs.declared.Judged.the-variants.{Sound}
 use Rattle.network.specs.declared.header.Layout.{Layout}
-use Rattle.network.specs.Limits.{mostPeriod}
+use Rattle.network.specs.{Limits.mostPeriod, Decode.decode, Decode.Laid, Decode.laid-sizes, Decode.laid-small}
 use Rattle.network.specs.Network.{Network, arcs, points, count, start, tick, travel}
-use Rattle.network.specs.Decode.{decode, Laid, laid-sizes, laid-small}
-use Rattle.network.specs.FirstPoint.{Counted, anyOf, none-first}
+use Rattle.network.specs.{FirstPoint.Counted, FirstPoint.anyOf, FirstPoint.none-first, Rules.judgedPoints}
 use Rattle.network.specs.Rules.{badPoint, overtaken, badPointOf, overtakenOf, ticksOf, travelsOf}
-use Rattle.network.specs.Rules.{judgedPoints}
 use Rattle.network_steady.specs.Joins.{joins, Follows, joined, joins-low, joins-rise, joins-most}
 use Rattle.network_steady.specs.Joins.{follows}
 

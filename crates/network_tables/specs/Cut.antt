@@ -1,24 +1,16 @@
 -- Tables that are as long as a header says (`Cut`) with their network (`whole`), and the tests of the rules
 -- by the tables that they read. What the rules 9 and 10 say needs the points of the arcs alone (`bare`).
-use mathlib.Core.Path.{_≡_, sym, _∙_, ap}
-use mathlib.Core.Bool.{Bool}
-use mathlib.Core.List.{List, []}
+use mathlib.Core.{Path._≡_, Path.sym, Path._∙_, Path.ap, Bool.Bool, List.List, List.[]}
 use Prim.Native.Nat.{ℕ}
-use lib.ListN.{length, getD, take}
-use lib.Seq.{length-take-le}
-use lib.Dec.{leb}
-use Rattle.theory_loops.specs.First.{first}
-use Rattle.theory_loops.specs.Total.{total}
+use lib.{ListN.length, ListN.getD, ListN.take, Seq.length-take-le, Dec.leb}
+use Rattle.theory_loops.specs.{First.first, Total.total}
 use Rattle.file_refusals.specs.declared.Judged.{Judged}
-use Rattle.network.specs.declared.header.Header.{Header}
-use Rattle.network.specs.declared.header.Layout.{Layout}
-use Rattle.network.specs.Layout.{layoutOf, LaidBlocks, layout-blocks}
-use Rattle.network.specs.Network.{Network, nodes, arcs, start}
+use Rattle.network.specs.declared.header.{Header.Header, Layout.Layout}
+use Rattle.network.specs.{Layout.layoutOf, Layout.LaidBlocks, Layout.layout-blocks, Rules.judged}
+use Rattle.network.specs.{Network.Network, Network.nodes, Network.arcs, Network.start, FirstPoint.Counted}
 use Rattle.network.specs.Tables.{Tables, tables, networkOf}
 use Rattle.network.specs.Decode.{Sizes, Small, layout-small}
 use Rattle.network.specs.Rules.{badCell, badHours, badHoursOf, badEnds, badArc, firstPoint, judgedPoints}
-use Rattle.network.specs.Rules.{judged}
-use Rattle.network.specs.FirstPoint.{Counted}
 use Rattle.network_encode.specs.Packable.{Packable}
 
 -- the network of a header and of whole tables
@@ -120,10 +112,7 @@ module _ {h : Header} {l : Layout} {t : Tables} (c : Cut h l t) where
 
   pub counted-bare : Counted (whole h t) → Counted (bare (l .period) (t .counts) (t .ticks) (t .travels))
   unfolding start
-  counted-bare s = record {
-    some = λ a m. s .some a (rw arcs-same at m);
-    sum = rw arcs-same (s .sum);
-  }
+  counted-bare s = record { some = λ a m. s .some a (rw arcs-same at m); sum = rw arcs-same (s .sum) }
 
   pub points-judged : {r : Judged} → r ≡ judgedPoints (bare (l .period) (t .counts) (t .ticks) (t .travels))
       → r ≡ judgedPoints (whole h t)

@@ -1,13 +1,9 @@
 -- Two points side by side, as code holds one against the next in numbers of 16 bits, and the loop over all of
 -- them.
-use mathlib.Core.Path.{_≡_, refl, _∙_}
-use mathlib.Core.Bool.{Bool, true, false, cond}
-use mathlib.Core.List.{List}
+use mathlib.Core.{Path._≡_, Path.refl, Path._∙_, Bool.Bool, Bool.true, Bool.false, Bool.cond, List.List}
 use Prim.Native.Nat.{ℕ, _+_, _-_, _*_, _≤_, _<_, min}
-use native.Mathlib.Omega.{arith}
-use native.Mathlib.Decide.{decLt}
-use lib.ListN.{getD}
-use lib.Dec.{eqb}
+use native.Mathlib.{Omega.arith, Decide.decLt}
+use lib.{ListN.getD, Dec.eqb}
 use Rattle.theory_loops.specs.Count.{count, count-none, count-yes, count-no, count-few}
 use Rattle.network.specs.Limits.{mostPeriod}
 use Rattle.network_tables.specs.declared.steady.Pairs.{Pairs}

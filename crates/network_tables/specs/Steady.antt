@@ -1,26 +1,19 @@
 -- Why the points of all arcs keep the rules 9 and 10 where each of them is in order with the one after it
 -- (Pairs), the days of all arcs close (`Closed`), and no more points than arcs have tick 0: then only the
 -- first points of arcs have it.
-use mathlib.Core.Path.{_≡_, refl, sym, ap}
-use mathlib.Core.Bool.{Bool, true, false}
+use mathlib.Core.{Path._≡_, Path.refl, Path.sym, Path.ap, Bool.Bool, Bool.true, Bool.false}
 use Prim.Native.Nat.{ℕ, zero, suc, _+_, _-_, _≤_, _<_}
-use native.Mathlib.Nat.{le-of-lt}
-use native.Mathlib.Numerals.{add-one}
-use native.Mathlib.Omega.{arith}
-use native.Mathlib.Decide.{decLt}
+use native.Mathlib.{Nat.le-of-lt, Numerals.add-one, Omega.arith, Decide.decLt}
 use lib.ListN.{getD}
 use borrow.Author.Tests.{eq-eqb}
 use Rattle.theory_loops.specs.Count.{count, count-grows, count-rises}
 use Rattle.theory_loops.specs.Total.{total-none, total-more}
-use Rattle.theory_travel.specs.Points.{climbs}
-use Rattle.theory_travel.specs.Table.{entryAt}
+use Rattle.theory_travel.specs.{Points.climbs, Table.entryAt}
 use Rattle.file_refusals.specs.declared.Judged.the-variants.{Sound}
-use Rattle.network.specs.Network.{Network, arcs, points, start}
+use Rattle.network.specs.{Network.Network, Network.arcs, Network.points, Network.start, Limits.mostPeriod}
 use Rattle.network.specs.Network as net
-use Rattle.network.specs.Limits.{mostPeriod}
-use Rattle.network.specs.Rules.{ticksOf, travelsOf, judgedPoints}
+use Rattle.network.specs.{Rules.ticksOf, Rules.travelsOf, Rules.judgedPoints, Sound.points-clear}
 use Rattle.network.specs.FirstPoint.{Counted, points-in}
-use Rattle.network.specs.Sound.{points-clear}
 use Rattle.network_steady.specs.Joins.{Follows}
 use Rattle.network_steady.specs.Steady as order
 use Rattle.network_tables.specs.declared.steady.Pairs.{Pairs}

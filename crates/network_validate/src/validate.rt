@@ -1,15 +1,15 @@
 // Validation of a network file: refusals 1 to 10 and 37, in place, each fault found as the first in its
 // order. Nothing is copied, and every call ends at the first refusal.
-use file_blocks::form::first_unformed;
-use file_blocks::form::is_bad_length;
-use file_blocks::form::is_formed;
 use file_blocks::kind;
-use file_blocks::reader::first_bad_sum;
 use file_fields::BLOCK;
 use file_fields::HEAD;
 use file_fields::fields::le8;
 use file_fields::fields::le16;
 use file_fields::fields::le32;
+use file_forms::form::first_unformed;
+use file_forms::form::is_bad_length;
+use file_forms::form::is_formed;
+use file_forms::reader::first_bad_sum;
 use file_refusals::Judged;
 use file_refusals::number;
 use network::answer::Opening;
@@ -28,7 +28,7 @@ ghost use lib.ListN.{length};
 ghost use Rattle.theory_loops.specs.First.{first};
 ghost use Rattle.file_fields.specs.Block.{blockSize};
 ghost use Rattle.file_blocks.specs.Place.{blocks};
-ghost use Rattle.file_blocks.specs.Form.{unformed};
+ghost use Rattle.file_forms.specs.Form.{unformed};
 ghost use Rattle.network.specs.Node.{nodeKind, nodeSize, nodePer};
 ghost use Rattle.network.specs.Limits.{WithinLimits};
 ghost use Rattle.network.specs.Decode.{headerAt, decode, Laid};

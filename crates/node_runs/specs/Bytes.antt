@@ -4,8 +4,7 @@ use mathlib.Core.Path.{_≡_, refl, sym, _∙_}
 use mathlib.Core.Bool.{Bool, true, false, cond, _&&_, _||_}
 use Prim.Native.Nat.{ℕ, _+_, _*_, _<_}
 use native.Mathlib.Omega.{arith}
-use lib.Dec.{ltb, eqb}
-use lib.Bits.{bitOr, or-block}
+use lib.{Dec.ltb, Dec.eqb, Bits.bitOr, Bits.or-block}
 use borrow.Author.Tests.{ltb-true, ne-eqb}
 use Rattle.day_merge.specs.Merged.{bits}
 

@@ -1,8 +1,7 @@
 -- How many finds the code makes that judges a node: those of each arc that it meets and those of the node's
 -- own profile, held against what one pass allows (crate `plan_tests`, specs/Finds.antt). An arc that is
 -- passed and one that the chain skips only leave room.
-use mathlib.Core.Path.{_≡_}
-use mathlib.Core.List.{List}
+use mathlib.Core.{Path._≡_, List.List}
 use Prim.Native.Nat.{ℕ, _+_, _*_, _≤_, _<_, min}
 use native.Mathlib.Omega.{arith}
 use lib.ListN.{getD}
@@ -11,12 +10,9 @@ use Rattle.theory_loops.specs.Total.{total, total-part, total-up}
 use Rattle.network.specs.declared.header.Layout.{Layout}
 use Rattle.network.specs.Network.{Network, nodes, arcs, tail, head, count}
 use Rattle.network.specs.Decode.{decode}
-use Rattle.plan.specs.Plan.{Plan, pointCount}
-use Rattle.plan.specs.PlanDecode.{decodePlan}
-use Rattle.plan_tests.specs.declared.tests.Layouts.{Layouts}
-use Rattle.plan_tests.specs.declared.tests.Target.{Target}
-use Rattle.plan_tests.specs.Finds.{Counted, outFinds, nodeFinds}
-use Rattle.plan_tests.specs.Giving.{Prepared}
+use Rattle.plan.specs.{Plan.Plan, Plan.pointCount, PlanDecode.decodePlan}
+use Rattle.plan_tests.specs.declared.tests.{Layouts.Layouts, Target.Target}
+use Rattle.plan_tests.specs.{Finds.Counted, Finds.outFinds, Finds.nodeFinds, Giving.Prepared}
 use Rattle.node_runs.specs.Judged.{Judging, judge-less}
 
 -- the finds of an arc that is met: its points and those of its head's profile
@@ -80,12 +76,38 @@ module _ {network plan : List ℕ} {l : Layouts} {points starts : List ℕ} {b :
   unfolding arcFinds
   arc-finds a e = rw (e, w .check .nodes, w .check .town .sizes .nodes)
 
+  -- so there is room for the finds of its points, and then for those of its head's
+  pub arc-fits : (a before : ℕ) {top : ℕ}
+      → before + arcFinds (decode network) (decodePlan plan) (b .number) a < top
+      → before + count (decode network) a < top
+  unfolding arcFinds
+  arc-fits a before h = omega arith
+
+  pub head-fits : (a before between : ℕ) {y top : ℕ} → y ≡ head (decode network) a
+      → between ≤ before + count (decode network) a
+      → before + arcFinds (decode network) (decodePlan plan) (b .number) a < top
+      → between + pointCount (decodePlan plan) (b .number * l .plan .nodes + y) < top
+  head-fits a before between e f h = omega (arith, arc-finds a e)
+
   pub node-finds : (u : ℕ)
       → nodeFinds (decode network) (decodePlan plan) (b .number) u
       ≡ pointCount (decodePlan plan) (b .number * l .plan .nodes + u)
       + total (arcs (decode network)) (outFinds (decode network) (decodePlan plan) (b .number) u)
   unfolding nodeFinds
   node-finds u = rw (w .check .nodes, w .check .town .sizes .nodes)
+
+  -- so there is room for the finds of its own profile, and then for those of its arcs
+  pub node-fits : (u before : ℕ) {top : ℕ}
+      → before + nodeFinds (decode network) (decodePlan plan) (b .number) u < top
+      → before + pointCount (decodePlan plan) (b .number * l .plan .nodes + u) < top
+  node-fits u before h = omega (arith, node-finds u)
+
+  pub arcs-fit : (u before after : ℕ) {top : ℕ}
+      → after ≡ before + pointCount (decodePlan plan) (b .number * l .plan .nodes + u)
+      → before + nodeFinds (decode network) (decodePlan plan) (b .number) u < top
+      → after + total (arcs (decode network)) (outFinds (decode network) (decodePlan plan) (b .number) u)
+      < top
+  arcs-fit u before after e h = omega (arith, node-finds u)
 
   -- an arc was met: first at most its points were found, then its head's
   pub met-finds : (a : ℕ) {y before between after : ℕ} → y ≡ head (decode network) a

@@ -1,29 +1,20 @@
 -- A node whose arcs were met one after the other, by their chain: at the end the byte of each tick tells
 -- whether the tests 22, 23 and 24 fail there.
-use mathlib.Core.Path.{_≡_, refl, sym, _∙_}
-use mathlib.Core.Logic.{_≢_}
+use mathlib.Core.{Path._≡_, Path.refl, Path.sym, Path._∙_, Logic._≢_, List.List}
 use mathlib.Core.Bool.{Bool, true, false, _&&_, _||_}
-use mathlib.Core.List.{List}
 use Prim.Native.Nat.{ℕ, _+_, _-_, _≤_, _<_, min}
-use native.Mathlib.Decide.{decLt}
-use native.Mathlib.Omega.{arith}
+use native.Mathlib.{Decide.decLt, Omega.arith}
 use lib.ListN.{getD}
 use borrow.Author.Tests.{ne-eqb}
 use Rattle.theory_loops.specs.First.{any, any-clear, any-found, any-more, yes-any}
-use Rattle.theory_paths.specs.Graph.{all}
-use Rattle.theory_paths.specs.Partition.{Partition}
+use Rattle.theory_paths.specs.{Graph.all, Partition.Partition}
 use Rattle.network.specs.declared.header.Layout.{Layout}
-use Rattle.network.specs.Network.{tail}
-use Rattle.network.specs.Decode.{decode}
-use Rattle.network.specs.Town.{partitionOf}
-use Rattle.search_chains.specs.Town.{Town}
-use Rattle.search_chains.specs.Chain.{Chained, NextArc}
-use Rattle.plan.specs.Border.{borderAt}
-use Rattle.plan.specs.Plan.{Plan, towards}
+use Rattle.network.specs.{Network.tail, Decode.decode, Town.partitionOf}
+use Rattle.search_chains.specs.{Town.Town, Chain.Chained, Chain.NextArc}
+use Rattle.plan.specs.{Border.borderAt, Plan.Plan, Plan.towards}
 use Rattle.plan_tests.specs.Tests.{fails22, given}
 use Rattle.plan_tests.specs.Giving.{Asked, Less, Same, Flagged, permits, passes}
-use Rattle.node_runs.specs.Bytes.{byteOf, digit, byte-or}
-use Rattle.node_runs.specs.Adds.{adds, Met}
+use Rattle.node_runs.specs.{Bytes.byteOf, Bytes.digit, Bytes.byte-or, Adds.adds, Adds.Met}
 
 -- THE RESULT: the byte of each tick has the three answers
 pub record Judged (G : Partition) (p : Plan) (i u period : ℕ) (marks : List ℕ) : Type 0 where
@@ -105,7 +96,7 @@ module _ {network : List ℕ} {l : Layout} {p : Plan} {first next : List ℕ} {c
           ∙ any-more k q
           ∙ rw m
 
-      pub judge-next : {new : List ℕ} → Met (partitionOf (decode network)) p c i u k period old new
+      pub judge-next : {new : List ℕ} → Met (partitionOf (decode network)) p c i k period old new
           → Judging network l p first next c i u period j new
       unfolding adds
       judge-next f = record {
@@ -114,7 +105,8 @@ module _ {network : List ℕ} {l : Layout} {p : Plan} {first next : List ℕ} {c
         here = after .meets;
         bytes = λ x o.
             f .at x o
-            ∙ rw (w .bytes x o, more Less x, more Same x, more (Flagged c) x) (byte-or _ _ _ _ _ _);
+            ∙ rw (w .here h, w .bytes x o, more Less x, more Same x, more (Flagged c) x)
+            (byte-or _ _ _ _ _ _);
       }
 
     pub judge-end : c ≡ partitionOf (decode network) .cell (borderAt (partitionOf (decode network)) i)

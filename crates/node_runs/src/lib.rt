@@ -17,25 +17,26 @@ ghost use mathlib.Core.Path.{_≡_};
 ghost use Prim.Native.Nat.{_+_, _*_, _^_, _≤_, _<_};
 ghost use lib.ListN.{length};
 ghost use lib.Dec.{ltb};
-ghost use Rattle.theory_loops.specs.Total.{total};
 ghost use Rattle.network.specs.Limits.{mostCells};
 ghost use Rattle.network.specs.Network;
 ghost use Rattle.network.specs.Decode.{decode};
-ghost use Rattle.network.specs.Town.{partitionOf, travelAt};
+ghost use Rattle.network.specs.Town.{partitionOf};
 ghost use Rattle.plan.specs.Plan.{flag, pointCount};
 ghost use Rattle.plan.specs.PlanDecode.{PlanLaid, decodePlan};
 ghost use Rattle.plan_values.specs.Formed.{Formed};
 ghost use Rattle.plan_values.specs.Starts.{Started};
-ghost use Rattle.plan_tests.specs.Finds.{Counted, outFinds, nodeFinds};
+ghost use Rattle.plan_tests.specs.Finds.{Counted, nodeFinds};
 ghost use Rattle.plan_tests.specs.Giving.{Prepared};
 ghost use Rattle.plan_tests.specs.Failing.{AtBorder};
-ghost use Rattle.arc_runs.specs.Brief.{Brief, Briefs};
-ghost use Rattle.day_runs.specs.Bounds.{Ceiling};
+ghost use Rattle.day_runs.specs.Filling.{Space};
+ghost use Rattle.arc_runs.specs.Brief.{Briefs};
+ghost use Rattle.plan_tests.specs.Checkable.{Checkable};
 ghost use Rattle.node_runs.specs.Bytes.{sameBits};
-ghost use Rattle.node_runs.specs.Adds.{Met, numbersOf};
+ghost use Rattle.node_runs.specs.Adds.{Met};
+ghost use Rattle.node_runs.specs.Seen.{Seen};
 ghost use Rattle.node_runs.specs.Judged.{Judged};
 ghost use Rattle.node_runs.specs.Finding.{arcFinds};
-ghost use Rattle.node_runs.specs.Ready.{Own, Rooms, Low, Lows, Blank};
+ghost use Rattle.node_runs.specs.Ready.{Topped, Opened, Own, Rooms, Low, Lows, Blank};
 
 // Half of a number where a byte holds it, and else the greatest that it holds.
 fn half(x: u32) -> u8
@@ -112,53 +113,96 @@ fn clear(marks: &mut [u8], period: usize)
     }
 }
 
-// Meets an arc out of a node: its runs and its head's, merged with the node's own, which are `so` and `vo`.
-fn meet(
+// The runs of a profile, how many they are, and a number that it is never above.
+struct Profile {
+    runs: usize,
+    top: u32,
+}
+
+// Fills the runs of a profile that has points, that of border number i and node u, and takes all marks off.
+fn open_node(
+    plan: &[u8],
+    l: PlanLayout,
+    firsts: &[u32; MOST_NODES],
+    i: usize,
+    u: usize,
+    so: &mut [u16],
+    vo: &mut [u32],
+    marks: &mut [u8],
+    finds: &mut u64,
+) -> Profile
+    requires { ⌜ Formed (now plan) l ⌝ }
+    requires { ⌜ Started (now plan) l i (now firsts) ⌝ }
+    requires { ⌜ (i < l .borders) × (u < l .nodes)
+        × (0 < pointCount (decodePlan (now plan)) (i * l .nodes + u)) ⌝ }
+    requires { ⌜ Space (now so) (now vo) (l .period) × (l .period ≤ length (now marks)) ⌝ }
+    requires { ⌜ now finds + pointCount (decodePlan (now plan)) (i * l .nodes + u) < 2 ^ 64 ⌝ }
+    ensures { λ r. ⌜ Opened (now (plan .entry)) l (i * l .nodes + u) (now (so .exit)) (now (vo .exit)) r
+        × Blank (l .period) (now (marks .exit))
+        × (now (finds .exit) ≡ now (finds .entry)
+        + pointCount (decodePlan (now (plan .entry))) (i * l .nodes + u)) ⌝ }
+{
+    clear(marks, l.period);
+    Profile {
+        runs: profile_runs::fill_profile(plan, l, firsts, i, u, so, vo, finds),
+        top: profile_runs::greatest_value(plan, l, firsts, i, u),
+    }
+}
+
+// What an arc is met with: the node that it leads to, its travel in brief, and the bits of a tick at which it
+// gives the same. An arc without such bits is passed.
+struct Way {
+    head: usize,
+    brief: u8,
+    same: u8,
+}
+
+// Looks at an arc, and passes it where it can add nothing. `briefs` has the arcs' briefs, `lows` a number for
+// each node that its profile is never below, and `top` is one that the profile of the arc's tail is never
+// above.
+fn look(
     network: &[u8],
     plan: &[u8],
     l: Layouts,
-    points: &[u16; MOST_ARCS],
-    firsts: &[u32; MOST_NODES],
+    briefs: &[u8; MOST_ARCS],
+    lows: &[u8; MOST_NODES],
     target: Target,
-    node: usize,
     arc: usize,
-    head: usize,
-    brief: u8,
-    so: &[u16],
-    vo: &[u32],
-    n: usize,
-    same: u8,
-    sa: &mut [u16],
-    va: &mut [u16],
-    sh: &mut [u16],
-    vh: &mut [u32],
-    marks: &mut [u8],
-    finds: &mut u64,
-)
-    requires { ⌜ Prepared (now network) (now plan) l (now points) (now firsts) target ⌝ }
-    requires { ⌜ (arc < l .network .arcs) × (Network.tail (decode (now network)) arc ≡ node)
-        × (head ≡ Network.head (decode (now network)) arc)
-        × (0 < pointCount (decodePlan (now plan)) (target .number * l .plan .nodes + head))
-        × Brief (travelAt (decode (now network)) arc) (l .network .period) brief ⌝ }
-    requires { ⌜ Own (now plan) l target node (now so) (now vo) n
-        × (same ≡ sameBits (flag (decodePlan (now plan)) arc (target .cell))) ⌝ }
-    requires { ⌜ Rooms (l .network .period) (now sa) (now va) (now sh) (now vh) (now marks) ⌝ }
-    requires { ⌜ now finds + arcFinds (decode (now network)) (decodePlan (now plan)) (target .number) arc
-        < 2 ^ 64 ⌝ }
-    ensures { λ _. ⌜ Met (partitionOf (decode (now (network .entry)))) (decodePlan (now (plan .entry)))
-        (target .cell) (target .number) node arc (l .network .period) (now (marks .entry))
-        (now (marks .exit))
-        × Counted 0 (arcFinds (decode (now (network .entry))) (decodePlan (now (plan .entry)))
-        (target .number) arc) (now (finds .entry)) (now (finds .exit)) ⌝ }
+    top: u32,
+) -> Way
+    requires { ⌜ Checkable (now network) (now plan) l ⌝ }
+    requires { ⌜ Briefs (decode (now network)) (l .network .period) (l .network .arcs) (now briefs)
+        × Lows (now plan) (l .plan) (target .number) (l .plan .nodes) (now lows) ⌝ }
+    requires { ⌜ (arc < l .network .arcs) × (target .number < l .plan .borders)
+        × (target .cell < mostCells) ⌝ }
+    requires { ⌜ Topped (now plan) l target (Network.tail (decode (now network)) arc) top ⌝ }
+    ensures { λ r. ⌜ Seen (now (network .entry)) (now (plan .entry)) l target arc r ⌝ }
 {
-    let na = brief::fill_runs(network, l.network, points, arc, brief, sa, vh, va, finds);
-    let nh = profile_runs::fill_profile(plan, l.plan, firsts, target.number, head, sh, vh, finds);
-    let period = l.network.period;
-    day_merge::merge(so, vo, n, sa, va, na, sh, vh, nh, period, same, marks);
+    let head = network::read::head(network, l.network, arc);
+    if plan::read::point_count(plan, l.plan, target.number * l.plan.nodes + head) == 0 {
+        return Way {
+            head,
+            brief: 0,
+            same: 0,
+        };
+    }
+    let brief = briefs[arc];
+    if is_far(top, lows[head], brief::least(brief)) {
+        return Way {
+            head,
+            brief,
+            same: 0,
+        };
+    }
+    Way {
+        head,
+        brief,
+        same: same_bits(plan, l.plan, arc, target.cell),
+    }
 }
 
-// Meets an arc out of a node, or passes it and finds nothing. `briefs` has the arcs' briefs, `lows` a number
-// for each node that its profile is never below, and `top` is one that the node's own is never above.
+// Meets an arc, or passes it and finds nothing. Its runs and its head's are merged with those of the node it
+// leads out of, which are `so` and `vo`.
 fn judge_arc(
     network: &[u8],
     plan: &[u8],
@@ -168,12 +212,10 @@ fn judge_arc(
     firsts: &[u32; MOST_NODES],
     lows: &[u8; MOST_NODES],
     target: Target,
-    node: usize,
     arc: usize,
     so: &[u16],
     vo: &[u32],
-    n: usize,
-    top: u32,
+    own: Profile,
     sa: &mut [u16],
     va: &mut [u16],
     sh: &mut [u16],
@@ -184,121 +226,49 @@ fn judge_arc(
     requires { ⌜ Prepared (now network) (now plan) l (now points) (now firsts) target ⌝ }
     requires { ⌜ Briefs (decode (now network)) (l .network .period) (l .network .arcs) (now briefs)
         × Lows (now plan) (l .plan) (target .number) (l .plan .nodes) (now lows) ⌝ }
-    requires { ⌜ (arc < l .network .arcs) × (Network.tail (decode (now network)) arc ≡ node) ⌝ }
-    requires { ⌜ Own (now plan) l target node (now so) (now vo) n
-        × Ceiling (numbersOf (now plan) l target node) (l .network .period) top ⌝ }
+    requires { ⌜ (arc < l .network .arcs)
+        × Own (now plan) l target (Network.tail (decode (now network)) arc) (now so) (now vo) own ⌝ }
     requires { ⌜ Rooms (l .network .period) (now sa) (now va) (now sh) (now vh) (now marks) ⌝ }
     requires { ⌜ now finds + arcFinds (decode (now network)) (decodePlan (now plan)) (target .number) arc
         < 2 ^ 64 ⌝ }
     ensures { λ _. ⌜ Met (partitionOf (decode (now (network .entry)))) (decodePlan (now (plan .entry)))
-        (target .cell) (target .number) node arc (l .network .period) (now (marks .entry))
-        (now (marks .exit))
+        (target .cell) (target .number) arc (l .network .period) (now (marks .entry)) (now (marks .exit))
         × Counted 0 (arcFinds (decode (now (network .entry))) (decodePlan (now (plan .entry)))
         (target .number) arc) (now (finds .entry)) (now (finds .exit)) ⌝ }
 {
-    let head = network::read::head(network, l.network, arc);
-    if plan::read::point_count(plan, l.plan, target.number * l.plan.nodes + head) == 0 {
+    let to = look(network, plan, l, briefs, lows, target, arc, own.top);
+    if to.same == 0 {
         return;
     }
-    let brief = briefs[arc];
-    if is_far(top, lows[head], brief::least(brief)) {
-        return;
-    }
-    let same = same_bits(plan, l.plan, arc, target.cell);
-    meet(
-        network,
+    let na = brief::fill_runs(network, l.network, points, arc, to.brief, sa, vh, va, finds);
+    let nh = profile_runs::fill_profile(
         plan,
-        l,
-        points,
+        l.plan,
         firsts,
-        target,
-        node,
-        arc,
-        head,
-        brief,
-        so,
-        vo,
-        n,
-        same,
-        sa,
-        va,
+        target.number,
+        to.head,
         sh,
         vh,
-        marks,
         finds,
+    );
+    day_merge::merge(
+        so,
+        vo,
+        own.runs,
+        sa,
+        va,
+        na,
+        sh,
+        vh,
+        nh,
+        l.network.period,
+        to.same,
+        marks,
     );
 }
 
-// Meets the arcs out of a node, which are walked by their chain, or passes them, where no tick has a bit yet.
-fn judge_arcs(
-    network: &[u8],
-    plan: &[u8],
-    l: Layouts,
-    points: &[u16; MOST_ARCS],
-    briefs: &[u8; MOST_ARCS],
-    first: &[u16; MOST_NODES],
-    next: &[u16; MOST_ARCS],
-    firsts: &[u32; MOST_NODES],
-    lows: &[u8; MOST_NODES],
-    target: Target,
-    node: usize,
-    so: &[u16],
-    vo: &[u32],
-    n: usize,
-    top: u32,
-    sa: &mut [u16],
-    va: &mut [u16],
-    sh: &mut [u16],
-    vh: &mut [u32],
-    marks: &mut [u8],
-    finds: &mut u64,
-)
-    requires { ⌜ AtBorder (now network) (now plan) l (now points) (now first) (now next) (now firsts)
-        target ⌝ }
-    requires { ⌜ Briefs (decode (now network)) (l .network .period) (l .network .arcs) (now briefs)
-        × Lows (now plan) (l .plan) (target .number) (l .plan .nodes) (now lows) ⌝ }
-    requires { ⌜ (node < l .network .nodes) × Own (now plan) l target node (now so) (now vo) n
-        × Ceiling (numbersOf (now plan) l target node) (l .network .period) top ⌝ }
-    requires { ⌜ Rooms (l .network .period) (now sa) (now va) (now sh) (now vh) (now marks)
-        × Blank (l .network .period) (now marks) ⌝ }
-    requires { ⌜ now finds + total (Network.arcs (decode (now network)))
-        (outFinds (decode (now network)) (decodePlan (now plan)) (target .number) node) < 2 ^ 64 ⌝ }
-    ensures { λ _. ⌜ Judged (partitionOf (decode (now (network .entry)))) (decodePlan (now (plan .entry)))
-        (target .number) node (l .network .period) (now (marks .exit))
-        × Counted 0 (total (Network.arcs (decode (now (network .entry))))
-        (outFinds (decode (now (network .entry))) (decodePlan (now (plan .entry))) (target .number) node))
-        (now (finds .entry)) (now (finds .exit)) ⌝ }
-{
-    let arcs = l.network.arcs;
-    let mut a = wide(first[node]);
-    while a < arcs {
-        judge_arc(
-            network,
-            plan,
-            l,
-            points,
-            briefs,
-            firsts,
-            lows,
-            target,
-            node,
-            a,
-            so,
-            vo,
-            n,
-            top,
-            sa,
-            va,
-            sh,
-            vh,
-            marks,
-            finds,
-        );
-        a = wide(next[a]);
-    }
-}
-
-// Judges a node whose profile towards the target has points, at all ticks, and counts the finds.
+// Judges a node whose profile towards the target has points, at all ticks, and counts the finds. The arcs out
+// of it are walked by their chain.
 pub fn judge_node(
     network: &[u8],
     plan: &[u8],
@@ -336,30 +306,40 @@ pub fn judge_node(
         (nodeFinds (decode (now (network .entry))) (decodePlan (now (plan .entry))) (target .number) node)
         (now (finds .entry)) (now (finds .exit)) ⌝ }
 {
-    let n = profile_runs::fill_profile(plan, l.plan, firsts, target.number, node, so, vo, finds);
-    let top = profile_runs::greatest_value(plan, l.plan, firsts, target.number, node);
-    clear(marks, l.network.period);
-    judge_arcs(
-        network,
+    let own = open_node(
         plan,
-        l,
-        points,
-        briefs,
-        first,
-        next,
+        l.plan,
         firsts,
-        lows,
-        target,
+        target.number,
         node,
         so,
         vo,
-        n,
-        top,
-        sa,
-        va,
-        sh,
-        vh,
         marks,
         finds,
     );
+    let arcs = l.network.arcs;
+    let mut a = wide(first[node]);
+    while a < arcs {
+        judge_arc(
+            network,
+            plan,
+            l,
+            points,
+            briefs,
+            firsts,
+            lows,
+            target,
+            a,
+            so,
+            vo,
+            own,
+            sa,
+            va,
+            sh,
+            vh,
+            marks,
+            finds,
+        );
+        a = wide(next[a]);
+    }
 }

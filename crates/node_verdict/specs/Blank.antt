@@ -1,75 +1,19 @@
 -- A node without points, whose profile is never: 22 fails there, at every tick alike, exactly where an arc
 -- out of it leads to a node that has points, and no other test does.
-use mathlib.Core.Path.{_≡_, refl, sym, _∙_, ap}
-use mathlib.Core.Logic.{_≢_}
+use mathlib.Core.{Path._≡_, Path.refl, Path.sym, Path._∙_, Path.ap, Logic._≢_, List.List}
 use mathlib.Core.Bool.{Bool, true, false, _&&_}
-use mathlib.Core.List.{List}
-use Prim.Native.Nat.{ℕ, _+_, _*_, _%_, _≤_, _<_}
+use Prim.Native.Nat.{ℕ, _+_, _*_, _%_, _<_}
 use native.Mathlib.Omega.{arith}
 use lib.Dec.{eqb, ltb}
-use borrow.Author.Tests.{eq-eqb, ne-eqb, lt-ltb, le-ltb, ltb-true, ltb-false}
-use Rattle.theory_loops.specs.Fill.{Filled}
-use Rattle.theory_loops.specs.First.{any, any-clear, first-same, some, yes-any}
-use Rattle.theory_paths.specs.Partition.{Partition}
-use Rattle.theory_paths.specs.Profiles.{Travel, unreachable, plus}
-use Rattle.network.specs.declared.header.Layout.{Layout}
-use Rattle.network.specs.Network.{nodes, arcs, tail, head}
-use Rattle.network.specs.Decode.{decode}
-use Rattle.network.specs.Town.{partitionOf}
-use Rattle.search_chains.specs.Chain.{Walking, walk-none}
-use Rattle.search_chains.specs.Town.{Town}
-use Rattle.plan.specs.Border.{borderAt}
-use Rattle.plan.specs.Plan.{Plan, profile, pointCount}
-use Rattle.plan.specs.PlanDecode.{decodePlan}
+use borrow.Author.Tests.{ne-eqb, ltb-true, ltb-false}
+use Rattle.theory_loops.specs.{Fill.Filled, First.any, First.first-same, First.yes-any}
+use Rattle.theory_paths.specs.{Partition.Partition, Profiles.Travel, Profiles.unreachable, Profiles.plus}
+use Rattle.plan.specs.{Border.borderAt, Plan.Plan, Plan.profile, Plan.pointCount}
 use Rattle.plan_values.specs.Compare.{less}
-use Rattle.plan_tests.specs.declared.tests.Layouts.{Layouts}
-use Rattle.plan_tests.specs.Checkable.{Checkable}
 use Rattle.plan_tests.specs.Tests.{giving, fails22, fails}
 use Rattle.profile_runs.specs.Numbers.{number-value, number-never}
+use Rattle.node_bare.specs.Ahead.{ahead}
 use Rattle.node_verdict.specs.Lowest.{tells, Lowest, each-test}
-
--- arc a leads out of u, to a node that has points towards border number i
-unfoldable pub ahead : Partition → Plan → ℕ → ℕ → ℕ → Bool
-ahead G p i u a = eqb (G .graph .tail a) u && ltb 0 (pointCount p (i * G .graph .nodes + G .graph .head a))
-
--- an arc out of another node does not
-pub ahead-elsewhere : (G : Partition) (p : Plan) (i u a : ℕ) → G .graph .tail a ≢ u → ahead G p i u a ≡ false
-unfolding ahead
-ahead-elsewhere G p i u a e = rw (ne-eqb (G .graph .tail a) u e)
-
--- FOR A WALK of the arcs out of u, at arc a with head y, whose count of points was read
-module _ {network plan : List ℕ} {l : Layouts} (w : Checkable network plan l) (i u a y k : ℕ)
-    (e : tail (decode network) a ≡ u) (f : y ≡ head (decode network) a)
-    (g : k ≡ pointCount (decodePlan plan) (i * l .plan .nodes + y)) where
-  there : k
-      ≡ pointCount (decodePlan plan) (i * nodes (decode network) + head (decode network) a)
-  there = rw (w .nodes, w .town .sizes .nodes, f) at g
-
-  pub ahead-at : k ≢ 0 → ahead (partitionOf (decode network)) (decodePlan plan) i u a ≡ true
-  unfolding ahead
-  ahead-at h = rw (eq-eqb (tail (decode network) a) u e, ← there) (lt-ltb 0 k (omega (arith, h)))
-
-  pub ahead-not : k ≡ 0 → ahead (partitionOf (decode network)) (decodePlan plan) i u a ≡ false
-  unfolding ahead
-  ahead-not h = rw (eq-eqb (tail (decode network) a) u e, ← there) (le-ltb 0 k (omega arith))
-
-  pub ahead-found : a < l .network .arcs → k ≢ 0
-      → true ≡ any (arcs (decode network))
-      (ahead (partitionOf (decode network)) (decodePlan plan) i u)
-  ahead-found o h =
-      some (ahead (partitionOf (decode network)) (decodePlan plan) i u) (arcs (decode network)) a
-      (omega (arith, w .town .sizes .arcs)) (ahead-at h)
-
--- no arc is left
-pub ahead-none : {network : List ℕ} {l : Layout} (p : Plan) {first next : List ℕ} (i u k : ℕ) → Town network l
-    → Walking (tail (decode network)) (l .nodes) (l .arcs) first next
-    (ahead (partitionOf (decode network)) p i u) u k
-    → l .arcs ≤ k
-    → false ≡ any (arcs (decode network)) (ahead (partitionOf (decode network)) p i u)
-ahead-none {network} {l} p {first} {next} i u k t w h =
-    sym
-    (any-clear (ahead (partitionOf (decode network)) p i u) (arcs (decode network)) .1
-    (λ a m. walk-none w h .before a (omega (arith, t .sizes .arcs))))
 
 -- a value that is never: anything that is a number is less
 module _ (G : Partition) (p : Plan) (i u : ℕ) (none : pointCount p (i * G .graph .nodes + u) ≡ 0) where

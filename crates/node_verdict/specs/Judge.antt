@@ -1,26 +1,18 @@
 -- The laws by which the code comes to what is told of a node, in the files' terms: at the border itself,
 -- where only 21 is left to look for, at a node without points, and at any other.
-use mathlib.Core.Path.{_≡_, sym, _∙_, subst}
-use mathlib.Core.Logic.{_≢_}
-use mathlib.Core.List.{List}
+use mathlib.Core.{Path._≡_, Path.sym, Path._∙_, Path.subst, Logic._≢_, List.List}
 use Prim.Native.Nat.{ℕ, _+_, _*_, _≤_, _<_}
 use native.Mathlib.Omega.{arith}
-use Rattle.network.specs.Decode.{decode}
-use Rattle.network.specs.Town.{partitionOf}
+use Rattle.network.specs.{Decode.decode, Town.partitionOf}
 use Rattle.search_chains.specs.Town.{lawful}
-use Rattle.plan.specs.Border.{borderAt}
-use Rattle.plan.specs.Plan.{pointCount, profileValue}
-use Rattle.plan.specs.PlanDecode.{decodePlan}
-use Rattle.plan_tests.specs.declared.tests.Layouts.{Layouts}
-use Rattle.plan_tests.specs.declared.tests.Target.{Target}
-use Rattle.plan_tests.specs.Finds.{nodeFinds, Counted}
-use Rattle.plan_tests.specs.Giving.{Prepared, profile-same}
+use Rattle.plan.specs.{Border.borderAt, Plan.pointCount, Plan.profileValue, PlanDecode.decodePlan}
+use Rattle.plan_tests.specs.declared.tests.{Layouts.Layouts, Target.Target}
+use Rattle.plan_tests.specs.{Finds.nodeFinds, Finds.Counted, Giving.Prepared, Giving.profile-same}
 use Rattle.profile_runs.specs.Numbers.{number-value}
-use Rattle.node_runs.specs.Adds.{numbersOf}
-use Rattle.node_runs.specs.Finding.{node-finds}
-use Rattle.node_runs.specs.Judged.{Judged}
+use Rattle.node_bare.specs.Home.{AtHome}
+use Rattle.node_runs.specs.{Adds.numbersOf, Finding.node-finds, Judged.Judged}
 use Rattle.node_verdict.specs.Lowest.{Lowest, Tallied, lowest-below, lowest-skipped}
-use Rattle.node_verdict.specs.Home.{AtHome, home-telling}
+use Rattle.node_verdict.specs.Home.{home-telling}
 use Rattle.node_verdict.specs.Marks.{Marked, marked-lowest, judged-telling}
 
 module _ {network plan : List ℕ} {l : Layouts} {points starts : List ℕ} {b : Target}
@@ -32,12 +24,6 @@ module _ {network plan : List ℕ} {l : Layouts} {points starts : List ℕ} {b :
       marks
       × Tallied limit (pointCount (decodePlan plan) (b .number * l .plan .nodes + u))
       (nodeFinds (decode network) (decodePlan plan) (b .number) u) before after
-
-  -- there is room to count the finds of its own profile
-  pub own-room : (before : ℕ) {top : ℕ} → before + nodeFinds (decode network) (decodePlan plan) (b .number) u
-      < top
-      → before + pointCount (decodePlan plan) (b .number * l .plan .nodes + u) < top
-  own-room before h = omega (arith, node-finds w u)
 
   -- a node that is not the target is not the border with its number
   pub away-border : u ≢ b .node → u ≢ borderAt (partitionOf (decode network)) (b .number)
@@ -89,7 +75,7 @@ module _ {network plan : List ℕ} {l : Layouts} {points starts : List ℕ} {b :
       lowest-below limit
           (marked-lowest
           (judged-telling j (away-border h) (numbersOf plan l b u)
-          (λ x. sym (profile-same w u x) ∙ number-value _ _ _ x some))
+          (λ x. sym (profile-same (w .check) (b .number) u x) ∙ number-value _ _ _ x some))
           m)
           few,
       record { up = omega (arith, c .no-fewer); no-fewer = λ _. c .no-fewer; no-more = c .no-more },

@@ -1,20 +1,13 @@
 -- What is told of a node towards a border: the lowest of the tests 21 to 24 that fails there at some tick, 25
 -- where none fails; and by a byte for each tick whether it fails at that tick.
-use mathlib.Core.Path.{_≡_}
-use mathlib.Core.Bool.{Bool, true, false, cond, not}
-use mathlib.Core.List.{List}
-use mathlib.Core.Logic.{_≢_}
+use mathlib.Core.{Path._≡_, Bool.Bool, Bool.true, Bool.false, Bool.cond, Bool.not, List.List, Logic._≢_}
 use Prim.Native.Nat.{ℕ, _+_, _≤_, _<_}
-use native.Mathlib.Decide.{ℕ-discrete}
-use native.Mathlib.Omega.{arith}
-use lib.ListN.{getD}
-use lib.Dec.{eqb}
-use lib.Bits.{bitAnd, bitXor}
+use native.Mathlib.{Decide.ℕ-discrete, Omega.arith}
+use lib.{ListN.getD, Dec.eqb, Bits.bitAnd, Bits.bitXor}
 use borrow.Author.Tests.{ne-eqb}
 use Rattle.theory_loops.specs.First.{any}
 use Rattle.theory_paths.specs.Partition.{Partition}
-use Rattle.plan.specs.Border.{borderAt}
-use Rattle.plan.specs.Plan.{Plan}
+use Rattle.plan.specs.{Border.borderAt, Plan.Plan}
 use Rattle.plan_tests.specs.Tests.{fails}
 
 -- the bit of a test in the byte of a tick

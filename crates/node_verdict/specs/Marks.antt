@@ -1,27 +1,17 @@
 -- The lowest test by the bytes of a node's ticks. A byte is 6 where no test fails; the bits in which it is
 -- not are told for all ticks at once, by `||`.
-use mathlib.Core.Path.{_≡_, refl, sym, _∙_, ap}
-use mathlib.Core.Logic.{_≢_}
+use mathlib.Core.{Path._≡_, Path.refl, Path.sym, Path._∙_, Path.ap, Logic._≢_, List.List}
 use mathlib.Core.Bool.{Bool, true, false, not, _&&_, _||_}
-use mathlib.Core.List.{List}
 use Prim.Native.Nat.{ℕ, zero, suc, _+_, _-_, _/_, _%_, _≤_, _<_, min, max}
-use native.Mathlib.Numerals.{add-one}
-use native.Mathlib.Decide.{ℕ-discrete}
-use native.Mathlib.Omega.{arith}
-use lib.Arith.{bin-ind}
-use lib.ListN.{getD}
-use lib.Dec.{eqb, ltb}
+use native.Mathlib.{Numerals.add-one, Decide.ℕ-discrete, Omega.arith}
+use lib.{Arith.bin-ind, ListN.getD, Dec.eqb, Dec.ltb}
 use lib.Bits.{bitAnd, bitOr, bitXor, and-step, or-step, or-add-and, and-le-l, and-le-r}
 use borrow.Author.Tests.{eq-eqb, ne-eqb, eqb-true}
 use Rattle.theory_loops.specs.First.{any, any-none, any-more, any-clear, first-same}
-use Rattle.theory_paths.specs.Graph.{all}
-use Rattle.theory_paths.specs.Partition.{Partition}
-use Rattle.theory_paths.specs.Profiles.{ticks}
-use Rattle.plan.specs.Border.{borderAt}
-use Rattle.plan.specs.Plan.{Plan, towards, profile}
+use Rattle.theory_paths.specs.{Graph.all, Partition.Partition, Profiles.ticks}
+use Rattle.plan.specs.{Border.borderAt, Plan.Plan, Plan.towards, Plan.profile}
 use Rattle.plan_tests.specs.Tests.{given, fails}
-use Rattle.node_runs.specs.Bytes.{byteOf, digit}
-use Rattle.node_runs.specs.Judged.{Judged}
+use Rattle.node_runs.specs.{Bytes.byteOf, Bytes.digit, Judged.Judged}
 use Rattle.node_verdict.specs.Lowest.{bitOf, tells, Lowest, each-test}
 
 -- the bits in which any of the first n bytes is not as 6
@@ -57,19 +47,16 @@ or-zero : (a b : ℕ) → bitOr a b ≡ 0 → (a ≡ 0) × (b ≡ 0)
 or-zero a b e =
     (omega (arith, or-add-and a b, and-le-r a b, e), omega (arith, or-add-and a b, and-le-l a b, e))
 
+not-zero : (a : ℕ) → eqb a 0 ≡ false → a ≢ 0
+not-zero a f h = let g = rw (eq-eqb a 0 h) at f in let z : _≡_ {A = ℕ} 0 1 = cc in omega arith
+
 or-some : (a b : ℕ) → not (eqb (bitOr a b) 0) ≡ not (eqb a 0) || not (eqb b 0)
 or-some a b = go (eqb a 0) (eqb b 0) refl refl
   where
     go : (s t : Bool) → eqb a 0 ≡ s → eqb b 0 ≡ t → not (eqb (bitOr a b) 0) ≡ not s || not t
     go true true e f = rw (eqb-true a 0 e, eqb-true b 0 f)
-    go true false e f = ap not (ne-eqb (bitOr a b) 0 (λ h. clash (or-zero a b h .1) f))
-      where
-        clash : b ≡ 0 → eqb b 0 ≡ false → ⊥
-        clash h f = let g = rw (eq-eqb b 0 h) at f in let z : _≡_ {A = ℕ} 0 1 = cc in omega arith
-    go false t e f = ap not (ne-eqb (bitOr a b) 0 (λ h. clash (or-zero a b h .0) e))
-      where
-        clash : a ≡ 0 → eqb a 0 ≡ false → ⊥
-        clash h f = let g = rw (eq-eqb a 0 h) at f in let z : _≡_ {A = ℕ} 0 1 = cc in omega arith
+    go true false e f = ap not (ne-eqb (bitOr a b) 0 (λ h. not-zero b f (or-zero a b h .1)))
+    go false t e f = ap not (ne-eqb (bitOr a b) 0 (λ h. not-zero a e (or-zero a b h .0)))
 
 -- so those of all ticks tell of any
 any-tells : (marks : List ℕ) (number n : ℕ)
@@ -103,11 +90,7 @@ module _ (marks : List ℕ) (period : ℕ) {o : ℕ} (e : o ≡ offs marks perio
       rw (any-tells marks number period, ← e, eq-eqb (bitAnd o (bitOf number)) 0 h)
 
   pub marked-21 : bitAnd o 8 ≢ 0 → Marked marks period 21
-  marked-21 h = record {
-    low = omega arith;
-    passed = λ m lo hi k. absurd (omega arith);
-    some = λ _. set 21 h;
-  }
+  marked-21 h = record { low = omega arith; passed = λ m lo hi k. absurd (omega arith); some = λ _. set 21 h }
 
   module _ (c1 : bitAnd o 8 ≡ 0) where
     pub marked-22 : bitAnd o 1 ≢ 0 → Marked marks period 22

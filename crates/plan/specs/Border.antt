@@ -1,12 +1,8 @@
 -- The borders of a graph with cells: the nodes with an arc into them from another cell, by rising number.
-use mathlib.Core.Path.{_≡_}
-use mathlib.Core.Bool.{Bool, not, _&&_}
-use mathlib.Core.List.{List}
+use mathlib.Core.{Path._≡_, Bool.Bool, Bool.not, Bool._&&_, List.List}
 use Prim.Native.Nat.{ℕ, _<_}
-use lib.ListN.{length, getD}
-use lib.Dec.{eqb}
-use Rattle.theory_loops.specs.First.{any}
-use Rattle.theory_loops.specs.Select.{select}
+use lib.{ListN.length, ListN.getD, Dec.eqb}
+use Rattle.theory_loops.specs.{First.any, Select.select}
 use Rattle.theory_paths.specs.Partition.{Partition}
 
 -- the cells that arc a leads from and to

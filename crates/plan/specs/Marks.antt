@@ -1,25 +1,18 @@
 -- How the borders are found in one pass over the arcs: after k arcs a node is marked where one of them enters
 -- it from another cell. The laws of the loop that marks, and of those that list and count what is marked.
-use mathlib.Core.Path.{_≡_, refl, sym, _∙_, ap}
+use mathlib.Core.{Path._≡_, Path.refl, Path.sym, Path._∙_, Path.ap, List.List, List.[], List._∷_}
 use mathlib.Core.Bool.{Bool, true, false, cond, not, _&&_}
-use mathlib.Core.List.{List, [], _∷_}
 use Prim.Native.Nat.{ℕ, suc, _+_, _≤_, _<_}
-use native.Mathlib.Numerals.{add-one}
-use native.Mathlib.Omega.{arith}
-use native.Mathlib.Decide.{ℕ-discrete}
+use native.Mathlib.{Numerals.add-one, Omega.arith, Decide.ℕ-discrete}
 use lib.ListN.{length, getD, set, replicate, length-set, length-append, length-replicate, getD-replicate}
-use lib.Seq.{getD-set-same, getD-set-other}
-use lib.Dec.{eqb, ltb}
+use lib.{Seq.getD-set-same, Seq.getD-set-other, Dec.eqb, Dec.ltb}
 use borrow.Author.Tests.{eq-eqb, ne-eqb, le-ltb, lt-ltb}
 use Rattle.theory_loops.specs.First.{first, any, first-le, yes-any, none-yet, first-more}
-use Rattle.theory_loops.specs.Fill.{overwritten}
-use Rattle.theory_loops.specs.Select.{select, Chosen}
+use Rattle.theory_loops.specs.{Fill.overwritten, Select.select, Select.Chosen}
 use Rattle.theory_paths.specs.Partition.{Partition}
 use Rattle.network.specs.Network.{Network, nodes, arcs, cell, tail, head}
-use Rattle.network.specs.Decode.{decode, Laid, laid-sizes}
-use Rattle.network.specs.Sound.{SoundNetwork}
+use Rattle.network.specs.{Decode.decode, Decode.Laid, Decode.laid-sizes, Sound.SoundNetwork, Limits.mostNodes}
 use Rattle.network.specs.declared.header.Layout.{Layout}
-use Rattle.network.specs.Limits.{mostNodes}
 use Rattle.network.specs.Town.{partitionOf}
 use Rattle.plan.specs.Border.{isBorder, borders, borderCount}
 
@@ -147,10 +140,7 @@ module _ (G : Partition) where
 
   pub count-no : (v c : ℕ) → Counted G v c → isBorder G v ≡ false → Counted G (v + 1) c
   unfolding select
-  count-no v c h t = record {
-    count = rw (add-one v, t, select) (h .count);
-    few = omega (arith, h .few);
-  }
+  count-no v c h t = record { count = rw (add-one v, t, select) (h .count); few = omega (arith, h .few) }
 
   pub count-end : (v m c : ℕ) → Counted G v c → v ≤ m → m ≤ v → m ≡ G .graph .nodes → c ≡ borderCount G
   unfolding borders

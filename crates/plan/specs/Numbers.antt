@@ -1,34 +1,26 @@
 -- The numbers of refusals of a plan file: between 11 and 19, and those of its rules between 17 and 19.
-use mathlib.Core.Path.{_≡_, refl}
-use mathlib.Core.List.{List}
+use mathlib.Core.{Path._≡_, Path.refl, List.List}
 use Prim.Native.Nat.{ℕ, _*_, _≤_}
 use native.Mathlib.Omega.{arith}
-use lib.ListN.{length}
-use lib.Dec.{eqb, ltb}
+use lib.{ListN.length, Dec.eqb, Dec.ltb}
 use Rattle.theory_loops.specs.Pick.{cond-holds, rung-holds}
 use Rattle.file_fields.specs.Block.{blockSize}
-use Rattle.file_blocks.specs.Form.{badLength}
-use Rattle.file_refusals.specs.declared.Refusal.{Refusal}
-use Rattle.file_refusals.specs.declared.Judged.{Judged}
+use Rattle.file_forms.specs.Form.{badLength}
+use Rattle.file_refusals.specs.declared.{Refusal.Refusal, Judged.Judged}
 use Rattle.file_refusals.specs.declared.Judged.the-variants.{Sound, Faulty}
 use Rattle.network.specs.declared.header.Header.{Header}
-use Rattle.network.specs.Network.{Network}
-use Rattle.network.specs.Town.{partitionOf}
+use Rattle.network.specs.{Network.Network, Town.partitionOf}
 use Rattle.file_refusals.specs.Refusal.{refusal}
 use Rattle.file_refusals.specs.Numbered.{Between, Numbered, numbered, same-faulty}
 use Rattle.plan.specs.declared.answer.Planning.{Planning}
 use Rattle.plan.specs.declared.answer.Planning.the-variants as planning
 use Rattle.plan.specs.declared.header.PlanHeader.{PlanHeader}
-use Rattle.plan.specs.Border.{borderCount}
-use Rattle.plan.specs.Plan.{Plan, pointStart}
-use Rattle.plan.specs.PlanLimits.{mostPlanBytes}
-use Rattle.plan.specs.PlanHeader.{planHeaderAt}
-use Rattle.plan.specs.PlanLayout.{planBlocks}
+use Rattle.plan.specs.{Border.borderCount, Plan.Plan, Plan.pointStart, PlanLimits.mostPlanBytes}
+use Rattle.plan.specs.{PlanHeader.planHeaderAt, PlanLayout.planBlocks, PlanValidate.planned}
 use Rattle.plan.specs.PlanDecode.{decodePlan, pointTotal}
 use Rattle.plan.specs.PlanRules.{judgedTicks, judgedSum, judgedCounts, judgedFlags, planJudged}
 use Rattle.plan.specs.PlanValidate.{firstUnformed, plannedRules, plannedForm}
 use Rattle.plan.specs.PlanValidate.{plannedLength, matching, plannedHeader, firstFormed, plannedFirst}
-use Rattle.plan.specs.PlanValidate.{planned}
 
 -- THE RULES 17 TO 19
 abbrev Judges : Judged → Type 0

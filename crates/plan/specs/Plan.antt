@@ -1,17 +1,12 @@
 -- What a plan is: a flag word for each arc, and for each border and each node a profile, the points of all
 -- profiles one behind the other. Profile number i × nodes + u is that of border number i and node u.
-use mathlib.Core.Bool.{Bool, cond}
-use mathlib.Core.List.{List}
+use mathlib.Core.{Bool.Bool, Bool.cond, List.List}
 use Prim.Native.Nat.{ℕ, _+_, _*_, _/_, _%_, _^_}
-use lib.ListN.{getD}
-use lib.Dec.{eqb}
+use lib.{ListN.getD, Dec.eqb}
 use Rattle.theory_loops.specs.Total.{total}
-use Rattle.theory_paths.specs.Graph.{Graph, Permit}
-use Rattle.theory_paths.specs.Partition.{Partition}
-use Rattle.theory_paths.specs.Flags.{flagged}
+use Rattle.theory_paths.specs.{Graph.Graph, Graph.Permit, Partition.Partition, Flags.flagged}
 use Rattle.theory_paths.specs.Profiles.{Travel, unreachable, ticks, Profile}
-use Rattle.theory_travel.specs.Day.{dayValue}
-use Rattle.theory_travel.specs.Table.{entryAt}
+use Rattle.theory_travel.specs.{Day.dayValue, Table.entryAt}
 use Rattle.plan.specs.Border.{borderIndex}
 
 pub record Plan : Type 0 where

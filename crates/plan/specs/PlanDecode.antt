@@ -1,25 +1,20 @@
 -- The plan that a file holds, field by field, and the laws by which code reads it in place.
 -- Every list of bytes decodes to some plan; what makes it a plan file is validation.
-use mathlib.Core.Path.{_≡_, refl, sym}
-use mathlib.Core.List.{List}
+use mathlib.Core.{Path._≡_, Path.refl, Path.sym, List.List}
 use Prim.Native.Nat.{ℕ, _*_, _^_, _≤_, _<_}
 use native.Mathlib.Omega.{arith}
-use lib.ListN.{length, getD}
-use lib.Dec.{lit<, lit≤}
+use lib.{ListN.length, ListN.getD, Dec.lit<, Dec.lit≤}
 use Rattle.theory_loops.specs.Fill.{tab, length-tab}
 use Rattle.file_fields.specs.Fields.{le16, le32, le64}
 use Rattle.file_blocks.specs.Kind.{flagPer, flagSize, countPer, countSize, profilePointPer, profilePointSize}
-use Rattle.file_blocks.specs.Table.{entry16, entry32, entry64, entry-is}
+use Rattle.file_blocks.specs.{Table.entry16, Table.entry32, Table.entry64, Table.entry-is, Laid.LaidOut}
 use Rattle.file_blocks.specs.Place.{RunInFile, EntryInFile, entry-stands}
-use Rattle.file_blocks.specs.Laid.{LaidOut}
 use Rattle.network.specs.Limits.{mostPeriod, mostNodes, mostArcs, mostCells}
-use Rattle.plan.specs.declared.header.PlanHeader.{PlanHeader}
-use Rattle.plan.specs.declared.header.PlanLayout.{PlanLayout}
+use Rattle.plan.specs.declared.header.{PlanHeader.PlanHeader, PlanLayout.PlanLayout}
 use Rattle.plan.specs.PlanLimits.{mostProfilePoints, mostProfiles, mostPlanBlocks}
-use Rattle.plan.specs.Plan.{Plan, pointCount}
+use Rattle.plan.specs.{Plan.Plan, Plan.pointCount, PlanLayout.plan-few}
 use Rattle.plan.specs.PlanHeader.{planHeaderAt, PlanWithin, profiles-few}
 use Rattle.plan.specs.PlanLayout.{profileCount, countBlock, planPointBlock, planBlocks, planLayoutOf}
-use Rattle.plan.specs.PlanLayout.{plan-few}
 
 -- the plan of the tables where a header says that they stand
 abbrev pub decodePlanBy : PlanHeader → List ℕ → Plan

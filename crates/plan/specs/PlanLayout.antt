@@ -2,12 +2,9 @@
 -- 6), the counts of the profiles' points (kind 7) and the points (kind 8), each a run of blocks of its own.
 use Prim.Native.Nat.{ℕ, _+_, _*_, _≤_}
 use native.Mathlib.Omega.{arith}
-use Rattle.file_blocks.specs.Kind.{flagPer, countPer, profilePointPer}
-use Rattle.file_blocks.specs.Place.{blocks}
-use Rattle.plan.specs.declared.header.PlanHeader.{PlanHeader}
-use Rattle.plan.specs.declared.header.PlanLayout.{PlanLayout}
-use Rattle.plan.specs.PlanLimits.{mostPlanBlocks}
-use Rattle.plan.specs.PlanHeader.{PlanWithin, profiles-few}
+use Rattle.file_blocks.specs.{Kind.flagPer, Kind.countPer, Kind.profilePointPer, Place.blocks}
+use Rattle.plan.specs.declared.header.{PlanHeader.PlanHeader, PlanLayout.PlanLayout}
+use Rattle.plan.specs.{PlanLimits.mostPlanBlocks, PlanHeader.PlanWithin, PlanHeader.profiles-few}
 
 -- a profile for each border and each node
 abbrev pub profileCount : PlanHeader → ℕ

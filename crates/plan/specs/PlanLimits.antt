@@ -3,8 +3,7 @@
 use mathlib.Core.Path.{_≡_, refl}
 use Prim.Native.Nat.{ℕ, _+_, _*_}
 use Rattle.file_fields.specs.Block.{blockSize}
-use Rattle.file_blocks.specs.Kind.{flagPer, countPer, profilePointPer}
-use Rattle.file_blocks.specs.Place.{blocks}
+use Rattle.file_blocks.specs.{Kind.flagPer, Kind.countPer, Kind.profilePointPer, Place.blocks}
 use Rattle.network.specs.Limits.{mostNodes, mostArcs}
 
 -- the points of all profiles

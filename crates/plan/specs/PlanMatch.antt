@@ -1,8 +1,7 @@
 -- Refusal 14: a plan's header has the numbers of a network. What the test says, number by number, and that
 -- the rules judge by the header as they do by the network.
-use mathlib.Core.Path.{_≡_, sym, _∙_, ap}
+use mathlib.Core.{Path._≡_, Path.sym, Path._∙_, Path.ap, List.List, List.[], List._∷_, List._++_}
 use mathlib.Core.Bool.{Bool, true, false, and-eq-true-iff}
-use mathlib.Core.List.{List, [], _∷_, _++_}
 use Prim.Native.Nat.{ℕ, zero, suc, _≤_}
 use native.Mathlib.Omega.{arith}
 use lib.ListN.{length, length-append}
@@ -10,19 +9,14 @@ use borrow.Author.Tests.{eqb-true, leb-true, eq-eqb, le-leb}
 use Rattle.theory_loops.specs.Select.{select}
 use Rattle.theory_paths.specs.Partition.{Partition}
 use Rattle.network.specs.declared.header.Header.{Header}
-use Rattle.network.specs.Limits.{WithinLimits}
-use Rattle.network.specs.Layout.{layoutOf}
-use Rattle.network.specs.Network.{Network, nodes, arcs}
-use Rattle.network.specs.Decode.{decode, laid-sizes}
-use Rattle.network.specs.Valid.{ValidFile, valid-laid}
+use Rattle.network.specs.{Limits.WithinLimits, Layout.layoutOf, Network.Network, Network.nodes, Network.arcs}
+use Rattle.network.specs.{Decode.decode, Decode.laid-sizes, Valid.ValidFile, Valid.valid-laid}
 use Rattle.network.specs.Town.{partitionOf}
 use Rattle.plan.specs.declared.answer.Planning.{Planning}
 use Rattle.plan.specs.declared.header.PlanHeader.{PlanHeader}
-use Rattle.plan.specs.PlanLimits.{mostProfilePoints}
+use Rattle.plan.specs.{PlanLimits.mostProfilePoints, Plan.Plan, PlanDecode.decodePlan}
 use Rattle.plan.specs.Border.{isBorder, borders, borderCount}
-use Rattle.plan.specs.Plan.{Plan}
 use Rattle.plan.specs.PlanHeader.{planHeaderAt, PlanWithin}
-use Rattle.plan.specs.PlanDecode.{decodePlan}
 use Rattle.plan.specs.PlanRules.{judgedBy, planJudged}
 use Rattle.plan.specs.PlanValidate.{unplanned, matching, plannedLength, plannedHeader}
 

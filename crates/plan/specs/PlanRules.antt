@@ -1,29 +1,20 @@
 -- The rules 17 to 19 that a plan's tables keep, as tests and as one ladder: the lowest number that fails
 -- anywhere, then its lowest place. Points are numbered through all profiles, so the lowest point is the
 -- lowest of the first profile that has one.
-use mathlib.Core.Path.{_≡_, sym}
-use mathlib.Core.Bool.{Bool, false, cond, not}
+use mathlib.Core.{Path._≡_, Path.sym, Bool.Bool, Bool.false, Bool.cond, Bool.not}
 use Prim.Native.Nat.{ℕ, _+_, _*_, _/_, _^_, _≤_, _<_}
-use native.Mathlib.Nat.{div-eq-of-lt, le-div-iff-mul-le}
-use native.Mathlib.Decide.{decLt}
-use native.Mathlib.Omega.{arith}
-use lib.Pow.{pow-pos}
-use lib.Dec.{leb, ltb, eqb}
+use native.Mathlib.{Nat.div-eq-of-lt, Nat.le-div-iff-mul-le, Decide.decLt, Omega.arith}
+use lib.{Pow.pow-pos, Dec.leb, Dec.ltb, Dec.eqb}
 use borrow.Author.Tests.{lt-leb, le-leb, ne-eqb}
-use Rattle.theory_loops.specs.First.{first, any}
-use Rattle.theory_loops.specs.Pick.{firstRung}
+use Rattle.theory_loops.specs.{First.first, First.any, Pick.firstRung}
 use Rattle.theory_travel.specs.Ticks.{badTick}
-use Rattle.network.specs.Network.{Network, nodes, arcs}
-use Rattle.network.specs.Town.{partitionOf}
+use Rattle.network.specs.{Network.Network, Network.nodes, Network.arcs, Town.partitionOf, Limits.mostCells}
 use Rattle.file_refusals.specs.Refusal.{faulty}
 use Rattle.file_refusals.specs.declared.Judged.{Judged}
 use Rattle.file_refusals.specs.declared.Judged.the-variants.{Sound}
-use Rattle.network.specs.Limits.{mostCells}
 use Rattle.plan.specs.declared.header.PlanHeader.{PlanHeader}
-use Rattle.plan.specs.Border.{borderCount}
-use Rattle.plan.specs.Plan.{Plan, pointCount, pointStart, pointTicks}
-use Rattle.plan.specs.PlanLayout.{profileCount}
-use Rattle.plan.specs.PlanDecode.{flagWord, pointTotal}
+use Rattle.plan.specs.{Border.borderCount, Plan.Plan, Plan.pointCount, Plan.pointStart, Plan.pointTicks}
+use Rattle.plan.specs.{PlanLayout.profileCount, PlanDecode.flagWord, PlanDecode.pointTotal}
 
 -- 17: a flag at the count of cells or above
 abbrev pub badFlags : ℕ → Plan → ℕ → Bool

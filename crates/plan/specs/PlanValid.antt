@@ -1,43 +1,32 @@
 -- What a plan file that validation lets pass is, block by block and rule by rule: `ValidPlan`, and that this
 -- is exactly what is let pass (`plan-exactly`). Nothing of the file is left out: its length, every sum, every
 -- block's form, the header and the tables.
-use mathlib.Core.Path.{_≡_, refl, _∙_, ap, subst}
-use mathlib.Core.Logic.{_↔_}
+use mathlib.Core.{Path._≡_, Path.refl, Path._∙_, Path.ap, Path.subst, Logic._↔_, List.List}
 use mathlib.Core.Bool.{true, false, not, and-eq-true-iff}
-use mathlib.Core.List.{List}
 use Prim.Native.Nat.{ℕ, _+_, _*_, _/_, _≤_, _<_}
 use native.Mathlib.Omega.{arith}
-use lib.ListN.{length}
-use lib.Dec.{ltb, eqb}
+use lib.{ListN.length, Dec.ltb, Dec.eqb}
 use borrow.Author.Tests.{ltb-false, eqb-true, not-false, le-ltb, eq-eqb}
 use Rattle.theory_loops.specs.Pick.{firstRung, passed-by, reached-by, rung-passed, rung-clear}
-use Rattle.file_fields.specs.Fields.{le16}
+use Rattle.file_fields.specs.{Fields.le16, Sum.good, Block.blockSize}
 use Rattle.file_blocks.specs.Laid.{laid-by}
-use Rattle.file_fields.specs.Sum.{good}
-use Rattle.file_fields.specs.Block.{blockSize}
+use Rattle.file_forms.specs.Read.{bad}
 use Rattle.file_blocks.specs.Kind.{flagKind, flagPer, flagSize, countKind, countPer, countSize}
 use Rattle.file_blocks.specs.Kind.{profilePointKind, profilePointPer, profilePointSize, planKind, planSize}
-use Rattle.file_blocks.specs.Form.{formed, RunFormed, badLength, formed-past, past-formed, fine-length}
-use Rattle.file_blocks.specs.Read.{bad}
+use Rattle.file_forms.specs.Form.{formed, RunFormed, badLength, formed-past, past-formed, fine-length}
 use Rattle.file_refusals.specs.declared.Judged.{Judged}
 use Rattle.file_refusals.specs.declared.Judged.the-variants.{Sound, Faulty}
 use Rattle.network.specs.declared.header.Header.{Header}
-use Rattle.network.specs.Network.{Network, nodes, arcs}
-use Rattle.network.specs.Town.{partitionOf}
-use Rattle.network.specs.Decode.{decode}
+use Rattle.network.specs.{Network.Network, Network.nodes, Network.arcs, Town.partitionOf, Decode.decode}
 use Rattle.network.specs.Valid.{ValidFile, within-file}
 use Rattle.plan.specs.declared.answer.Planning.the-variants as planning
-use Rattle.plan.specs.declared.header.PlanHeader.{PlanHeader}
-use Rattle.plan.specs.declared.header.PlanLayout.{PlanLayout}
-use Rattle.plan.specs.PlanLimits.{mostPlanBytes}
-use Rattle.plan.specs.Border.{borderCount}
-use Rattle.plan.specs.PlanHeader.{planHeaderAt, PlanWithin}
+use Rattle.plan.specs.declared.header.{PlanHeader.PlanHeader, PlanLayout.PlanLayout}
+use Rattle.plan.specs.{PlanLimits.mostPlanBytes, Border.borderCount, PlanLayout.plan-few}
+use Rattle.plan.specs.{PlanHeader.planHeaderAt, PlanHeader.PlanWithin, PlanValidate.unplanned}
 use Rattle.plan.specs.PlanLayout.{profileCount, countBlock, planPointBlock, planBlocks, planLayoutOf}
-use Rattle.plan.specs.PlanLayout.{plan-few}
 use Rattle.plan.specs.PlanDecode.{decodePlan, PlanLaid}
 use Rattle.plan.specs.PlanRules.{profiles, planJudged}
 use Rattle.plan.specs.WellFormed.{WellFormed, well-formed-exactly}
-use Rattle.plan.specs.PlanValidate.{unplanned}
 use Rattle.plan.specs.PlanValidate.{firstUnformed, plannedRules, plannedForm, plannedLength, matching}
 use Rattle.plan.specs.PlanValidate.{plannedHeader, firstFormed, plannedFirst, planned}
 use Rattle.plan.specs.PlanMatch.{Matches, matching-matches, matches-matching, matches-within}

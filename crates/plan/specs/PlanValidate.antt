@@ -1,42 +1,32 @@
 -- Validation of a plan file against a network, refusals 11 to 19 in the order of document 01: the length,
 -- every block's check, the first block's form, the header's numbers, the length again, the later blocks'
 -- forms, and the rules of the tables. Every whole block is summed before the header is looked at.
-use mathlib.Core.Path.{_≡_, sym, _∙_, ap}
+use mathlib.Core.{Path._≡_, Path.sym, Path._∙_, Path.ap, List.List}
 use mathlib.Core.Bool.{Bool, true, false, cond, _&&_}
-use mathlib.Core.List.{List}
 use Prim.Native.Nat.{ℕ, _+_, _*_, _/_, _≤_, _<_}
 use native.Mathlib.Omega.{arith}
-use lib.ListN.{length}
-use lib.Dec.{leb, ltb, eqb}
+use lib.{ListN.length, Dec.leb, Dec.ltb, Dec.eqb}
 use borrow.Author.Tests.{lt-ltb, le-ltb, eq-eqb, ne-eqb}
 use Rattle.theory_loops.specs.Pick.{firstRung}
-use Rattle.file_fields.specs.Fields.{le16}
-use Rattle.file_fields.specs.Block.{blockSize}
+use Rattle.file_fields.specs.{Fields.le16, Block.blockSize}
 use Rattle.file_blocks.specs.Kind.{flagKind, flagPer, flagSize, countKind, countPer, countSize}
 use Rattle.file_blocks.specs.Kind.{profilePointKind, profilePointPer, profilePointSize, planKind, planSize}
-use Rattle.file_blocks.specs.Place.{blocks}
-use Rattle.file_blocks.specs.Laid.{laid-by}
-use Rattle.file_blocks.specs.Form.{formed, unformedOr, badLength, run-taken, run-passed, run-last}
-use Rattle.file_blocks.specs.Read.{bad}
-use Rattle.file_refusals.specs.declared.Refusal.{Refusal}
-use Rattle.file_refusals.specs.declared.Judged.{Judged}
+use Rattle.file_blocks.specs.{Place.blocks, Laid.laid-by}
+use Rattle.file_forms.specs.Read.{bad}
+use Rattle.file_forms.specs.Form.{formed, unformedOr, badLength, run-taken, run-passed, run-last}
+use Rattle.file_refusals.specs.declared.{Refusal.Refusal, Judged.Judged}
 use Rattle.file_refusals.specs.declared.Judged.the-variants.{Sound, Faulty}
 use Rattle.network.specs.declared.header.Header.{Header}
-use Rattle.network.specs.Network.{Network, nodes, arcs}
-use Rattle.network.specs.Town.{partitionOf}
+use Rattle.network.specs.{Network.Network, Network.nodes, Network.arcs, Town.partitionOf}
 use Rattle.file_refusals.specs.Refusal.{refusal}
 use Rattle.plan.specs.declared.answer.Planning.{Planning}
 use Rattle.plan.specs.declared.answer.Planning.the-variants.{WellFormed, Refused}
-use Rattle.plan.specs.declared.header.PlanHeader.{PlanHeader}
-use Rattle.plan.specs.declared.header.PlanLayout.{PlanLayout}
+use Rattle.plan.specs.declared.header.{PlanHeader.PlanHeader, PlanLayout.PlanLayout}
 use Rattle.plan.specs.PlanLimits.{mostProfilePoints, mostPlanBlocks, mostPlanBytes}
-use Rattle.plan.specs.Border.{borderCount}
-use Rattle.plan.specs.Plan.{Plan}
-use Rattle.plan.specs.PlanHeader.{planHeaderAt, PlanWithin}
+use Rattle.plan.specs.{Border.borderCount, Plan.Plan, PlanHeader.planHeaderAt, PlanHeader.PlanWithin}
 use Rattle.plan.specs.PlanLayout.{profileCount, countBlock, planPointBlock, planBlocks, planLayoutOf}
-use Rattle.plan.specs.PlanLayout.{plan-few}
+use Rattle.plan.specs.{PlanLayout.plan-few, PlanDecode.counts-stored, PlanDecode.points-stored}
 use Rattle.plan.specs.PlanDecode.{decodePlan, PlanLaid, laid-plan, flags-stored}
-use Rattle.plan.specs.PlanDecode.{counts-stored, points-stored}
 use Rattle.plan.specs.PlanRules.{judgedFlags, judgedBy, planJudged}
 
 abbrev pub unplanned : ℕ → ℕ → Planning

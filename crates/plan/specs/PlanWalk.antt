@@ -1,13 +1,10 @@
 -- Walks over the counts and over the points of a plan file, in their order: what a walk rests on before count
 -- k and before point q, that what code reads there is the plan's, and where it then stands.
-use mathlib.Core.Path.{_≡_, _∙_, ap}
-use mathlib.Core.List.{List}
+use mathlib.Core.{Path._≡_, Path._∙_, Path.ap, List.List}
 use Prim.Native.Nat.{ℕ, _+_, _*_, _/_, _^_, _≤_, _<_}
 use native.Mathlib.Omega.{arith}
-use lib.ListN.{length}
-use lib.Dec.{lit<, lit≤}
-use Rattle.file_fields.specs.Block.{blockSize, entriesSize}
-use Rattle.file_fields.specs.Fields.{le16, le32}
+use lib.{ListN.length, Dec.lit<, Dec.lit≤}
+use Rattle.file_fields.specs.{Block.blockSize, Block.entriesSize, Fields.le16, Fields.le32}
 use Rattle.file_blocks.specs.Kind.{countPer, countSize, profilePointPer, profilePointSize}
 use Rattle.file_blocks.specs.declared.walk.Walk.{Walk}
 use Rattle.file_blocks.specs.Walk.{walkAt, stepped, walk-next, walk-there, walk-entry, walk-may, walk-on}

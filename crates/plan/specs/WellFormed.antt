@@ -1,15 +1,12 @@
 -- What the rules 17 to 19 ask of a plan for a network, said of its arcs and profiles (`WellFormed`). The
 -- ladder of tests judges a plan sound exactly when this holds (`well-formed-exactly`).
-use mathlib.Core.Path.{_≡_, _∙_}
-use mathlib.Core.Logic.{_↔_}
-use mathlib.Core.Bool.{false}
+use mathlib.Core.{Path._≡_, Path._∙_, Logic._↔_, Bool.false}
 use Prim.Native.Nat.{ℕ, _^_, _≤_, _<_}
 use native.Mathlib.Omega.{arith}
 use borrow.Author.Tests.{ltb-false, leb-false, eqb-true, lt-leb, le-ltb, eq-eqb}
 use Rattle.theory_loops.specs.First.{first, first-le, clear, all-clear}
 use Rattle.theory_loops.specs.Pick.{reached-by, rung-passed, rung-clear}
-use Rattle.theory_travel.specs.Day.{Day}
-use Rattle.theory_travel.specs.Ticks.{badTick, ticks-day}
+use Rattle.theory_travel.specs.{Day.Day, Ticks.badTick, Ticks.ticks-day}
 use Rattle.network.specs.Network.{Network, arcs}
 use Rattle.file_refusals.specs.Refusal.{faulty}
 use Rattle.file_refusals.specs.declared.Judged.the-variants.{Sound}

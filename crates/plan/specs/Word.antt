@@ -1,12 +1,10 @@
 -- A flag word from a yes or no for each cell, and that it is the only word below 2 to the count of cells with
 -- these flags; what one flag more makes of a word (`word-set`).
-use mathlib.Core.Path.{_≡_, refl, sym, _∙_}
-use mathlib.Core.Logic.{_≢_}
+use mathlib.Core.{Path._≡_, Path.refl, Path.sym, Path._∙_, Logic._≢_}
 use mathlib.Core.Bool.{Bool, true, false, cond, _||_}
 use Prim.Native.Nat.{ℕ, zero, suc, _+_, _*_, _/_, _%_, _^_, _<_}
 use native.Mathlib.Nat.{pow-suc, pow-succ', pow-zero, mul-add-div, mul-add-mod-self-left, div-div-eq-div-mul}
-use native.Mathlib.Nat.{div-lt-iff-lt-mul, div-one, div-add-mod, mod-lt}
-use native.Mathlib.Omega.{arith}
+use native.Mathlib.{Nat.div-lt-iff-lt-mul, Nat.div-one, Nat.div-add-mod, Nat.mod-lt, Omega.arith}
 use lib.Dec.{eqb}
 use borrow.Author.Tests.{eqb-true, eqb-false, eq-eqb, ne-eqb}
 use Rattle.plan.specs.Plan.{bit}

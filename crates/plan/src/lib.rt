@@ -6,8 +6,8 @@
 //   read      the entries of a plan file, in place
 //   borders   the borders of a network, listed
 //   answer    what validation answers
-// It may call `file_fields`, `file_blocks`, `file_refusals` and `network`, and cites `theory_loops`,
-// `theory_paths` and `theory_travel`. Both files are read in place.
+// It may call `file_fields`, `file_blocks`, `file_refusals` and `network`, and cites `file_forms`,
+// `theory_loops`, `theory_paths` and `theory_travel`. Both files are read in place.
 pub mod answer;
 pub mod borders;
 pub mod flag;

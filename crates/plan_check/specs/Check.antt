@@ -1,14 +1,12 @@
 -- The check of a plan against a graph with cells: the lowest of 20 to 24 that fails anywhere, then its first
 -- place. From 21 on the places are the border's number, the node and the tick.
 use Prim.Native.Nat.{ℕ}
-use Rattle.theory_loops.specs.Pick.{firstRung}
-use Rattle.theory_loops.specs.Triple.{firstTripleRung}
+use Rattle.theory_loops.specs.{Pick.firstRung, Triple.firstTripleRung}
 use Rattle.theory_paths.specs.Partition.{Partition}
 use Rattle.file_refusals.specs.Refusal.{refusal}
 use Rattle.plan_check.specs.declared.answer.Checking.{Checking}
 use Rattle.plan_check.specs.declared.answer.Checking.the-variants.{Accepted, Refused}
-use Rattle.plan.specs.Border.{borderCount}
-use Rattle.plan.specs.Plan.{Plan}
+use Rattle.plan.specs.{Border.borderCount, Plan.Plan}
 use Rattle.plan_tests.specs.Tests.{fails20, fails}
 
 -- a refusal at a border number, a node and a tick

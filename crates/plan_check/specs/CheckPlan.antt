@@ -1,20 +1,14 @@
 -- The check of a plan file against a network file: 1 to 10 with 37, 11 to 19, then 20 to 24. It accepts
 -- exactly the plans whose profiles are the true least travels and whose flags are enough (`accepts-exactly`),
 -- for every network that opens and every plan that is well-formed for it.
-use mathlib.Core.Path.{_≡_, refl, sym, _∙_}
-use mathlib.Core.Logic.{_↔_}
-use mathlib.Core.List.{List}
+use mathlib.Core.{Path._≡_, Path.refl, Path.sym, Path._∙_, Logic._↔_, List.List}
 use Prim.Native.Nat.{ℕ}
 use native.Mathlib.Omega.{arith}
-use Rattle.theory_paths.specs.Graph.{Lawful}
-use Rattle.theory_paths.specs.Partition.{Partition}
-use Rattle.theory_paths.specs.Flags.{TrueProfiles, EnoughFlags}
+use Rattle.theory_paths.specs.{Graph.Lawful, Partition.Partition, Flags.TrueProfiles, Flags.EnoughFlags}
 use Rattle.network.specs.declared.answer.Opening.{Opening}
 use Rattle.network.specs.declared.answer.Opening.the-variants as opening
 use Rattle.network.specs.declared.header.Header.{Header}
-use Rattle.network.specs.Network.{cell}
-use Rattle.network.specs.Decode.{decode}
-use Rattle.network.specs.Validate.{validated}
+use Rattle.network.specs.{Network.cell, Decode.decode, Validate.validated}
 use Rattle.network.specs.Valid.{ValidFile, valid-exactly}
 use Rattle.network.specs.Town.{graphOf, partitionOf, town-lawful}
 use Rattle.plan.specs.declared.answer.Planning.{Planning}
@@ -22,13 +16,9 @@ use Rattle.plan.specs.declared.answer.Planning.the-variants as planning
 use Rattle.plan_check.specs.declared.answer.Checking.{Checking}
 use Rattle.plan_check.specs.declared.answer.Checking.the-variants.{Accepted, Refused}
 use Rattle.plan.specs.declared.header.PlanHeader.{PlanHeader}
-use Rattle.plan.specs.Plan.{Plan, flag, profileTo}
-use Rattle.plan.specs.PlanDecode.{decodePlan}
-use Rattle.plan.specs.PlanValidate.{planned}
-use Rattle.plan.specs.PlanMatch.{valid-headed}
-use Rattle.plan.specs.PlanValid.{ValidPlan, plan-exactly}
-use Rattle.plan_check.specs.Check.{checked}
-use Rattle.plan_check.specs.Exact.{check-exact}
+use Rattle.plan.specs.{Plan.Plan, Plan.flag, Plan.profileTo, PlanDecode.decodePlan, PlanValidate.planned}
+use Rattle.plan.specs.{PlanMatch.valid-headed, PlanValid.ValidPlan, PlanValid.plan-exactly}
+use Rattle.plan_check.specs.{Check.checked, Exact.check-exact}
 
 -- the tests, where the plan is well-formed
 abbrev pub checkedBy : Partition → Plan → Planning → Checking

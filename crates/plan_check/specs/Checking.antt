@@ -1,19 +1,14 @@
 -- From validation to the tests: what a network that opens and a plan that is well-formed for it give the
 -- check, and the laws by which its code goes on from stage to stage.
-use mathlib.Core.Path.{_≡_, sym, _∙_}
-use mathlib.Core.List.{List}
+use mathlib.Core.{Path._≡_, Path.sym, Path._∙_, List.List}
 use Prim.Native.Nat.{ℕ}
 use Rattle.theory_paths.specs.Partition.{Partition}
 use Rattle.file_refusals.specs.declared.Refusal.{Refusal}
 use Rattle.network.specs.declared.answer.Opening.{Opening}
 use Rattle.network.specs.declared.answer.Opening.the-variants as opening
-use Rattle.network.specs.declared.header.Header.{Header}
-use Rattle.network.specs.declared.header.Layout.{Layout}
-use Rattle.network.specs.Layout.{layoutOf}
-use Rattle.network.specs.Decode.{decode, Laid, laid-sizes}
-use Rattle.network.specs.Town.{partitionOf}
-use Rattle.network.specs.Sound.{SoundNetwork}
-use Rattle.network.specs.Validate.{validated}
+use Rattle.network.specs.declared.header.{Header.Header, Layout.Layout}
+use Rattle.network.specs.{Layout.layoutOf, Decode.decode, Decode.Laid, Decode.laid-sizes, Town.partitionOf}
+use Rattle.network.specs.{Sound.SoundNetwork, Validate.validated}
 use Rattle.network.specs.Valid.{ValidFile, valid-laid, valid-exactly}
 use Rattle.search_chains.specs.Town.{town-of}
 use Rattle.plan.specs.declared.answer.Planning.{Planning}
@@ -22,15 +17,10 @@ use Rattle.plan_check.specs.declared.answer.Checking.{Checking}
 use Rattle.plan_check.specs.declared.answer.Checking.the-variants.{Refused}
 use Rattle.plan.specs.declared.header.PlanHeader.{PlanHeader}
 use Rattle.plan_tests.specs.declared.tests.Layouts.{Layouts}
-use Rattle.plan.specs.Borders.{listed-front}
-use Rattle.plan.specs.Plan.{Plan}
-use Rattle.plan.specs.PlanLayout.{planLayoutOf}
-use Rattle.plan.specs.PlanHeader.{PlanWithin}
-use Rattle.plan.specs.PlanDecode.{decodePlan, plan-sizes}
-use Rattle.plan.specs.PlanValidate.{planned}
+use Rattle.plan.specs.{Borders.listed-front, Plan.Plan, PlanLayout.planLayoutOf, PlanHeader.PlanWithin}
+use Rattle.plan.specs.{PlanDecode.decodePlan, PlanDecode.plan-sizes, PlanValidate.planned}
 use Rattle.plan.specs.PlanValid.{ValidPlan, valid-within, valid-plan-laid, valid-for, plan-exactly}
-use Rattle.plan_check.specs.Check.{checked}
-use Rattle.plan_check.specs.CheckPlan.{checkedBy, checking}
+use Rattle.plan_check.specs.{Check.checked, CheckPlan.checkedBy, CheckPlan.checking}
 use Rattle.plan_tests.specs.Checkable.{Checkable}
 use Rattle.plan_values.specs.Formed.{formed-of}
 

@@ -1,22 +1,18 @@
 -- The check is exact: it accepts a plan exactly where the profiles are the true least travels and the flags
 -- are enough (`check-exact`), whatever the plan. Acceptance is that no test fails anywhere (`accepted-none`),
 -- and that is what the theory of profiles and flags asks (`accepted-checked`).
-use mathlib.Core.Path.{_≡_, _∙_}
-use mathlib.Core.Logic.{_↔_, Iff·trans}
-use mathlib.Core.Bool.{false}
+use mathlib.Core.{Path._≡_, Path._∙_, Logic._↔_, Logic.Iff·trans, Bool.false}
 use Prim.Native.Nat.{ℕ, _<_}
 use native.Mathlib.Omega.{arith}
 use Rattle.theory_loops.specs.Pick.{passed-by, rung-passed, rung-clear}
 use Rattle.theory_loops.specs.Triple.{firstTripleRung, triple-clear}
-use Rattle.theory_paths.specs.Graph.{Lawful}
+use Rattle.theory_paths.specs.{Graph.Lawful, Partition.Partition}
 use Rattle.theory_paths.specs.Flags.{EnoughFlags, TrueProfiles, Checked, checked-exact}
-use Rattle.theory_paths.specs.Partition.{Partition}
 use Rattle.file_refusals.specs.Refusal.{refusal}
 use Rattle.file_refusals.specs.declared.Refusal.{Refusal}
 use Rattle.plan_check.specs.declared.answer.Checking.{Checking}
 use Rattle.plan_check.specs.declared.answer.Checking.the-variants.{Accepted, Refused}
-use Rattle.plan.specs.Border.{borderCount}
-use Rattle.plan.specs.Plan.{Plan, flag, profileTo}
+use Rattle.plan.specs.{Border.borderCount, Plan.Plan, Plan.flag, Plan.profileTo}
 use Rattle.plan_tests.specs.Tests.{fails20, fails}
 use Rattle.plan_check.specs.Check.{tripleRung, checked}
 use Rattle.plan_tests.specs.Meaning.{Nowhere, inside-exactly, local-exactly, flags-exactly}

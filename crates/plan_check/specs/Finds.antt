@@ -2,19 +2,13 @@
 -- allows for ONE of the tests 21 to 24, since one pass serves all of them; and on acceptance no fewer than
 -- all profiles have points. How many are allowed is said in plan_tests/specs/Finds.antt, where a find is
 -- too.
-use mathlib.Core.Path.{_≡_, sym, _∙_}
-use mathlib.Core.List.{List}
+use mathlib.Core.{Path._≡_, Path.sym, Path._∙_, List.List}
 use Prim.Native.Nat.{ℕ, _*_, _^_, _≤_, _<_}
 use native.Mathlib.Omega.{arith}
-use Rattle.theory_loops.specs.Total.{total}
-use Rattle.theory_loops.specs.Sums.{total-zero}
+use Rattle.theory_loops.specs.{Total.total, Sums.total-zero}
 use Rattle.file_refusals.specs.declared.Refusal.{Refusal}
-use Rattle.network.specs.Network.{nodes}
-use Rattle.network.specs.Decode.{decode}
-use Rattle.network.specs.Town.{partitionOf}
-use Rattle.plan.specs.Border.{borderCount}
-use Rattle.plan.specs.Plan.{pointCount}
-use Rattle.plan.specs.PlanDecode.{decodePlan}
+use Rattle.network.specs.{Network.nodes, Decode.decode, Town.partitionOf}
+use Rattle.plan.specs.{Border.borderCount, Plan.pointCount, PlanDecode.decodePlan}
 use Rattle.plan_tests.specs.Finds.{allowed}
 use Rattle.plan_check.specs.declared.answer.Checking.{Checking}
 use Rattle.plan_check.specs.declared.answer.Checking.the-variants.{Accepted, Refused}

@@ -1,16 +1,11 @@
 -- The ladder of the check, from the first arc at which 20 fails to the tests 21 to 24, and what judging the
 -- borders rests on, once the tables are filled.
-use mathlib.Core.Path.{_≡_, refl, _∙_, ap}
-use mathlib.Core.List.{List}
+use mathlib.Core.{Path._≡_, Path.refl, Path._∙_, Path.ap, List.List}
 use Prim.Native.Nat.{ℕ, _≤_, _<_}
 use native.Mathlib.Omega.{arith}
-use Rattle.theory_loops.specs.First.{first}
-use Rattle.theory_loops.specs.Fill.{Filled}
-use Rattle.theory_loops.specs.Pick.{firstRung, at-first, past-first}
+use Rattle.theory_loops.specs.{First.first, Fill.Filled, Pick.firstRung, Pick.at-first, Pick.past-first}
 use Rattle.theory_paths.specs.Partition.{Partition}
-use Rattle.network.specs.Network.{arcs, start}
-use Rattle.network.specs.Decode.{decode}
-use Rattle.network.specs.Town.{partitionOf}
+use Rattle.network.specs.{Network.arcs, Network.start, Decode.decode, Town.partitionOf}
 use Rattle.file_refusals.specs.Refusal.{refusal}
 use Rattle.file_refusals.specs.declared.Refusal.{Refusal}
 use Rattle.search_chains.specs.Chain.{endOf, Chained}
@@ -18,14 +13,10 @@ use Rattle.search_chains.specs.declared.chain.End.the-variants.{Tail}
 use Rattle.plan_check.specs.declared.answer.Checking.{Checking}
 use Rattle.plan_check.specs.declared.answer.Checking.the-variants.{Refused}
 use Rattle.plan_tests.specs.declared.tests.Layouts.{Layouts}
-use Rattle.plan.specs.Border.{Listed}
-use Rattle.plan.specs.Plan.{Plan}
-use Rattle.plan.specs.PlanDecode.{decodePlan}
-use Rattle.plan_tests.specs.Tests.{fails20}
-use Rattle.plan_check.specs.Check.{checked}
-use Rattle.plan_check.specs.Verdict.{triplesFrom}
+use Rattle.plan.specs.{Border.Listed, Plan.Plan, PlanDecode.decodePlan}
+use Rattle.plan_tests.specs.{Tests.fails20, Checkable.Checkable}
+use Rattle.plan_check.specs.{Check.checked, Verdict.triplesFrom}
 use Rattle.plan_judge.specs.Finding.{Equipped}
-use Rattle.plan_tests.specs.Checkable.{Checkable}
 
 -- the whole ladder: v is the first arc at which 20 fails
 checked-from : (G : Partition) (p : Plan)

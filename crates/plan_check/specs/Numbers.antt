@@ -1,29 +1,21 @@
 -- The numbers of refusals: those of the tests lie between 20 and 24, and those of the check are 1 to 24 and
 -- 37.
-use mathlib.Core.Path.{_≡_, refl}
-use mathlib.Core.Logic.{_⊎_, inl, inr, ⊎-elim}
-use mathlib.Core.List.{List}
+use mathlib.Core.{Path._≡_, Path.refl, Logic._⊎_, Logic.inl, Logic.inr, Logic.⊎-elim, List.List}
 use Prim.Native.Nat.{ℕ, _≤_}
 use native.Mathlib.Omega.{arith}
-use Rattle.theory_loops.specs.Pick.{cond-holds, rung-holds}
-use Rattle.theory_loops.specs.Triple.{firstTripleRung, anyTriple}
+use Rattle.theory_loops.specs.{Pick.cond-holds, Pick.rung-holds, Triple.firstTripleRung, Triple.anyTriple}
 use Rattle.file_refusals.specs.declared.Refusal.{Refusal}
 use Rattle.network.specs.declared.answer.Opening.{Opening}
 use Rattle.network.specs.declared.answer.Opening.the-variants as opening
 use Rattle.theory_paths.specs.Partition.{Partition}
-use Rattle.network.specs.Decode.{decode}
-use Rattle.network.specs.Town.{partitionOf}
-use Rattle.network.specs.Validate.{validated}
+use Rattle.network.specs.{Decode.decode, Town.partitionOf, Validate.validated}
 use Rattle.file_refusals.specs.Numbered.{Between, Numbered, numbered}
 use Rattle.network.specs.Numbers.{NetworkNumber, validated-numbers}
 use Rattle.plan.specs.declared.answer.Planning.{Planning}
 use Rattle.plan.specs.declared.answer.Planning.the-variants as planning
-use Rattle.plan.specs.Numbers.{planned-numbers}
+use Rattle.plan.specs.{Numbers.planned-numbers, Border.borderCount, Plan.Plan, PlanDecode.decodePlan}
 use Rattle.plan_check.specs.declared.answer.Checking.{Checking}
 use Rattle.plan_check.specs.declared.answer.Checking.the-variants as checking
-use Rattle.plan.specs.Border.{borderCount}
-use Rattle.plan.specs.Plan.{Plan}
-use Rattle.plan.specs.PlanDecode.{decodePlan}
 use Rattle.plan_tests.specs.Tests.{fails}
 use Rattle.plan_check.specs.Check.{tripleRung, checked}
 use Rattle.plan_check.specs.CheckPlan.{checkedBy, checkedOver, checking as checkingOf}

@@ -1,36 +1,23 @@
 -- The verdict by what judging the borders has found, and the finds that go with it: the ladder of the tests
 -- 21 to 24 (`stands-verdict`), and document 02's bounds (`finds-told`).
-use mathlib.Core.Path.{_≡_, refl, sym, _∙_, ap}
-use mathlib.Core.Logic.{inl, inr}
+use mathlib.Core.{Path._≡_, Path.refl, Path.sym, Path._∙_, Path.ap, Logic.inl, Logic.inr, List.List}
 use mathlib.Core.Bool.{Bool, true, false, cond}
-use mathlib.Core.List.{List}
 use Prim.Native.Nat.{ℕ, zero, suc, _+_, _-_, _≤_, _<_}
-use native.Mathlib.Decide.{decLt}
-use native.Mathlib.Omega.{arith}
+use native.Mathlib.{Decide.decLt, Omega.arith}
 use lib.Dec.{ltb}
 use borrow.Author.Tests.{lt-ltb, le-ltb, ltb-false}
-use Rattle.theory_loops.specs.Triple.{triple-found}
+use Rattle.theory_loops.specs.{Triple.triple-found, Total.total-most}
 use Rattle.theory_paths.specs.Partition.{Partition}
-use Rattle.plan.specs.Border.{borderCount}
-use Rattle.plan.specs.Plan.{Plan}
-use Rattle.plan_tests.specs.Tests.{fails}
-use Rattle.plan_tests.specs.Meaning.{Nowhere}
+use Rattle.plan.specs.{Border.borderCount, Plan.Plan, PlanDecode.decodePlan}
+use Rattle.plan_tests.specs.{Tests.fails, Meaning.Nowhere, Checkable.Checkable, Finds.allowed-most}
 use Rattle.plan_check.specs.declared.answer.Checking.{Checking}
 use Rattle.plan_check.specs.declared.answer.Checking.the-variants.{Accepted, Refused}
 use Rattle.plan_judge.specs.declared.Found.{Found}
-use Rattle.plan_check.specs.Check.{refusedAt, tripleRung}
-use Rattle.plan_check.specs.Exact.{nowhere-rung}
-use Rattle.theory_loops.specs.Total.{total-most}
+use Rattle.plan_check.specs.{Check.refusedAt, Check.tripleRung, Exact.nowhere-rung, Finds.Finds}
 use Rattle.file_refusals.specs.declared.Refusal.{Refusal}
-use Rattle.network.specs.Decode.{decode}
-use Rattle.network.specs.Network.{nodes}
-use Rattle.plan.specs.PlanDecode.{decodePlan}
+use Rattle.network.specs.{Decode.decode, Network.nodes}
 use Rattle.plan_tests.specs.declared.tests.Layouts.{Layouts}
-use Rattle.plan_tests.specs.Checkable.{Checkable}
-use Rattle.plan_tests.specs.Finds.{allowed-most}
-use Rattle.plan_check.specs.Finds.{Finds}
-use Rattle.plan_judge.specs.Standing.{Stands}
-use Rattle.plan_judge.specs.Tally.{Tally, tally-enough}
+use Rattle.plan_judge.specs.{Standing.Stands, Tally.Tally, Tally.tally-enough}
 
 -- THE LADDER of the tests from one number on, k of them
 unfoldable pub triplesFrom : ℕ → ℕ → Partition → Plan → Checking

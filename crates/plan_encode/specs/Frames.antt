@@ -1,21 +1,15 @@
 -- The frames of a plan's file: every block with its head and zeros, and the header's entry put field by
 -- field.
-use mathlib.Core.Path.{_≡_, refl}
-use mathlib.Core.List.{List}
+use mathlib.Core.{Path._≡_, Path.refl, List.List}
 use Prim.Native.Nat.{ℕ, _^_, _<_}
 use native.Mathlib.Omega.{arith}
 use lib.ListN.{length}
 use Rattle.file_fields.specs.Put.{put, put-join}
 use Rattle.file_blocks.specs.Kind.{planKind, planSize, flagKind, flagPer, countKind, countPer}
-use Rattle.file_blocks.specs.Kind.{profilePointKind, profilePointPer}
-use Rattle.file_blocks.specs.Place.{blocks}
-use Rattle.file_frames.specs.Framed.{Framed}
-use Rattle.file_frames.specs.Laid.{none}
-use Rattle.file_frames.specs.Runs.{frames-laid, header-laid}
-use Rattle.plan.specs.declared.header.PlanHeader.{PlanHeader}
-use Rattle.plan.specs.declared.header.PlanLayout.{PlanLayout}
-use Rattle.plan.specs.PlanDecode.{LaidPlan}
-use Rattle.plan.specs.PlanHeader.{PlanWithin}
+use Rattle.file_blocks.specs.{Kind.profilePointKind, Kind.profilePointPer, Place.blocks}
+use Rattle.file_frames.specs.{Framed.Framed, Laid.none, Runs.frames-laid, Runs.header-laid}
+use Rattle.plan.specs.declared.header.{PlanHeader.PlanHeader, PlanLayout.PlanLayout}
+use Rattle.plan.specs.{PlanDecode.LaidPlan, PlanHeader.PlanWithin}
 use Rattle.plan_encode.specs.PlanEncode.{planHeaderNumber, planHeaderByte, planShape}
 use Rattle.plan_encode.specs.Places.{PlanWritable, laid-by, blocks-fit}
 use Rattle.plan_encode.specs.Laying.{Laying, plan-fits}

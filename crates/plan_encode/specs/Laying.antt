@@ -1,24 +1,19 @@
 -- A plan's file in the making: which entries of its three runs are in (`Laying`), and the laws by which each
 -- step of the writing goes on from there. Frames, then counts and points each in their order, the flag words,
 -- and the checks leave the plan's file (`laying-whole`).
-use mathlib.Core.Path.{_≡_, refl, sym, ap, subst}
-use mathlib.Core.List.{List}
+use mathlib.Core.{Path._≡_, Path.refl, Path.sym, Path.ap, Path.subst, List.List}
 use Prim.Native.Nat.{ℕ, zero, suc, _+_, _*_, _≤_, _<_}
 use native.Mathlib.Omega.{arith}
-use lib.ListN.{length, getD}
-use lib.Dec.{lit<, lit≤}
+use lib.{ListN.length, ListN.getD, Dec.lit<, Dec.lit≤}
 use Rattle.theory_loops.specs.Fill.{overwritten}
-use Rattle.file_fields.specs.Fields.{byteOf}
-use Rattle.file_fields.specs.Put.{put}
+use Rattle.file_fields.specs.{Fields.byteOf, Put.put}
 use Rattle.file_blocks.specs.Kind.{flagPer, flagSize, countPer, countSize, profilePointPer, profilePointSize}
 use Rattle.file_blocks.specs.Place.{offset}
 use Rattle.file_frames.specs.Laid.{BodyLaid, upTo, none, upTo-none, upTo-below, entriesPut}
 use Rattle.file_frames.specs.Runs.{ShapeFits, first-laid, second-laid, third-laid, runs-sealed}
 use Rattle.file_frames.specs.Sealed.{sealedTo}
-use Rattle.plan.specs.declared.header.PlanHeader.{PlanHeader}
-use Rattle.plan.specs.declared.header.PlanLayout.{PlanLayout}
-use Rattle.plan.specs.Plan.{Plan}
-use Rattle.plan.specs.PlanLayout.{profileCount, planBlocks}
+use Rattle.plan.specs.declared.header.{PlanHeader.PlanHeader, PlanLayout.PlanLayout}
+use Rattle.plan.specs.{Plan.Plan, PlanLayout.profileCount, PlanLayout.planBlocks}
 use Rattle.plan_encode.specs.PlanEncode.{planShape, planBody, encodePlan, flagByte, countByte}
 use Rattle.plan_encode.specs.PlanEncode.{profilePointByte}
 use Rattle.plan_encode.specs.Places.{PlanWritable, laid-by, blocks-fit}

@@ -1,19 +1,15 @@
 -- What the writing of a plan's file requires: a layout, and a list with room for its blocks.
-use mathlib.Core.Path.{_≡_}
-use mathlib.Core.List.{List}
+use mathlib.Core.{Path._≡_, List.List}
 use Prim.Native.Nat.{ℕ, _+_, _*_, _^_, _≤_, _<_}
 use native.Mathlib.Omega.{arith}
 use lib.Dec.{lit<, lit≤}
-use Rattle.file_fields.specs.Block.{blockSize}
-use Rattle.file_fields.specs.Put.{put, put-join}
+use Rattle.file_fields.specs.{Block.blockSize, Put.put, Put.put-join}
 use Rattle.file_blocks.specs.Kind.{flagPer, flagSize, countPer, countSize, profilePointPer, profilePointSize}
 use Rattle.file_blocks.specs.Place.{offset, blocks, entry-in}
 use Rattle.file_frames.specs.Framed.{FrameRoom}
 use Rattle.network.specs.Limits.{mostArcs}
-use Rattle.plan.specs.declared.header.PlanHeader.{PlanHeader}
-use Rattle.plan.specs.declared.header.PlanLayout.{PlanLayout}
-use Rattle.plan.specs.PlanDecode.{LaidPlan, layout-plan}
-use Rattle.plan.specs.PlanHeader.{PlanWithin}
+use Rattle.plan.specs.declared.header.{PlanHeader.PlanHeader, PlanLayout.PlanLayout}
+use Rattle.plan.specs.{PlanDecode.LaidPlan, PlanDecode.layout-plan, PlanHeader.PlanWithin}
 use Rattle.plan.specs.PlanLayout.{planLayoutOf, planBlocks, plan-few}
 use Rattle.plan.specs.PlanLimits.{mostPlanBlocks}
 

@@ -1,20 +1,17 @@
 -- The bytes of a plan: block 0 for its header, then a run of blocks for the flag words, one for the counts of
 -- the profiles' points and one for the points, each with its check. An entry is one number, its fields one
 -- behind the other, low byte first. `PlanProper` says which plans fit into these fields.
-use mathlib.Core.Path.{_≡_, _∙_}
-use mathlib.Core.List.{List}
+use mathlib.Core.{Path._≡_, Path._∙_, List.List}
 use Prim.Native.Nat.{ℕ, _+_, _*_, _^_, _<_}
 use native.Mathlib.Omega.{arith}
 use lib.ListN.{length, getD}
 use Rattle.file_fields.specs.Fields.{byteOf, byteOf-low, byteOf-high}
-use Rattle.file_blocks.specs.Bytes.{fileOf}
+use Rattle.file_write.specs.Bytes.{fileOf}
 use Rattle.file_blocks.specs.Kind.{planKind, planSize, flagKind, flagPer, flagSize, countKind, countPer}
 use Rattle.file_blocks.specs.Kind.{countSize, profilePointKind, profilePointPer, profilePointSize}
 use Rattle.file_frames.specs.Runs.{Shape, runsBody}
 use Rattle.plan.specs.declared.header.PlanHeader.{PlanHeader}
-use Rattle.plan.specs.Plan.{Plan}
-use Rattle.plan.specs.PlanHeader.{PlanWithin}
-use Rattle.plan.specs.PlanLayout.{profileCount, planBlocks}
+use Rattle.plan.specs.{Plan.Plan, PlanHeader.PlanWithin, PlanLayout.profileCount, PlanLayout.planBlocks}
 
 -- the header's entry as one number: the field of two bytes before the points is zero
 abbrev pub planHeaderNumber : PlanHeader → ℕ

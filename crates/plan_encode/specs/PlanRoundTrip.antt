@@ -1,35 +1,26 @@
 -- What is read of a plan's file: the tests find every block in its form, `decodePlan` gives the plan back,
 -- and validation lets the file of a well-formed plan pass.
-use mathlib.Core.Path.{_≡_, sym, _∙_, ap}
-use mathlib.Core.Bool.{true}
-use mathlib.Core.List.{List}
+use mathlib.Core.{Path._≡_, Path.sym, Path._∙_, Path.ap, Bool.true, List.List}
 use Prim.Native.Nat.{ℕ, _+_, _*_, _^_, _<_}
 use native.Mathlib.Omega.{arith}
-use lib.ListN.{length, getD}
-use lib.Dec.{lit<, lit≤}
+use lib.{ListN.length, ListN.getD, Dec.lit<, Dec.lit≤}
 use Rattle.theory_loops.specs.Fill.{length-tab}
 use Rattle.file_fields.specs.Block.{blockSize, headSize}
 use Rattle.file_fields.specs.Fields.{le16, le16-is, le32-is, le16-number, le32-number, le64-number}
-use Rattle.file_blocks.specs.Bytes.{file-good}
-use Rattle.file_blocks.specs.Form.{formed, RunFormed}
+use Rattle.file_write.specs.Bytes.{file-good}
+use Rattle.file_blocks.specs.Place.{offset, blocks}
+use Rattle.file_forms.specs.Form.{formed, RunFormed}
 use Rattle.file_blocks.specs.Kind.{planKind, planSize, flagKind, flagPer, flagSize, countKind, countPer}
 use Rattle.file_blocks.specs.Kind.{countSize, profilePointKind, profilePointPer, profilePointSize}
-use Rattle.file_blocks.specs.Place.{offset, blocks}
-use Rattle.file_blocks.specs.Run.{RunLaid}
-use Rattle.file_blocks.specs.RunLaws.{file-run, formed-run, run-table}
+use Rattle.file_write.specs.{Run.RunLaid, RunLaws.file-run, RunLaws.formed-run, RunLaws.run-table}
 use Rattle.file_blocks.specs.Table.{entry16, entry32, entry64}
 use Rattle.file_frames.specs.Runs.{header-body, first-body, second-body, third-body}
 use Rattle.network.specs.declared.header.Header.{Header}
-use Rattle.network.specs.Network.{Network}
-use Rattle.network.specs.Town.{partitionOf}
+use Rattle.network.specs.{Network.Network, Town.partitionOf}
 use Rattle.plan.specs.declared.header.PlanHeader.{PlanHeader}
-use Rattle.plan.specs.Border.{borderCount}
-use Rattle.plan.specs.Plan.{Plan}
-use Rattle.plan.specs.PlanHeader.{planHeaderAt, PlanWithin}
+use Rattle.plan.specs.{Border.borderCount, Plan.Plan, PlanHeader.planHeaderAt, PlanHeader.PlanWithin}
 use Rattle.plan.specs.PlanLayout.{profileCount, countBlock, planPointBlock, planBlocks, plan-few}
-use Rattle.plan.specs.PlanDecode.{decodePlan, decodePlanBy}
-use Rattle.plan.specs.PlanMatch.{Matches}
-use Rattle.plan.specs.PlanValid.{ValidPlan}
+use Rattle.plan.specs.{PlanDecode.decodePlan, PlanDecode.decodePlanBy, PlanMatch.Matches, PlanValid.ValidPlan}
 use Rattle.plan.specs.WellFormed.{WellFormed}
 use Rattle.plan_encode.specs.PlanEncode.{planHeaderByte, flagByte, countByte, profilePointByte}
 use Rattle.plan_encode.specs.PlanEncode.{planShape, planBody, encodePlan, PlanProper}

@@ -1,25 +1,20 @@
 -- What the writing of a plan leaves: frames, then each count and each point in its order, the two streams
 -- interleaved in any way (`Entered`), then the flag words and the checks. It is the plan's file
 -- (`plan-written`).
-use mathlib.Core.Path.{_≡_, refl, subst}
-use mathlib.Core.List.{List}
+use mathlib.Core.{Path._≡_, Path.refl, Path.subst, List.List}
 use Prim.Native.Nat.{ℕ, _+_, _*_, _<_}
 use lib.ListN.{length, getD}
 use Rattle.theory_loops.specs.Fill.{overwritten}
 use Rattle.file_fields.specs.Put.{put}
 use Rattle.file_blocks.specs.Kind.{flagPer, flagSize, countPer, countSize, profilePointPer, profilePointSize}
 use Rattle.file_blocks.specs.Place.{offset}
-use Rattle.file_frames.specs.Laid.{none, upTo, entriesPut}
-use Rattle.file_frames.specs.Sealed.{sealedTo}
-use Rattle.plan.specs.declared.header.PlanHeader.{PlanHeader}
-use Rattle.plan.specs.declared.header.PlanLayout.{PlanLayout}
-use Rattle.plan.specs.Plan.{Plan, pointCount}
+use Rattle.file_frames.specs.{Laid.none, Laid.upTo, Laid.entriesPut, Sealed.sealedTo}
+use Rattle.plan.specs.declared.header.{PlanHeader.PlanHeader, PlanLayout.PlanLayout}
+use Rattle.plan.specs.{Plan.Plan, Plan.pointCount, PlanLayout.profileCount}
 use Rattle.plan.specs.PlanDecode.{flagWord, pointTick, pointTravel}
-use Rattle.plan.specs.PlanLayout.{profileCount}
 use Rattle.plan_encode.specs.PlanEncode.{flagByte, countByte, profilePointByte, encodePlan}
-use Rattle.plan_encode.specs.Places.{PlanWritable, laid-by}
+use Rattle.plan_encode.specs.{Places.PlanWritable, Places.laid-by, Laying.laying-whole}
 use Rattle.plan_encode.specs.Laying.{Laying, framed-laying, count-more, point-more, flags-laying}
-use Rattle.plan_encode.specs.Laying.{laying-whole}
 
 -- from a list in which c₀ counts and q₀ points of the plan are in, to one in which c and q of them are
 pub data Entered (l : PlanLayout) (p : Plan) (c₀ q₀ : ℕ) (s₀ : List ℕ) : ℕ → ℕ → List ℕ → Type 0 where

@@ -1,26 +1,17 @@
 -- The arcs that start no least path, told without a look at their ticks: two tables have bounds of each
 -- node's row, and an arc whose least travel and the lower bound of its head's row come to more than the upper
 -- bound of its tail's gives its tail's number nowhere.
-use mathlib.Core.Path.{_≡_}
-use mathlib.Core.Bool.{false}
-use mathlib.Core.List.{List}
+use mathlib.Core.{Path._≡_, Bool.false, List.List}
 use Prim.Native.Nat.{ℕ, _+_, _%_, _<_}
-use native.Mathlib.Nat.{mod-lt}
-use native.Mathlib.Omega.{arith}
+use native.Mathlib.{Nat.mod-lt, Omega.arith}
 use lib.ListN.{getD}
 use Rattle.theory_loops.specs.Grid.{gridAt}
-use Rattle.theory_paths.specs.Graph.{Graph}
-use Rattle.theory_paths.specs.Least.{leastTicks}
-use Rattle.theory_paths.specs.Planned.{starts}
+use Rattle.theory_paths.specs.{Graph.Graph, Least.leastTicks, Planned.starts}
 use Rattle.network.specs.declared.header.Layout.{Layout}
-use Rattle.network.specs.Network.{tail, head}
-use Rattle.network.specs.Decode.{decode}
-use Rattle.network.specs.Town.{graphOf, travelAt}
+use Rattle.network.specs.{Network.tail, Network.head, Decode.decode, Town.graphOf, Town.travelAt}
 use Rattle.search_chains.specs.Town.{tail-node, head-node}
 use Rattle.toward_row.specs.Arcs.{Primed}
-use Rattle.toward_list.specs.Heights.{Bounds}
-use Rattle.toward_list.specs.Leasts.{LeastTravel}
-use Rattle.toward_list.specs.Rows.{Worked}
+use Rattle.toward_list.specs.{Heights.Bounds, Leasts.LeastTravel, Rows.Worked}
 use Rattle.toward_node.specs.Turn.{modest}
 use Rattle.toward_start.specs.Start.{gives-is, start-nowhere}
 

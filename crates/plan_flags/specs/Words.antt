@@ -1,27 +1,20 @@
 -- The flag words that a planner gives, by the borders below a number (`Flags`): at first an arc has the flag
 -- of a cell in which both its ends lie, and each border then adds the flag of its cell to the arcs that start
 -- a least path to it. The laws of the loops over the arcs.
-use mathlib.Core.Path.{_≡_, refl, sym, _∙_}
-use mathlib.Core.Logic.{_≢_}
+use mathlib.Core.{Path._≡_, Path.refl, Path.sym, Path._∙_, Logic._≢_, List.List}
 use mathlib.Core.Bool.{Bool, true, false, cond, _&&_, _||_, or-false}
-use mathlib.Core.List.{List}
 use Prim.Native.Nat.{ℕ, _+_, _^_, _≤_, _<_}
-use native.Mathlib.Omega.{arith}
-use native.Mathlib.Decide.{ℕ-discrete}
-use lib.ListN.{length, getD}
-use lib.Dec.{eqb}
+use native.Mathlib.{Omega.arith, Decide.ℕ-discrete}
+use lib.{ListN.length, ListN.getD, Dec.eqb}
 use borrow.Author.Tests.{eq-eqb, ne-eqb}
 use Rattle.theory_loops.specs.Fill.{Filled}
 use Rattle.theory_paths.specs.Least.{leastTicks}
 use Rattle.theory_paths.specs.Planned.{starts, planned, planned-none, planned-more}
 use Rattle.network.specs.declared.header.Layout.{Layout}
-use Rattle.network.specs.Limits.{mostCells}
+use Rattle.network.specs.{Limits.mostCells, Decode.decode, Town.graphOf, Town.partitionOf}
 use Rattle.network.specs.Network.{Network, arcs, cell, tail, head}
-use Rattle.network.specs.Decode.{decode}
-use Rattle.network.specs.Town.{graphOf, partitionOf}
 use Rattle.search_chains.specs.Town.{Town, tail-node}
-use Rattle.plan.specs.Border.{borderAt}
-use Rattle.plan.specs.Plan.{bit}
+use Rattle.plan.specs.{Border.borderAt, Plan.bit}
 use Rattle.plan.specs.Word.{wordOf, word-bit, word-same, word-none, word-set, word-room}
 
 -- arc a's flag word by the borders below number i

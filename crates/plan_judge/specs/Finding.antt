@@ -1,30 +1,19 @@
 -- What the code rests on at a border: both files, the tables over them, and the list of borders.
-use mathlib.Core.Path.{_≡_, _∙_}
-use mathlib.Core.List.{List}
+use mathlib.Core.{Path._≡_, Path._∙_, List.List}
 use Prim.Native.Nat.{ℕ, _+_, _*_, _≤_, _<_}
 use native.Mathlib.Omega.{arith}
 use lib.ListN.{length, getD}
-use Rattle.theory_loops.specs.First.{first}
-use Rattle.theory_loops.specs.Fill.{Filled}
-use Rattle.theory_loops.specs.Total.{total-none}
+use Rattle.theory_loops.specs.{First.first, Fill.Filled, Total.total-none}
 use Rattle.network.specs.declared.header.Layout.{Layout}
-use Rattle.network.specs.Limits.{mostNodes, mostPeriod}
+use Rattle.network.specs.{Limits.mostNodes, Limits.mostPeriod, Decode.decode, Town.partitionOf}
 use Rattle.network.specs.Network.{arcs, cell, tail, start}
-use Rattle.network.specs.Decode.{decode}
-use Rattle.network.specs.Town.{partitionOf}
-use Rattle.search_chains.specs.Chain.{Chained}
-use Rattle.plan_tests.specs.declared.tests.Layouts.{Layouts}
-use Rattle.plan_tests.specs.declared.tests.Target.{Target}
-use Rattle.plan.specs.Border.{borderCount, Listed}
-use Rattle.plan.specs.Plan.{Plan, pointCount, pointStart}
-use Rattle.plan.specs.PlanDecode.{decodePlan}
-use Rattle.plan.specs.Borders.{at-node}
-use Rattle.plan_tests.specs.Checkable.{Checkable}
+use Rattle.search_chains.specs.{Chain.Chained, Town.Town}
+use Rattle.plan_tests.specs.declared.tests.{Layouts.Layouts, Target.Target}
+use Rattle.plan.specs.{Border.borderCount, Border.Listed, Plan.Plan, Plan.pointCount, Plan.pointStart}
+use Rattle.plan.specs.{PlanDecode.decodePlan, Borders.at-node}
+use Rattle.plan_tests.specs.{Checkable.Checkable, Failing.AtBorder, Failing.cell-fits, Giving.Aimed}
 use Rattle.plan_values.specs.Starts.{startOf, started-of}
 use Rattle.node_runs.specs.Ready.{Rooms}
-use Rattle.plan_tests.specs.Failing.{AtBorder, cell-fits}
-use Rattle.plan_tests.specs.Giving.{Aimed}
-use Rattle.search_chains.specs.Town.{Town}
 
 -- What judging the borders rests on: both files, the tables of the arcs' first points and of the
 -- chains, and the list of borders.

@@ -1,17 +1,13 @@
 -- How the check stands: which of the tests 21 to 24 is the lowest that fails at the borders and nodes judged
 -- so far, and the first place at which it does. Borders are judged in the order of their numbers, and nodes
 -- at each, so that a lower number takes the place of the one found before, and the same number does not.
-use mathlib.Core.Path.{_≡_, sym, _∙_}
-use mathlib.Core.Logic.{_⊎_, inl, inr}
+use mathlib.Core.{Path._≡_, Path.sym, Path._∙_, Logic._⊎_, Logic.inl, Logic.inr, List.List}
 use mathlib.Core.Bool.{Bool, true, false}
-use mathlib.Core.List.{List}
 use Prim.Native.Nat.{ℕ, _+_, _≤_, _<_}
-use native.Mathlib.Decide.{ℕ-discrete, decLt}
-use native.Mathlib.Omega.{arith}
+use native.Mathlib.{Decide.ℕ-discrete, Decide.decLt, Omega.arith}
 use Rattle.theory_loops.specs.First.{first, clear, any-found}
 use Rattle.theory_paths.specs.Partition.{Partition}
-use Rattle.plan.specs.Border.{borderCount}
-use Rattle.plan.specs.Plan.{Plan}
+use Rattle.plan.specs.{Border.borderCount, Plan.Plan}
 use Rattle.plan_tests.specs.Tests.{fails}
 use Rattle.node_verdict.specs.Lowest.{tells, Lowest}
 use Rattle.plan_judge.specs.declared.Found.{Found}

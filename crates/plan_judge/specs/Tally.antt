@@ -1,16 +1,13 @@
 -- The finds of the check, counted while it judges node after node (`Row`) and border after border (`Tally`):
 -- within what document 02 allows, and no fewer than the points of the profiles while no test fails.
-use mathlib.Core.Path.{_≡_, refl, sym, _∙_, ap}
-use mathlib.Core.Bool.{cond}
+use mathlib.Core.{Path._≡_, Path.refl, Path.sym, Path._∙_, Path.ap, Bool.cond}
 use Prim.Native.Nat.{ℕ, zero, suc, _+_, _-_, _*_, _≤_, _<_}
-use native.Mathlib.Decide.{ℕ-discrete}
-use native.Mathlib.Omega.{arith}
+use native.Mathlib.{Decide.ℕ-discrete, Omega.arith}
 use lib.Dec.{eqb}
 use borrow.Author.Tests.{eq-eqb, ne-eqb}
 use Rattle.theory_loops.specs.Total.{total, total-none, total-more, total-part, total-most, total-same}
 use Rattle.theory_loops.specs.Sums.{total-le, total-rows}
-use Rattle.network.specs.Limits.{mostNodes}
-use Rattle.network.specs.Network.{Network, nodes, arcs, tail}
+use Rattle.network.specs.{Limits.mostNodes, Network.Network, Network.nodes, Network.arcs, Network.tail}
 use Rattle.plan.specs.Plan.{Plan, pointCount}
 use Rattle.plan_tests.specs.Finds.{nodeFinds, profilePoints, allowed, pass-allowed}
 use Rattle.node_verdict.specs.Lowest.{Tallied}

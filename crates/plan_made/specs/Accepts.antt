@@ -1,24 +1,18 @@
 -- The plan that is made of a network is accepted: every file that is formed as a plan file for the network
 -- and decodes to it (`made-accepted`), and so its own (`file-accepted`).
-use mathlib.Core.Path.{_≡_}
-use mathlib.Core.List.{List}
+use mathlib.Core.{Path._≡_, List.List}
 use Prim.Native.Nat.{ℕ, _≤_}
-use native.Mathlib.Nat.{mul-le-mul}
-use native.Mathlib.Omega.{arith}
+use native.Mathlib.{Nat.mul-le-mul, Omega.arith}
 use Rattle.theory_paths.specs.Least.{Modest}
 use Rattle.network.specs.declared.header.Header.{Header}
-use Rattle.network.specs.Limits.{mostPeriod, mostNodes}
-use Rattle.network.specs.Decode.{decode}
-use Rattle.network.specs.Valid.{ValidFile}
+use Rattle.network.specs.{Limits.mostPeriod, Limits.mostNodes, Decode.decode, Valid.ValidFile}
 use Rattle.network.specs.Town.{graphOf, partitionOf, town-lawful, town-bounded}
 use Rattle.plan.specs.declared.header.PlanHeader.{PlanHeader}
-use Rattle.plan.specs.PlanDecode.{decodePlan, pointTotal}
-use Rattle.plan.specs.PlanMatch.{valid-headed}
-use Rattle.plan.specs.PlanValid.{ValidPlan}
+use Rattle.plan.specs.{PlanDecode.decodePlan, PlanDecode.pointTotal, PlanMatch.valid-headed}
+use Rattle.plan.specs.{PlanValid.ValidPlan, PlanLimits.mostProfilePoints}
 use Rattle.plan_check.specs.declared.answer.Checking.the-variants.{Accepted}
 use Rattle.plan_check.specs.CheckPlan.{checking, accepts-exactly}
 use Rattle.file_fields.specs.Fields.{Bytes}
-use Rattle.plan.specs.PlanLimits.{mostProfilePoints}
 use Rattle.plan_made.specs.Made.{planOf, made-true, made-enough}
 use Rattle.plan_made.specs.File.{madePlan, madeFile, made-decodes, made-valid}
 

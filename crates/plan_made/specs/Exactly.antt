@@ -6,29 +6,22 @@
 -- and else it has a point exactly at tick 0 and at each later tick where the step to the next tick differs
 -- from
 -- the step before it (`made-points-exactly`), with the least travel there (`made-point-least`).
-use mathlib.Core.Path.{_≡_, sym, _∙_, ap}
+use mathlib.Core.{Path._≡_, Path.sym, Path._∙_, Path.ap, Bool.true, Bool.false, Bool.true≢false}
 use mathlib.Core.Logic.{_≢_, _↔_, _⊎_, inl, inr}
-use mathlib.Core.Bool.{true, false, true≢false}
 use Prim.Native.Nat.{ℕ, _+_, _-_, _*_, _<_}
-use native.Mathlib.Omega.{arith}
-use native.Mathlib.Decide.{ℕ-discrete}
+use native.Mathlib.{Omega.arith, Decide.ℕ-discrete}
 use borrow.Author.Tests.{eq-eqb, ne-eqb}
-use Rattle.theory_loops.specs.Count.{count}
-use Rattle.theory_loops.specs.Grid.{grid-in}
-use Rattle.theory_paths.specs.Graph.{all, Reachable, EarliestArrival}
-use Rattle.theory_paths.specs.Partition.{Partition}
-use Rattle.theory_paths.specs.Earliest.{never}
+use Rattle.theory_loops.specs.{Count.count, Grid.grid-in}
+use Rattle.theory_paths.specs.{Graph.all, Graph.Reachable, Graph.EarliestArrival, Partition.Partition}
+use Rattle.theory_paths.specs.{Earliest.never, Planned.Earns, Planned.planned-exactly}
 use Rattle.theory_paths.specs.Least.{Modest, leastTicks, least-never, least-earliest, least-capped}
-use Rattle.theory_paths.specs.Planned.{Earns, planned-exactly}
 use Rattle.theory_travel.specs.Turns.{turns, turnCount, turnTick, around, turn-at, turn-rank, turns-day}
 use Rattle.theory_travel.specs.Turns.{turn-is}
-use Rattle.plan.specs.Border.{borderCount, borderAt}
+use Rattle.plan.specs.{Border.borderCount, Border.borderAt, Word.word-bit}
 use Rattle.plan.specs.Plan.{flag, pointCount, pointTicks, pointTravels}
-use Rattle.plan.specs.Word.{word-bit}
 use Rattle.plan_made.specs.Made.{planOf, madeFlag, madeTravel, madeCount, madeProfiles, made-word}
 use Rattle.plan_made.specs.Made.{made-count, made-tick, made-travel, made-borders, count-none}
-use Rattle.plan_made.specs.Made.{count-some}
-use Rattle.plan_made.specs.Made.{number-border, number-node}
+use Rattle.plan_made.specs.{Made.count-some, Made.number-border, Made.number-node}
 
 -- The step to the next tick is not the step before it, for travels d at each tick; the period's end counts as
 -- the next day's tick 0. Both sides of tick x add up to twice its own travel exactly where the steps are one.

@@ -1,35 +1,23 @@
 -- The file of the plan that is made of a network (`madeFile`): it decodes to that plan (`made-decodes`), and
 -- none of 11 to 19 applies to it (`made-valid`), where its points are no more than a plan can hold.
-use mathlib.Core.Path.{_≡_, refl, sym, _∙_}
-use mathlib.Core.List.{List}
+use mathlib.Core.{Path._≡_, Path.refl, Path.sym, Path._∙_, List.List}
 use Prim.Native.Nat.{ℕ, _+_, _*_, _/_, _%_, _^_, _≤_, _<_}
-use native.Mathlib.Nat.{pow-le-pow-right, mod-lt, lt-of-lt-of-le}
-use lib.Dec.{lit<}
-use native.Mathlib.Omega.{arith}
+use native.Mathlib.{Nat.pow-le-pow-right, Nat.mod-lt, Nat.lt-of-lt-of-le, Omega.arith}
+use lib.{Dec.lit<, ListN.length, ListN.getD, ListN.List·getD-eq-default}
 use native.Mathlib.Decide.{decLt, ℕ-discrete}
-use lib.ListN.{length, getD, List·getD-eq-default}
-use Rattle.theory_loops.specs.Fill.{tab, getD-tab, length-tab}
-use Rattle.theory_loops.specs.Total.{total}
+use Rattle.theory_loops.specs.{Fill.tab, Fill.getD-tab, Fill.length-tab, Total.total}
 use Rattle.theory_loops.specs.Joined.{joined, joined-length, joined-below}
-use Rattle.theory_paths.specs.Partition.{Partition}
-use Rattle.theory_paths.specs.Earliest.{never}
-use Rattle.theory_paths.specs.Least.{Modest, least-capped}
+use Rattle.theory_paths.specs.{Partition.Partition, Earliest.never, Least.Modest, Least.least-capped}
 use Rattle.theory_travel.specs.Turns.{turnTick, turnValue, turns-few, turns-day}
 use Rattle.file_fields.specs.Fields.{Bytes}
 use Rattle.network.specs.declared.header.Header.{Header}
-use Rattle.network.specs.Network.{Network, nodes, arcs}
-use Rattle.network.specs.Decode.{headerAt, decode}
-use Rattle.network.specs.Town.{graphOf, partitionOf}
-use Rattle.network.specs.Valid.{ValidFile}
+use Rattle.network.specs.{Network.Network, Network.nodes, Network.arcs, Decode.headerAt, Decode.decode}
+use Rattle.network.specs.{Town.graphOf, Town.partitionOf, Valid.ValidFile}
 use Rattle.plan.specs.declared.header.PlanHeader.{PlanHeader}
-use Rattle.plan.specs.Border.{borderCount, borderAt}
-use Rattle.plan.specs.Plan.{Plan}
-use Rattle.plan.specs.Word.{wordOf, word-below}
-use Rattle.plan.specs.PlanDecode.{decodePlan, pointTotal}
-use Rattle.plan.specs.PlanHeader.{PlanWithin}
-use Rattle.plan.specs.PlanLimits.{mostProfilePoints}
+use Rattle.plan.specs.{Border.borderCount, Border.borderAt, Plan.Plan, Word.wordOf, Word.word-below}
+use Rattle.plan.specs.{PlanDecode.decodePlan, PlanDecode.pointTotal, PlanHeader.PlanWithin}
+use Rattle.plan.specs.{PlanLimits.mostProfilePoints, PlanValid.ValidPlan}
 use Rattle.plan.specs.PlanMatch.{Matches, matches-within, borders-few, valid-headed}
-use Rattle.plan.specs.PlanValid.{ValidPlan}
 use Rattle.plan_encode.specs.PlanEncode.{encodePlan, PlanProper}
 use Rattle.plan_encode.specs.PlanRoundTrip.{decode-encode-plan, encode-valid}
 use Rattle.plan_made.specs.Made.{planOf, madeProfiles, madeTravel, madeCount, madeTicks, madeTravels}

@@ -2,40 +2,28 @@
 -- turn, none where there is no path, and an arc has the flag of a cell exactly when both ends lie in it or it
 -- starts a least path to some border of it at some tick. It is well-formed (`made-formed`), its profiles are
 -- true (`made-true`) and its flags enough (`made-enough`): so the check accepts it.
-use mathlib.Core.Path.{_≡_, sym, _∙_, ap}
-use mathlib.Core.Logic.{_≢_}
-use mathlib.Core.Bool.{Bool, cond}
-use mathlib.Core.List.{List}
+use mathlib.Core.{Path._≡_, Path.sym, Path._∙_, Path.ap, Logic._≢_, Bool.Bool, Bool.cond, List.List}
 use Prim.Native.Nat.{ℕ, _+_, _*_, _/_, _%_, _≤_, _<_}
 use native.Mathlib.Nat.{mul-add-div-right, mul-add-mod-self-right, div-eq-of-lt, mod-eq-of-lt, add-zero}
-use native.Mathlib.Omega.{arith}
-use native.Mathlib.Decide.{ℕ-discrete}
-use lib.ListN.{length, getD}
-use lib.Dec.{eqb}
+use native.Mathlib.{Omega.arith, Decide.ℕ-discrete}
+use lib.{ListN.length, ListN.getD, Dec.eqb}
 use borrow.Author.Tests.{eq-eqb, ne-eqb}
-use Rattle.theory_loops.specs.Fill.{tab, getD-tab, length-tab}
-use Rattle.theory_loops.specs.Total.{total, total-same}
+use Rattle.theory_loops.specs.{Fill.tab, Fill.getD-tab, Fill.length-tab, Total.total, Total.total-same}
 use Rattle.theory_loops.specs.Grid.{grid-in}
 use Rattle.theory_loops.specs.Joined.{joined, partStart, joined-length, joined-at}
-use Rattle.theory_paths.specs.Partition.{Partition}
-use Rattle.theory_paths.specs.Earliest.{never}
-use Rattle.theory_paths.specs.Profiles.{ticks, TrueProfile}
+use Rattle.theory_paths.specs.{Partition.Partition, Earliest.never, Profiles.ticks, Profiles.TrueProfile}
 use Rattle.theory_paths.specs.Flags.{EnoughFlags, TrueProfiles}
 use Rattle.theory_paths.specs.Least.{Modest, leastTicks, leastTravel, travel-never, travel-ticks}
 use Rattle.theory_paths.specs.Least.{least-capped, never-always, least-exactly}
 use Rattle.theory_paths.specs.Planned.{Borders, Flagged, planned, planned-enough}
-use Rattle.theory_travel.specs.Day.{Day}
-use Rattle.theory_travel.specs.Table.{entryAt}
+use Rattle.theory_travel.specs.{Day.Day, Table.entryAt}
 use Rattle.theory_travel.specs.Turns.{turnCount, turnTick, turnValue, turns-few, turned-day, turned-value}
-use Rattle.network.specs.Network.{Network, nodes}
-use Rattle.network.specs.Town.{partitionOf}
-use Rattle.plan.specs.Border.{borderCount, borderAt, borderIndex}
+use Rattle.network.specs.{Network.Network, Network.nodes, Town.partitionOf}
+use Rattle.plan.specs.{Border.borderCount, Border.borderAt, Border.borderIndex, Plan.profile, Plan.profileTo}
 use Rattle.plan.specs.Borders.{border-exactly, at-border, at-index, index-below, border-below, every-border}
 use Rattle.plan.specs.Plan.{Plan, flag, pointCount, pointStart, pointTicks, pointTravels, profileValue}
-use Rattle.plan.specs.Plan.{profile, profileTo}
-use Rattle.plan.specs.Word.{wordOf, word-bit, word-below}
+use Rattle.plan.specs.{Word.wordOf, Word.word-bit, Word.word-below, WellFormed.WellFormed}
 use Rattle.plan.specs.PlanDecode.{flagWord, pointTotal}
-use Rattle.plan.specs.WellFormed.{WellFormed}
 
 -- a profile for each border and each node
 abbrev pub madeProfiles : Partition → ℕ

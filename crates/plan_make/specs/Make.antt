@@ -1,21 +1,15 @@
 -- Making a plan of a network: the answer, what becomes of the lent work list and of the lent bytes, and the
 -- call (`MakeCall`). The bytes that are written become the plan's file.
-use mathlib.Core.Path.{_≡_}
-use mathlib.Core.Bool.{cond}
-use mathlib.Core.List.{List}
+use mathlib.Core.{Path._≡_, Bool.cond, List.List}
 use Prim.Native.Nat.{ℕ}
-use lib.ListN.{length}
-use lib.Dec.{ltb}
+use lib.{ListN.length, Dec.ltb}
 use Rattle.file_refusals.specs.declared.writing.Writing.{Writing}
 use Rattle.file_refusals.specs.declared.writing.Writing.the-variants.{Refused}
 use Rattle.file_refusals.specs.Writing.{unwritten, writtenInto, bytesAfter}
 use Rattle.network.specs.declared.answer.Opening.{Opening}
 use Rattle.network.specs.declared.answer.Opening.the-variants as opening
-use Rattle.network.specs.Network.{Network}
-use Rattle.network.specs.Decode.{decode}
-use Rattle.network.specs.Validate.{validated}
-use Rattle.plan.specs.PlanDecode.{pointTotal}
-use Rattle.plan.specs.PlanLimits.{mostProfilePoints}
+use Rattle.network.specs.{Network.Network, Decode.decode, Validate.validated}
+use Rattle.plan.specs.{PlanDecode.pointTotal, PlanLimits.mostProfilePoints}
 use Rattle.plan_made.specs.File.{madePlan, madeFile}
 use Rattle.toward_list.specs.Work.{workSize, cleared}
 

@@ -1,57 +1,37 @@
 -- FOR THE CODE: the header that it makes, the file that it leaves, and its refusals 34, 33 and 31.
-use mathlib.Core.Path.{_≡_, refl, sym, _∙_, ap}
-use mathlib.Core.List.{List, _++_}
+use mathlib.Core.{Path._≡_, Path.refl, Path.sym, Path._∙_, Path.ap, List.List, List._++_}
 use Prim.Native.Nat.{ℕ, zero, suc, _*_, _≤_, _<_}
 use native.Mathlib.Omega.{arith}
-use lib.ListN.{length, getD, take, drop}
-use lib.Seq.{length-sets}
+use lib.{ListN.length, ListN.getD, ListN.take, ListN.drop, Seq.length-sets}
 use borrow.Author.Tests.{lt-ltb, le-ltb}
-use Rattle.theory_loops.specs.Fill.{Filled, tab, overwritten}
-use Rattle.theory_loops.specs.Total.{total}
-use Rattle.file_fields.specs.Block.{blockSize}
-use Rattle.file_fields.specs.Fields.{byteOf}
-use Rattle.file_fields.specs.Put.{put-stores}
-use Rattle.file_blocks.specs.Kind.{flagPer, flagSize}
-use Rattle.file_blocks.specs.Place.{offset}
-use Rattle.file_frames.specs.Laid.{none, entriesPut}
-use Rattle.file_frames.specs.Sealed.{sealedTo}
+use Rattle.theory_loops.specs.{Fill.Filled, Fill.tab, Fill.overwritten, Total.total}
+use Rattle.file_fields.specs.{Block.blockSize, Fields.byteOf, Put.put-stores}
+use Rattle.file_blocks.specs.{Kind.flagPer, Kind.flagSize, Place.offset}
+use Rattle.file_frames.specs.{Laid.none, Laid.entriesPut, Sealed.sealedTo}
 use Rattle.file_refusals.specs.declared.Refusal.{Refusal}
 use Rattle.file_refusals.specs.declared.writing.Writing.{Writing}
 use Rattle.file_refusals.specs.declared.writing.Writing.the-variants.{Written, Refused}
 use Rattle.file_refusals.specs.Writing.{unwritten, writtenInto, Writes, writes-refused}
-use Rattle.file_refusals.specs.Writing.{into-short}
-use Rattle.file_refusals.specs.Writing.{into-whole}
+use Rattle.file_refusals.specs.{Writing.into-short, Writing.into-whole}
 use Rattle.network.specs.declared.answer.Opening.{Opening}
 use Rattle.network.specs.declared.answer.Opening.the-variants as opening
-use Rattle.network.specs.declared.header.Header.{Header}
-use Rattle.network.specs.declared.header.Layout.{Layout}
-use Rattle.network.specs.Network.{Network, nodes, arcs, start}
-use Rattle.network.specs.Decode.{decode}
-use Rattle.network.specs.Town.{partitionOf}
-use Rattle.network.specs.Validate.{validated}
-use Rattle.network.specs.Valid.{ValidFile, valid-exactly}
-use Rattle.plan.specs.declared.header.PlanHeader.{PlanHeader}
-use Rattle.plan.specs.declared.header.PlanLayout.{PlanLayout}
-use Rattle.plan.specs.Border.{borderCount}
-use Rattle.plan.specs.PlanDecode.{pointTotal}
-use Rattle.plan.specs.PlanHeader.{PlanWithin}
+use Rattle.network.specs.declared.header.{Header.Header, Layout.Layout}
+use Rattle.network.specs.{Network.Network, Network.nodes, Network.arcs, Network.start, Decode.decode}
+use Rattle.network.specs.{Town.partitionOf, Validate.validated, Valid.ValidFile, Valid.valid-exactly}
+use Rattle.plan.specs.declared.header.{PlanHeader.PlanHeader, PlanLayout.PlanLayout}
+use Rattle.plan.specs.{Border.borderCount, PlanDecode.pointTotal, PlanHeader.PlanWithin, Borders.listed-front}
 use Rattle.plan.specs.PlanLayout.{planLayoutOf, plan-few}
 use Rattle.plan.specs.PlanLimits.{mostProfilePoints, mostPlanBlocks}
 use Rattle.plan.specs.PlanMatch.{matches-within, borders-few, valid-headed}
-use Rattle.plan_encode.specs.Laying.{Laying}
-use Rattle.plan_encode.specs.Places.{PlanRoom, PlanWritable}
+use Rattle.plan_encode.specs.{Laying.Laying, Places.PlanRoom, Places.PlanWritable, PlanWritten.plan-written}
 use Rattle.plan_encode.specs.PlanRoundTrip.{encode-plan-long}
-use Rattle.plan_encode.specs.PlanWritten.{plan-written}
 use Rattle.plan_made.specs.Made.{made-total, made-word, madeCount}
 use Rattle.plan_made.specs.File.{madePlan, madeHeader, madeFile, made-matches}
-use Rattle.toward_list.specs.Work.{workSize, primed-of, work-cleared}
+use Rattle.toward_list.specs.{Work.workSize, Work.primed-of, Work.work-cleared, Leasts.Leasts}
 use Rattle.plan_make.specs.Make.{madeInto, madeWith, zeroed, MakesOpened, MakeCall}
-use Rattle.search_chains.specs.Town.{Town}
-use Rattle.search_chains.specs.Chain.{Chained, endOf}
+use Rattle.search_chains.specs.{Town.Town, Chain.Chained, Chain.endOf}
 use Rattle.search_chains.specs.declared.chain.End.the-variants.{Head}
-use Rattle.toward_list.specs.Leasts.{Leasts}
 use Rattle.plan.specs.Border
-use Rattle.plan.specs.Borders.{listed-front}
 use Rattle.plan_rounds.specs.Rounds.{Tables, Counted, Held, PutTo}
 
 -- THE TABLES
@@ -176,12 +156,7 @@ module _ {file : List ℕ} {h : Header} (v : ValidFile file h) {count points : �
 
   pub borders-fit : count ≤ 512
   borders-fit =
-      omega (
-        arith,
-        borders-few (partitionOf n),
-        valid-headed v .nodes-are,
-        v .within .nodes-most,
-      )
+      omega (arith, borders-few (partitionOf n), valid-headed v .nodes-are, v .within .nodes-most)
 
 -- its file's length
 pub file-long : {h : PlanHeader} {k : PlanLayout} (m : Network) → k ≡ planLayoutOf h → h ≡ madeHeader m

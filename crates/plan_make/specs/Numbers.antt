@@ -1,26 +1,18 @@
 -- Which numbers the refusals of Make plan have: 1 to 10, 37, 31, 33 or 34 (`make-numbers`).
-use mathlib.Core.Path.{_≡_, refl, ap}
-use mathlib.Core.Logic.{_⊎_, inl, inr}
-use mathlib.Core.List.{List}
+use mathlib.Core.{Path._≡_, Path.refl, Path.ap, Logic._⊎_, Logic.inl, Logic.inr, List.List}
 use Prim.Native.Nat.{ℕ}
 use native.Mathlib.Omega.{arith}
-use lib.Dec.{ltb}
-use lib.ListN.{length}
+use lib.{Dec.ltb, ListN.length}
 use Rattle.theory_loops.specs.Pick.{cond-holds}
-use Rattle.file_refusals.specs.Numbered.{Numbered}
-use Rattle.file_refusals.specs.Refusal.{refusal}
+use Rattle.file_refusals.specs.{Numbered.Numbered, Refusal.refusal, Writing.writtenInto}
 use Rattle.file_refusals.specs.declared.Refusal.{Refusal}
 use Rattle.file_refusals.specs.declared.writing.Writing.{Writing}
 use Rattle.file_refusals.specs.declared.writing.Writing.the-variants.{Written, Refused}
-use Rattle.file_refusals.specs.Writing.{writtenInto}
 use Rattle.network.specs.declared.answer.Opening.{Opening}
 use Rattle.network.specs.declared.answer.Opening.the-variants as opening
-use Rattle.network.specs.Network.{Network}
-use Rattle.network.specs.Decode.{decode}
-use Rattle.network.specs.Numbers.{NetworkNumber, validated-numbers}
+use Rattle.network.specs.{Network.Network, Decode.decode, Numbers.NetworkNumber, Numbers.validated-numbers}
 use Rattle.network.specs.Validate.{validated}
-use Rattle.plan.specs.PlanDecode.{pointTotal}
-use Rattle.plan.specs.PlanLimits.{mostProfilePoints}
+use Rattle.plan.specs.{PlanDecode.pointTotal, PlanLimits.mostProfilePoints}
 use Rattle.plan_made.specs.File.{madePlan, madeFile}
 use Rattle.toward_list.specs.Work.{workSize}
 use Rattle.plan_make.specs.Make.{madeInto, madeWith, madeOver, making}

@@ -1,30 +1,22 @@
 -- What Make plan promises: where it answers a length, so many lent bytes are a plan's file, which is the plan
 -- that is made of the network, and the check accepts it (`made-plan`).
-use mathlib.Core.Path.{_≡_, refl, sym, _∙_, ap}
-use mathlib.Core.List.{List}
+use mathlib.Core.{Path._≡_, Path.refl, Path.sym, Path._∙_, Path.ap, List.List}
 use Prim.Native.Nat.{ℕ, _≤_}
 use native.Mathlib.Omega.{arith}
-use lib.Dec.{ltb}
-use lib.ListN.{length, take, drop}
-use lib.Seq.{take-at}
+use lib.{Dec.ltb, ListN.length, ListN.take, ListN.drop, Seq.take-at}
 use borrow.Author.Tests.{ltb-false}
 use Rattle.theory_loops.specs.Pick.{passed-by}
 use Rattle.file_fields.specs.Fields.{Bytes}
 use Rattle.file_refusals.specs.declared.Refusal.{Refusal}
-use Rattle.file_refusals.specs.declared.writing.Length.{Length}
-use Rattle.file_refusals.specs.declared.writing.Writing.{Writing}
+use Rattle.file_refusals.specs.declared.writing.{Length.Length, Writing.Writing}
 use Rattle.file_refusals.specs.declared.writing.Writing.the-variants.{Written, Refused}
-use Rattle.file_refusals.specs.Refusal.{refusal}
-use Rattle.file_refusals.specs.Writing.{writtenInto}
+use Rattle.file_refusals.specs.{Refusal.refusal, Writing.writtenInto}
 use Rattle.network.specs.declared.answer.Opening.{Opening}
 use Rattle.network.specs.declared.answer.Opening.the-variants as opening
 use Rattle.network.specs.declared.header.Header.{Header}
-use Rattle.network.specs.Network.{Network}
-use Rattle.network.specs.Decode.{decode}
-use Rattle.network.specs.Validate.{validated}
+use Rattle.network.specs.{Network.Network, Decode.decode, Validate.validated}
 use Rattle.network.specs.Valid.{ValidFile, valid-exactly}
-use Rattle.plan.specs.PlanDecode.{decodePlan, pointTotal}
-use Rattle.plan.specs.PlanLimits.{mostProfilePoints}
+use Rattle.plan.specs.{PlanDecode.decodePlan, PlanDecode.pointTotal, PlanLimits.mostProfilePoints}
 use Rattle.plan_check.specs.declared.answer.Checking.the-variants.{Accepted}
 use Rattle.plan_check.specs.CheckPlan.{checking}
 use Rattle.plan_made.specs.File.{madePlan, madeFile, made-decodes}

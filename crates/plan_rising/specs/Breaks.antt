@@ -1,8 +1,6 @@
 -- Where the ticks of a row of points do not rise: at every point of the row (`broken`), and as code finds it
 -- in points that stand side by side in a block.
-use mathlib.Core.Path.{_≡_}
-use mathlib.Core.Bool.{Bool}
-use mathlib.Core.List.{List}
+use mathlib.Core.{Path._≡_, Bool.Bool, List.List}
 use Prim.Native.Nat.{ℕ, _+_, _*_, _≤_, _<_}
 use native.Mathlib.Omega.{arith}
 use Rattle.theory_loops.specs.Count.{count, count-none, count-end, count-few, count-same}

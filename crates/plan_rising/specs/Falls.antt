@@ -1,8 +1,7 @@
 -- Whether a tick does not rise above the one before it, as code asks it of numbers of 16 bits: both are moved
 -- by half of those, so that the numbers below 2^15 stand above the others, as where numbers have a sign. That
 -- is one step for a processor, for some at once, and among ticks below 2^15 it is their own order.
-use mathlib.Core.Path.{_≡_, refl}
-use mathlib.Core.Bool.{Bool, true, false, cond}
+use mathlib.Core.{Path._≡_, Path.refl, Bool.Bool, Bool.true, Bool.false, Bool.cond}
 use Prim.Native.Nat.{ℕ, _+_, _%_, _≤_, _<_}
 use native.Mathlib.Omega.{arith}
 use lib.Dec.{leb, ltb}

@@ -1,32 +1,24 @@
 -- How far the blocks of a plan's points have been looked at, before block `done`: the blocks behind it have
 -- right checks and their form, and the breaks of their points are counted. A profile's points are reached by
 -- walking up to the block of its last.
-use mathlib.Core.Path.{_≡_, sym, _∙_}
-use mathlib.Core.Bool.{Bool, true, false, not}
-use mathlib.Core.List.{List}
+use mathlib.Core.{Path._≡_, Path.sym, Path._∙_, Bool.Bool, Bool.true, Bool.false, Bool.not, List.List}
 use Prim.Native.Nat.{ℕ, suc, _+_, _-_, _*_, _≤_, _<_, min}
-use native.Mathlib.Nat.{add-zero}
-use native.Mathlib.Omega.{arith}
-use lib.Dec.{lit<}
-use lib.ListN.{length}
-use borrow.Author.Count.{below-more}
-use borrow.Author.Tests.{not-false}
+use native.Mathlib.{Nat.add-zero, Omega.arith}
+use lib.{Dec.lit<, ListN.length}
+use borrow.Author.{Count.below-more, Tests.not-false}
 use Rattle.theory_loops.specs.Count.{count, count-none, count-few}
 use Rattle.theory_breaks.specs.Tally.{flag, before, tally-block}
-use Rattle.file_fields.specs.Block.{blockSize, headSize}
-use Rattle.file_fields.specs.Fields.{le16}
+use Rattle.file_fields.specs.{Block.blockSize, Block.headSize, Fields.le16}
 use Rattle.file_blocks.specs.Kind.{profilePointKind, profilePointSize, profilePointPer}
 use Rattle.file_blocks.specs.Place.{blocks, entriesIn, offset-at, index-below, block-used, block-in}
 use Rattle.file_blocks.specs.Place.{block-starts, block-fits}
-use Rattle.file_blocks.specs.SoundBlock.{soundBlock}
+use Rattle.file_forms.specs.SoundBlock.{soundBlock}
 use Rattle.plan.specs.declared.header.PlanLayout.{PlanLayout}
-use Rattle.plan.specs.Plan.{Plan}
-use Rattle.plan.specs.PlanLimits.{mostProfilePoints, mostPlanBytes}
+use Rattle.plan.specs.{Plan.Plan, PlanLimits.mostProfilePoints, PlanLimits.mostPlanBytes}
 use Rattle.plan.specs.PlanDecode.{decodePlan, PlanLaid, pointTick, plan-small}
 use Rattle.plan.specs.PlanDecode.{points-stored, laid-plan, tick-is}
 use Rattle.plan_rising.specs.declared.progress.Progress.{Progress}
-use Rattle.plan_rising.specs.Falls.{falls}
-use Rattle.plan_rising.specs.Breaks.{broken, fallsAt, breakAt}
+use Rattle.plan_rising.specs.{Falls.falls, Breaks.broken, Breaks.fallsAt, Breaks.breakAt}
 
 -- block j of the points has a right check and its form
 abbrev pub pointsSound : List ℕ → PlanLayout → ℕ → Bool

@@ -1,40 +1,29 @@
 -- Whether a plan keeps the rules 18 and 19, yes or no: where each profile's count is no more than the ticks,
 -- its points begin at tick 0 and end below the period, the counts add up, and the ticks fail to rise at no
 -- more points than there are profiles with points, no rule is broken.
-use mathlib.Core.Path.{_≡_, refl, sym, _∙_}
-use mathlib.Core.Bool.{Bool, true, false}
-use mathlib.Core.List.{List}
+use mathlib.Core.{Path._≡_, Path.refl, Path.sym, Path._∙_, Bool.Bool, Bool.true, Bool.false, List.List}
 use Prim.Native.Nat.{ℕ, zero, suc, _+_, _-_, _*_, _≤_, _<_, min}
-use native.Mathlib.Nat.{le-of-lt, lt-of-lt-of-le, add-zero}
-use native.Mathlib.Numerals.{add-one}
-use native.Mathlib.Omega.{arith}
+use native.Mathlib.{Nat.le-of-lt, Nat.lt-of-lt-of-le, Nat.add-zero, Numerals.add-one, Omega.arith}
 use lib.Dec.{ltb, eqb}
-use borrow.Author.Count.{below-more}
-use borrow.Author.Tests.{ltb-true, le-ltb, eq-eqb, eqb-true}
+use borrow.Author.{Count.below-more, Tests.ltb-true, Tests.le-ltb, Tests.eq-eqb, Tests.eqb-true}
 use Rattle.theory_loops.specs.Count as Count
-use Rattle.theory_loops.specs.First.{first, all-clear}
-use Rattle.theory_loops.specs.Pick.{past-first}
+use Rattle.theory_loops.specs.{First.first, First.all-clear, Pick.past-first}
 use Rattle.theory_loops.specs.Total.{total, total-none, total-more}
-use Rattle.theory_breaks.specs.Tally.{flag, before, tally-more}
-use Rattle.theory_breaks.specs.Breaks.{Begun, only-first}
-use Rattle.theory_travel.specs.Day.{Day}
-use Rattle.theory_travel.specs.Points.{climbs}
-use Rattle.theory_travel.specs.Table.{entryAt, entry-first}
+use Rattle.theory_breaks.specs.{Tally.flag, Tally.before, Tally.tally-more, Breaks.Begun, Breaks.only-first}
+use Rattle.theory_travel.specs.{Day.Day, Points.climbs, Table.entryAt, Table.entry-first}
 use Rattle.theory_travel.specs.Ticks.{badTick, ticks-day}
 use Rattle.file_blocks.specs.Kind.{profilePointKind, profilePointPer, profilePointSize}
 use Rattle.file_blocks.specs.Place.{blocks}
-use Rattle.file_blocks.specs.SoundBlock.{RunSound}
+use Rattle.file_forms.specs.SoundBlock.{RunSound}
 use Rattle.file_blocks.specs.declared.walk.Walk.{Walk}
 use Rattle.file_refusals.specs.declared.Judged.the-variants.{Sound}
 use Rattle.file_refusals.specs.Refusal.{faulty}
 use Rattle.plan.specs.declared.header.PlanLayout.{PlanLayout}
-use Rattle.plan.specs.Plan.{Plan, pointCount, pointStart, pointTicks}
+use Rattle.plan.specs.{Plan.Plan, Plan.pointCount, Plan.pointStart, Plan.pointTicks, PlanWalk.countAt}
 use Rattle.plan.specs.PlanDecode.{decodePlan, PlanLaid, pointTick, pointTotal, plan-sizes, plan-small}
-use Rattle.plan.specs.PlanWalk.{countAt}
 use Rattle.plan.specs.PlanRules.{badCount, badProfile, firstBadPoint, judgedTicks, judgedSum, judgedCounts}
 use Rattle.plan_rising.specs.declared.progress.Progress.{Progress}
-use Rattle.plan_rising.specs.Falls.{half, falls, rises, zero-falls}
-use Rattle.plan_rising.specs.Breaks.{broken}
+use Rattle.plan_rising.specs.{Falls.half, Falls.falls, Falls.rises, Falls.zero-falls, Breaks.broken}
 use Rattle.plan_rising.specs.Progress.{Walked, WalkedTo}
 
 -- m points from number `from` on, with these ticks: no more than the period has ticks, in the file, the first

@@ -3,8 +3,8 @@
 //   words     the same by words, where the block is full
 //   progress  the blocks of the points, each looked at once
 //   rising    the profiles, and the answer
-// It may call `file_fields`, `file_blocks` and `plan`, and cites `theory_loops`, `theory_breaks`,
-// `theory_travel` and `file_refusals`. The file is read in place.
+// It may call `file_fields`, `file_blocks`, `file_forms` and `plan`, and cites `theory_loops`,
+// `theory_breaks`, `theory_travel` and `file_refusals`. The file is read in place.
 mod breaks;
 mod progress;
 pub mod rising;

@@ -1,38 +1,25 @@
 -- The two rounds over the borders, for the code: what its tables hold (`Tables`), what the first round counts
 -- (`Counted`), and what the second has put after the first i borders (`PutTo`). Each border's rows of least
 -- travels have the points of its profiles in the plan that is made.
-use mathlib.Core.Path.{_≡_, refl, sym, _∙_, ap}
-use mathlib.Core.Logic.{_≢_}
-use mathlib.Core.Bool.{true}
-use mathlib.Core.List.{List}
+use mathlib.Core.{Path._≡_, Path.refl, Path.sym, Path._∙_, Path.ap, Logic._≢_, Bool.true, List.List}
 use Prim.Native.Nat.{ℕ, _+_, _-_, _*_, _≤_, _<_}
-use native.Mathlib.Nat.{mul-le-mul, mul-le-mul-right}
-use native.Mathlib.Omega.{arith}
-use native.Mathlib.Decide.{ℕ-discrete}
+use native.Mathlib.{Nat.mul-le-mul, Nat.mul-le-mul-right, Omega.arith, Decide.ℕ-discrete}
 use lib.ListN.{length, getD}
-use Rattle.theory_loops.specs.Count.{count, count-same}
+use Rattle.theory_loops.specs.{Count.count, Count.count-same, Grid.gridAt, Grid.grid-in}
 use Rattle.theory_loops.specs.Total.{total, total-add, total-same, total-up, total-none}
-use Rattle.theory_loops.specs.Grid.{gridAt, grid-in}
-use Rattle.theory_paths.specs.Partition.{Partition}
-use Rattle.theory_paths.specs.Earliest.{never}
+use Rattle.theory_paths.specs.{Partition.Partition, Earliest.never}
 use Rattle.theory_travel.specs.Table.{entryAt}
 use Rattle.theory_travel.specs.Turns.{turns, turns-same, turn-count-same, turn-at, turn-rank}
 use Rattle.network.specs.declared.header.Layout.{Layout}
-use Rattle.network.specs.Limits.{mostNodes, mostPeriod}
-use Rattle.network.specs.Network.{Network, nodes}
-use Rattle.network.specs.Decode.{decode, Small}
-use Rattle.network.specs.Town.{graphOf, partitionOf}
+use Rattle.network.specs.{Limits.mostNodes, Limits.mostPeriod, Network.Network, Network.nodes}
+use Rattle.network.specs.{Decode.decode, Decode.Small, Town.graphOf, Town.partitionOf}
 use Rattle.search_chains.specs.Town.{Town}
 use Rattle.plan.specs.declared.header.PlanLayout.{PlanLayout}
-use Rattle.plan.specs.Border.{borderCount, borderAt, Listed}
-use Rattle.plan.specs.Borders.{at-node}
-use Rattle.plan.specs.PlanLimits.{mostProfilePoints, mostProfiles}
-use Rattle.plan.specs.PlanMatch.{borders-few}
-use Rattle.plan_encode.specs.Places.{PlanRoom}
-use Rattle.plan_encode.specs.PlanWritten.{Entered}
+use Rattle.plan.specs.{Border.borderCount, Border.borderAt, Border.Listed, Borders.at-node}
+use Rattle.plan.specs.{PlanLimits.mostProfilePoints, PlanLimits.mostProfiles, PlanMatch.borders-few}
+use Rattle.plan_encode.specs.{Places.PlanRoom, PlanWritten.Entered}
 use Rattle.plan_encode.specs.PlanWritten as written
-use Rattle.toward_list.specs.Leasts.{Leasts}
-use Rattle.toward_list.specs.Rows.{Worked}
+use Rattle.toward_list.specs.{Leasts.Leasts, Rows.Worked}
 use Rattle.toward_node.specs.Turn.{Ready, modest}
 use Rattle.toward_start.specs.Start.{known-row, known-small}
 use Rattle.plan_flags.specs.Words.{Flags, FlagsAfter}

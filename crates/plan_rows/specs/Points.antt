@@ -1,22 +1,16 @@
 -- The points of one row in a plan's file, put from a place on, part by part of the day (`PutPoints`), and the
 -- laws by which the parts are joined.
-use mathlib.Core.Path.{_≡_, refl, _∙_}
-use mathlib.Core.Logic.{_≢_}
-use mathlib.Core.Bool.{Bool, true}
-use mathlib.Core.List.{List}
+use mathlib.Core.{Path._≡_, Path.refl, Path._∙_, Logic._≢_, Bool.Bool, Bool.true, List.List}
 use Prim.Native.Nat.{ℕ, _+_, _-_, _*_, _≤_, _<_}
 use native.Mathlib.Omega.{arith}
 use lib.ListN.{length, getD}
 use Rattle.theory_loops.specs.Count.{count-none, count-grows, count-rises, count-yes, count-passes}
 use Rattle.theory_travel.specs.Turns.{turns, turnCount, turn-start}
 use Rattle.file_fields.specs.Put.{put}
-use Rattle.file_blocks.specs.Kind.{profilePointPer, profilePointSize}
-use Rattle.file_blocks.specs.Place.{offset}
+use Rattle.file_blocks.specs.{Kind.profilePointPer, Kind.profilePointSize, Place.offset}
 use Rattle.plan.specs.declared.header.PlanLayout.{PlanLayout}
-use Rattle.plan.specs.Plan.{Plan}
-use Rattle.plan.specs.PlanDecode.{pointTick, pointTravel}
-use Rattle.plan_encode.specs.Places.{PlanRoom}
-use Rattle.plan_encode.specs.PlanWritten.{Entered}
+use Rattle.plan.specs.{Plan.Plan, PlanDecode.pointTick, PlanDecode.pointTravel}
+use Rattle.plan_encode.specs.{Places.PlanRoom, PlanWritten.Entered}
 use Rattle.plan_encode.specs.PlanWritten as written
 use Rattle.toward_points.specs.Row.{entryOf, pointsBefore, differ, turned-next, turned-last}
 
@@ -43,11 +37,7 @@ module _ {k : PlanLayout} {row : List ℕ} where
   -- a part without a point
   pub put-none : {a b q : ℕ} {s : List ℕ} → pointsBefore row b ≡ pointsBefore row a
       → PutPoints k row a b q s s q
-  put-none e = record {
-    next = omega arith;
-    long = refl;
-    entered = λ p from h z c₀ q₀ s₀ c n. n;
-  }
+  put-none e = record { next = omega arith; long = refl; entered = λ p from h z c₀ q₀ s₀ c n. n }
 
   -- one point
   pub put-one : {x q v : ℕ} {s t : List ℕ} → x < length row → isPoint row x ≡ true → q < k .points

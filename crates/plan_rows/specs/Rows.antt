@@ -1,29 +1,20 @@
 -- The points of all rows of a border: how many a row has (`rowPoints`), and what it is to have put them and
 -- their counts into a plan's file, for one row (`RowPut`) and for all (`RowsPut`).
-use mathlib.Core.Path.{_≡_, refl, sym, _∙_}
-use mathlib.Core.Logic.{_≢_}
-use mathlib.Core.Bool.{true, cond}
-use mathlib.Core.List.{List}
+use mathlib.Core.{Path._≡_, Path.refl, Path.sym, Path._∙_, Logic._≢_, Bool.true, Bool.cond, List.List}
 use Prim.Native.Nat.{ℕ, _+_, _-_, _*_, _^_, _≤_, _<_}
-use native.Mathlib.Omega.{arith}
-use native.Mathlib.Decide.{ℕ-discrete}
-use lib.ListN.{length, getD, take, drop}
-use lib.Dec.{eqb}
+use native.Mathlib.{Omega.arith, Decide.ℕ-discrete}
+use lib.{ListN.length, ListN.getD, ListN.take, ListN.drop, Dec.eqb}
 use borrow.Author.Tests.{eq-eqb, ne-eqb}
-use Rattle.theory_loops.specs.Count.{count, count-same}
+use Rattle.theory_loops.specs.{Count.count, Count.count-same, Grid.gridAt}
 use Rattle.theory_loops.specs.Total.{total, total-most, total-more, total-part}
-use Rattle.theory_loops.specs.Grid.{gridAt}
 use Rattle.theory_paths.specs.Earliest.{never}
 use Rattle.theory_travel.specs.Turns.{turns, turnCount, turns-few, turns-same, turn-count-same}
 use Rattle.file_fields.specs.Put.{put}
-use Rattle.file_blocks.specs.Kind.{countPer, countSize}
-use Rattle.file_blocks.specs.Place.{offset}
+use Rattle.file_blocks.specs.{Kind.countPer, Kind.countSize, Place.offset}
 use Rattle.network.specs.Limits.{mostPeriod}
 use Rattle.plan.specs.declared.header.PlanLayout.{PlanLayout}
-use Rattle.plan.specs.Plan.{Plan, pointCount}
-use Rattle.plan.specs.PlanDecode.{pointTick, pointTravel}
-use Rattle.plan_encode.specs.Places.{PlanRoom}
-use Rattle.plan_encode.specs.PlanWritten.{Entered}
+use Rattle.plan.specs.{Plan.Plan, Plan.pointCount, PlanDecode.pointTick, PlanDecode.pointTravel}
+use Rattle.plan_encode.specs.{Places.PlanRoom, PlanWritten.Entered}
 use Rattle.plan_encode.specs.PlanWritten as written
 use Rattle.toward_points.specs.Row.{entryOf, Low, pointsBefore}
 use Rattle.toward_list.specs.Rows.{row-long, row-entry}

@@ -1,25 +1,15 @@
 -- The laws by which code comes to the test 20 at an arc, and what the tests at a border rest on.
-use mathlib.Core.Path.{_≡_}
-use mathlib.Core.Logic.{_≢_}
-use mathlib.Core.Bool.{Bool, false, not}
-use mathlib.Core.List.{List}
+use mathlib.Core.{Path._≡_, Logic._≢_, Bool.Bool, Bool.false, Bool.not, List.List}
 use Prim.Native.Nat.{ℕ, _<_}
 use native.Mathlib.Omega.{arith}
 use borrow.Author.Tests.{eq-eqb, ne-eqb}
 use Rattle.theory_paths.specs.Partition.{Partition}
 use Rattle.network.specs.declared.header.Layout.{Layout}
-use Rattle.network.specs.Limits.{mostCells}
-use Rattle.network.specs.Network.{cell, tail}
-use Rattle.network.specs.Decode.{decode}
-use Rattle.search_chains.specs.Chain.{Chained}
-use Rattle.search_chains.specs.Town.{Town}
-use Rattle.plan_tests.specs.declared.tests.Layouts.{Layouts}
-use Rattle.plan_tests.specs.declared.tests.Target.{Target}
-use Rattle.plan.specs.Border.{tailCell, headCell}
-use Rattle.plan.specs.Plan.{Plan, bit}
-use Rattle.plan.specs.PlanDecode.{flagWord}
-use Rattle.plan_tests.specs.Tests.{fails20}
-use Rattle.plan_tests.specs.Giving.{Prepared}
+use Rattle.network.specs.{Limits.mostCells, Network.cell, Network.tail, Decode.decode}
+use Rattle.search_chains.specs.{Chain.Chained, Town.Town}
+use Rattle.plan_tests.specs.declared.tests.{Layouts.Layouts, Target.Target}
+use Rattle.plan.specs.{Border.tailCell, Border.headCell, Plan.Plan, Plan.bit, PlanDecode.flagWord}
+use Rattle.plan_tests.specs.{Tests.fails20, Giving.Prepared}
 
 -- 20, of arc a from t to h, whose cells are d and c
 module _ (G : Partition) (p : Plan) (a : ℕ) {t h d c : ℕ} (from : t ≡ G .graph .tail a)

@@ -1,9 +1,7 @@
 -- How many finds the check may make. A FIND is one piece of a day, from a point to the next, looked up and
 -- divided by its width; the day of a road or of a profile has as many as it has points. `allowed` is document
 -- 02's bound for a border and one test; the rest is what one pass for all tests comes to.
-use mathlib.Core.Path.{_≡_, _∙_, ap}
-use mathlib.Core.Bool.{cond}
-use mathlib.Core.List.{List}
+use mathlib.Core.{Path._≡_, Path._∙_, Path.ap, Bool.cond, List.List}
 use Prim.Native.Nat.{ℕ, _+_, _*_, _≤_, _<_}
 use native.Mathlib.Omega.{arith}
 use lib.Dec.{eqb}
@@ -11,9 +9,7 @@ use Rattle.theory_loops.specs.Total.{total, total-same, total-most}
 use Rattle.theory_loops.specs.Sums.{total-plus, total-swap, total-one}
 use Rattle.network.specs.Network.{Network, nodes, arcs, tail, head, count, start}
 use Rattle.network.specs.Decode.{decode}
-use Rattle.plan.specs.Plan.{Plan, pointCount}
-use Rattle.plan.specs.PlanDecode.{decodePlan}
-use Rattle.plan.specs.PlanLimits.{mostProfilePoints}
+use Rattle.plan.specs.{Plan.Plan, Plan.pointCount, PlanDecode.decodePlan, PlanLimits.mostProfilePoints}
 use Rattle.plan_values.specs.Formed.{profile-in, profile-points}
 use Rattle.plan_tests.specs.declared.tests.Layouts.{Layouts}
 use Rattle.plan_tests.specs.Checkable.{Checkable}

@@ -1,18 +1,15 @@
 -- What each of the tests 20 to 24 says where it fails nowhere: 20 is rule (a) (`inside-exactly`), 21 to 23
 -- that every border's profile is right by what its arcs give (`local-exactly`), and then 24 that flagged arcs
 -- give its numbers (`flags-exactly`).
-use mathlib.Core.Path.{_≡_, refl, sym, _∙_, ap}
-use mathlib.Core.Logic.{_↔_, _≢_}
+use mathlib.Core.{Path._≡_, Path.refl, Path.sym, Path._∙_, Path.ap, Logic._↔_, Logic._≢_}
 use mathlib.Core.Bool.{Bool, true, false, not, and-eq-true-iff}
 use Prim.Native.Nat.{ℕ, _+_, _%_, _≤_, _<_}
 use native.Mathlib.Omega.{arith}
 use borrow.Author.Tests.{ltb-false, eqb-true, eqb-false, not-true, not-false, le-ltb, eq-eqb, ne-eqb}
-use Rattle.theory_loops.specs.First.{any-clear, any-found, yes-any}
-use Rattle.theory_loops.specs.Pick.{and-clear}
+use Rattle.theory_loops.specs.{First.any-clear, First.any-found, First.yes-any, Pick.and-clear}
 use Rattle.theory_paths.specs.Graph.{Graph, Lawful, Permit, all, ArcFrom}
 use Rattle.theory_paths.specs.Profiles.{Travel, unreachable, ticks, Profile, AtMost, plus, gives, Attained}
-use Rattle.theory_paths.specs.Profiles.{LocalProfile}
-use Rattle.theory_paths.specs.Flags.{Border, flagged, FlaggedInside}
+use Rattle.theory_paths.specs.{Profiles.LocalProfile, Flags.Border, Flags.flagged, Flags.FlaggedInside}
 use Rattle.theory_paths.specs.Partition.{Partition}
 use Rattle.plan.specs.Border.{headCell, borderCount, borderAt}
 use Rattle.plan.specs.Borders.{at-node, every-border}

@@ -5,8 +5,7 @@ use mathlib.Core.Bool.{Bool, cond, not, _&&_}
 use Prim.Native.Nat.{ℕ}
 use lib.Dec.{eqb}
 use Rattle.theory_loops.specs.First.{any}
-use Rattle.theory_paths.specs.Graph.{Permit, all}
-use Rattle.theory_paths.specs.Partition.{Partition}
+use Rattle.theory_paths.specs.{Graph.Permit, Graph.all, Partition.Partition}
 use Rattle.theory_paths.specs.Profiles.{Travel, ticks, gives}
 use Rattle.plan.specs.Border.{tailCell, headCell, borderAt}
 use Rattle.plan.specs.Plan.{Plan, flag, towards, profile}

@@ -1,38 +1,29 @@
 -- A plan file that is laid out as its header says, and is well-formed, part by part as code asks for it: the
 -- blocks before the points, the flag words, and the points with their counts (`Risen` of `plan_rising`).
-use mathlib.Core.Path.{_≡_, refl, sym, _∙_, ap}
-use mathlib.Core.Bool.{true, and-eq-true-iff}
+use mathlib.Core.{Path._≡_, Path.refl, Path.sym, Path._∙_, Path.ap, Bool.true, Bool.and-eq-true-iff}
 use mathlib.Core.List.{List}
 use Prim.Native.Nat.{ℕ, _+_, _≤_}
 use native.Mathlib.Omega.{arith}
 use lib.Dec.{leb, eqb}
 use borrow.Author.Tests.{leb-true, eqb-true}
-use Rattle.theory_loops.specs.First.{first, first-le, clear}
-use Rattle.theory_loops.specs.Pick.{rung-clear}
+use Rattle.theory_loops.specs.{First.first, First.first-le, First.clear, Pick.rung-clear}
 use Rattle.file_fields.specs.Fields.{le16}
 use Rattle.file_blocks.specs.Kind.{flagKind, flagPer, flagSize, countKind, countPer, countSize}
 use Rattle.file_blocks.specs.Kind.{profilePointKind, profilePointPer, profilePointSize, planKind, planSize}
 use Rattle.file_blocks.specs.Place.{blocks}
-use Rattle.file_blocks.specs.Form.{formed, unformed, RunFormed, run-formed}
-use Rattle.file_blocks.specs.Read.{bad}
-use Rattle.file_blocks.specs.SoundBlock.{sound-formed, sound-sums}
+use Rattle.file_forms.specs.Form.{formed, unformed, RunFormed, run-formed}
+use Rattle.file_forms.specs.{Read.bad, SoundBlock.sound-formed, SoundBlock.sound-sums}
 use Rattle.file_refusals.specs.Refusal.{faulty}
 use Rattle.file_refusals.specs.declared.Judged.the-variants.{Sound}
 use Rattle.network.specs.declared.header.Header.{Header}
-use Rattle.network.specs.Decode.{decode}
-use Rattle.network.specs.Town.{partitionOf}
-use Rattle.network.specs.Valid.{ValidFile}
-use Rattle.plan.specs.declared.header.PlanHeader.{PlanHeader}
-use Rattle.plan.specs.declared.header.PlanLayout.{PlanLayout}
-use Rattle.plan.specs.Border.{borderCount}
-use Rattle.plan.specs.PlanHeader.{planHeaderAt}
-use Rattle.plan.specs.PlanLayout.{planLayoutOf}
-use Rattle.plan.specs.PlanDecode.{decodePlan, PlanLaid, laid-plan}
+use Rattle.network.specs.{Decode.decode, Town.partitionOf, Valid.ValidFile}
+use Rattle.plan.specs.declared.header.{PlanHeader.PlanHeader, PlanLayout.PlanLayout}
+use Rattle.plan.specs.{Border.borderCount, PlanHeader.planHeaderAt, PlanLayout.planLayoutOf}
+use Rattle.plan.specs.{PlanDecode.decodePlan, PlanDecode.PlanLaid, PlanDecode.laid-plan, PlanValid.ValidPlan}
 use Rattle.plan.specs.PlanRules.{badFlags, judgedFlags, judgedBy}
 use Rattle.plan.specs.PlanValidate.{firstFormed, matching, flags-end, counts-end, points-end}
 use Rattle.plan.specs.PlanMatch.{Matches, matching-matches, judged-same, valid-headed}
 use Rattle.plan.specs.WellFormed.{well-formed-exactly}
-use Rattle.plan.specs.PlanValid.{ValidPlan}
 use Rattle.plan_rising.specs.Rising.{Risen}
 
 -- the blocks before the points have right checks, and those after the first their form

@@ -1,16 +1,12 @@
 // Validation of a plan file against a network file that has been validated: refusals 11 to 19, in place. A
 // file that is well-formed is told by one pass over it (well_formed.rt); in any other each fault is looked
 // for as the first in its order. Nothing is copied, and every call ends at the first refusal.
-use crate::header::header_at;
-use crate::header::is_first_formed;
-use crate::header::is_matching;
-use crate::rules::judge_plan;
 use crate::well_formed::is_well_formed;
-use file_blocks::form::first_unformed;
-use file_blocks::form::is_bad_length;
 use file_blocks::kind;
-use file_blocks::reader::first_bad_sum;
 use file_fields::BLOCK;
+use file_forms::form::first_unformed;
+use file_forms::form::is_bad_length;
+use file_forms::reader::first_bad_sum;
 use file_refusals::Judged;
 use file_refusals::number;
 use network::header::Header;
@@ -19,6 +15,10 @@ use plan::answer::refused;
 use plan::header::PlanHeader;
 use plan::header::PlanLayout;
 use plan::limits;
+use plan_rules::header::header_at;
+use plan_rules::header::is_first_formed;
+use plan_rules::header::is_matching;
+use plan_rules::rules::judge_plan;
 ghost use mathlib.Core.Path.{_≡_};
 ghost use Prim.Native.Nat.{_+_, _*_, _≤_};
 ghost use lib.ListN.{length};

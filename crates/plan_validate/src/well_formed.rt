@@ -1,17 +1,17 @@
 // Whether a file is a well-formed plan for a network that opens, yes or no: what a good file is asked. The
 // blocks of points, which are nearly all of it, are gone over once. Where the answer is no, validate.rt finds
 // the refusal and its place.
-use crate::header::header_at;
-use crate::header::is_first_formed;
-use crate::header::is_matching;
-use crate::rules::first_bad_word;
-use file_blocks::form::first_unformed;
 use file_blocks::kind;
-use file_blocks::sound::first_bad_before;
 use file_fields::BLOCK;
+use file_forms::form::first_unformed;
+use file_forms::sound::first_bad_before;
 use network::header::Header;
 use plan::header::PlanLayout;
 use plan_rising::rising::is_rising;
+use plan_rules::header::header_at;
+use plan_rules::header::is_first_formed;
+use plan_rules::header::is_matching;
+use plan_rules::rules::first_bad_word;
 ghost use mathlib.Core.Path.{_≡_};
 ghost use mathlib.Core.Bool.{true};
 ghost use Prim.Native.Nat.{_≤_};

@@ -1,7 +1,6 @@
 -- What every reader of profiles rests on: a plan file whose profiles are formed as 17 to 19 ask. From it: the
 -- points of a profile stand among the points.
-use mathlib.Core.Path.{_≡_}
-use mathlib.Core.List.{List}
+use mathlib.Core.{Path._≡_, List.List}
 use Prim.Native.Nat.{ℕ, _+_, _*_, _≤_, _<_}
 use native.Mathlib.Omega.{arith}
 use lib.Arith.{digits-lt}

@@ -1,18 +1,13 @@
 -- Where the profiles of one border start among the points: a table that is filled once for each border, from
 -- where the border before it ended.
-use mathlib.Core.Path.{_≡_, _∙_}
-use mathlib.Core.List.{List}
+use mathlib.Core.{Path._≡_, Path._∙_, List.List}
 use Prim.Native.Nat.{ℕ, _+_, _*_, _≤_, _<_}
-use native.Mathlib.Nat.{add-zero}
-use native.Mathlib.Omega.{arith}
-use mir.Val.{Fits}
-use mir.Syntax.{w32, w64}
+use native.Mathlib.{Nat.add-zero, Omega.arith}
+use mir.{Val.Fits, Syntax.w32, Syntax.w64}
 use lib.ListN.{getD}
-use Rattle.theory_loops.specs.Fill.{Filled}
-use Rattle.theory_loops.specs.Total.{total-more}
+use Rattle.theory_loops.specs.{Fill.Filled, Total.total-more}
 use Rattle.plan.specs.declared.header.PlanLayout.{PlanLayout}
-use Rattle.plan.specs.PlanLimits.{mostProfilePoints}
-use Rattle.plan.specs.Plan.{Plan, pointCount, pointStart}
+use Rattle.plan.specs.{PlanLimits.mostProfilePoints, Plan.Plan, Plan.pointCount, Plan.pointStart}
 use Rattle.plan.specs.PlanDecode.{decodePlan}
 use Rattle.plan_values.specs.Formed.{Formed, profile-points, profile-in}
 

@@ -1,12 +1,10 @@
 -- The numbers of a profile with points over the day, by the points that its readers found in the file.
-use mathlib.Core.Path.{_≡_, sym, _∙_}
-use mathlib.Core.List.{List}
+use mathlib.Core.{Path._≡_, Path.sym, Path._∙_, List.List}
 use Prim.Native.Nat.{ℕ, _+_, _≤_, _<_}
 use native.Mathlib.Omega.{arith}
 use borrow.Author.Tests.{eq-eqb, ne-eqb}
 use Rattle.theory_paths.specs.Profiles.{unreachable, ticks}
-use Rattle.theory_travel.specs.Day.{Day, dayValue}
-use Rattle.theory_travel.specs.Table.{entryAt, valueAt}
+use Rattle.theory_travel.specs.{Day.Day, Day.dayValue, Table.entryAt, Table.valueAt}
 use Rattle.plan.specs.declared.header.PlanLayout.{PlanLayout}
 use Rattle.plan.specs.Plan.{Plan, pointCount, pointStart, pointTicks, pointTravels, profileValue}
 use Rattle.plan.specs.PlanDecode.{decodePlan}

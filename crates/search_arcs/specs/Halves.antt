@@ -3,9 +3,7 @@
 -- `theory_travel`, whose second end follows from the two.
 use mathlib.Core.Path.{_≡_, refl}
 use Prim.Native.Nat.{ℕ, suc, _+_, _-_, _/_, _≤_, _<_}
-use native.Mathlib.Decide.{decLt}
-use native.Mathlib.Nat.{mod-eq-of-lt}
-use native.Mathlib.Omega.{arith}
+use native.Mathlib.{Decide.decLt, Nat.mod-eq-of-lt, Omega.arith}
 use lib.Bits.{bitAnd, and-comm, and-shifted, and-mask}
 use Rattle.theory_travel.specs.Search.{Sorted, Last, Between, between-start, between-end}
 

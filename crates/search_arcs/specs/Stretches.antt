@@ -1,14 +1,11 @@
 -- The stretch of an arc's points that has the segment of a tick: the arc's points are passed block by block
 -- (`Passed`) up to it (`Reaching`), and its segment, counted from the stretch's first point, is the arc's.
-use mathlib.Core.Path.{_≡_, refl}
-use mathlib.Core.List.{List}
+use mathlib.Core.{Path._≡_, Path.refl, List.List}
 use Prim.Native.Nat.{ℕ, suc, _+_, _-_, _≤_, _<_, min}
-use native.Mathlib.Decide.{decLt}
-use native.Mathlib.Omega.{arith}
+use native.Mathlib.{Decide.decLt, Omega.arith}
 use lib.ListN.{getD}
 use Rattle.theory_travel.specs.Search.{Sorted, Last, Between, between-start, between-end}
-use Rattle.theory_travel.specs.Line.{line}
-use Rattle.theory_travel.specs.Day.{to-next, to-first}
+use Rattle.theory_travel.specs.{Line.line, Day.to-next, Day.to-first}
 use Rattle.theory_travel.specs.Table.{entryAt, valueAt, entry-start}
 use Rattle.network.specs.declared.header.Layout.{Layout}
 use Rattle.network.specs.declared.points.Stretch.{Stretch}

@@ -1,23 +1,16 @@
 -- The laws by which code reads when an arc ends: where the arc's points start, that they are a day's points,
 -- and the travel on their line. Also what fits: first points 16 bits, travels and arrivals 32, with never to
 -- spare.
-use mathlib.Core.Path.{_≡_, refl, sym, _∙_}
-use mathlib.Core.List.{List}
+use mathlib.Core.{Path._≡_, Path.refl, Path.sym, Path._∙_, List.List}
 use Prim.Native.Nat.{ℕ, _+_, _-_, _%_, _≤_, _<_}
-use native.Mathlib.Nat.{mod-lt, mod-eq-of-lt}
-use native.Mathlib.Omega.{arith}
+use native.Mathlib.{Nat.mod-lt, Nat.mod-eq-of-lt, Omega.arith}
 use lib.ListN.{length, getD}
-use mir.Val.{Fits}
-use mir.Syntax.{w32, w64}
+use mir.{Val.Fits, Syntax.w32, Syntax.w64}
 use Rattle.theory_loops.specs.Total.{total, total-part, total-more}
-use Rattle.theory_paths.specs.Graph.{ends}
-use Rattle.theory_paths.specs.Earliest.{never}
-use Rattle.theory_travel.specs.Day.{Day}
-use Rattle.theory_travel.specs.Table.{entryAt, valueAt}
-use Rattle.network.specs.Limits.{mostPeriod}
+use Rattle.theory_paths.specs.{Graph.ends, Earliest.never}
+use Rattle.theory_travel.specs.{Day.Day, Table.entryAt, Table.valueAt}
+use Rattle.network.specs.{Limits.mostPeriod, Network.Network, Network.count, Network.start, Decode.decode}
 use Rattle.network.specs.declared.header.Layout.{Layout}
-use Rattle.network.specs.Network.{Network, count, start}
-use Rattle.network.specs.Decode.{decode}
 use Rattle.network.specs.Town.{graphOf, travelAt, town-bounded}
 use Rattle.search_chains.specs.Town.{Town, lastTick}
 

@@ -1,18 +1,13 @@
 -- The tables by which the arcs at a node are walked in rising order: each node's first arc, and after each
 -- arc the next one at the same node. Said once for both ends of an arc: `end` is its tail for the arcs out of
 -- a node, and its head for the arcs into it.
-use mathlib.Core.Path.{_≡_, sym}
-use mathlib.Core.Logic.{_≢_}
-use mathlib.Core.Bool.{Bool, false}
-use mathlib.Core.List.{List}
+use mathlib.Core.{Path._≡_, Path.sym, Logic._≢_, Bool.Bool, Bool.false, List.List}
 use Prim.Native.Nat.{ℕ, _+_, _-_, _≤_, _<_}
-use native.Mathlib.Decide.{ℕ-discrete, decLe}
-use native.Mathlib.Omega.{arith}
+use native.Mathlib.{Decide.ℕ-discrete, Decide.decLe, Omega.arith}
 use lib.ListN.{length, getD, set, replicate, length-set, length-replicate, getD-replicate}
 use lib.Seq.{getD-set-same, getD-set-other}
 use Rattle.theory_loops.specs.First.{First}
-use Rattle.network.specs.Limits.{mostNodes, mostArcs}
-use Rattle.network.specs.Network.{Network, tail, head}
+use Rattle.network.specs.{Limits.mostNodes, Limits.mostArcs, Network.Network, Network.tail, Network.head}
 use Rattle.search_chains.specs.declared.chain.End.{End}
 use Rattle.search_chains.specs.declared.chain.End.the-variants.{Tail, Head}
 

@@ -1,19 +1,14 @@
 -- The tables that a search reads of the arcs: each arc's head and its first point. They are filled from the
 -- last arc to the first, with the chains, and the number of points before the arcs done is carried along.
-use mathlib.Core.Path.{_≡_, refl}
-use mathlib.Core.List.{List}
+use mathlib.Core.{Path._≡_, Path.refl, List.List}
 use Prim.Native.Nat.{ℕ, _+_, _-_, _≤_, _<_}
-use native.Mathlib.Decide.{ℕ-discrete}
-use native.Mathlib.Omega.{arith}
-use lib.ListN.{length, getD, set, length-set}
-use lib.Seq.{getD-set-same, getD-set-other}
+use native.Mathlib.{Decide.ℕ-discrete, Omega.arith}
+use lib.{ListN.length, ListN.getD, ListN.set, ListN.length-set, Seq.getD-set-same, Seq.getD-set-other}
 use Rattle.theory_loops.specs.Total.{total-more}
 use Rattle.network.specs.declared.header.Layout.{Layout}
 use Rattle.network.specs.declared.arcs.Entry.{Entry}
-use Rattle.network.specs.Limits.{mostArcs}
+use Rattle.network.specs.{Limits.mostArcs, Arcs.EntryOf, Decode.decode}
 use Rattle.network.specs.Network.{Network, tail, head, count, start}
-use Rattle.network.specs.Arcs.{EntryOf}
-use Rattle.network.specs.Decode.{decode}
 use Rattle.search_chains.specs.Chain.{Chained, Unchained, chain-none, chain-more}
 use Rattle.search_chains.specs.Town.{Town, tail-node}
 

@@ -1,16 +1,13 @@
 -- What every reader of arcs rests on: a sound network file with its layout (`Town`). From it: the graph of
 -- the file is lawful, and the ends that are read of the file are nodes.
-use mathlib.Core.Path.{_≡_}
-use mathlib.Core.List.{List}
+use mathlib.Core.{Path._≡_, List.List}
 use Prim.Native.Nat.{ℕ, _^_, _<_}
 use native.Mathlib.Omega.{arith}
 use lib.ListN.{replicate}
 use Rattle.theory_paths.specs.Graph.{Lawful}
 use Rattle.network.specs.declared.header.Layout.{Layout}
-use Rattle.network.specs.Limits.{mostNodes, mostArcs}
-use Rattle.network.specs.Network.{tail, head}
+use Rattle.network.specs.{Limits.mostNodes, Limits.mostArcs, Network.tail, Network.head, Sound.SoundNetwork}
 use Rattle.network.specs.Decode.{decode, Laid, Sizes, Small, laid-sizes, laid-small}
-use Rattle.network.specs.Sound.{SoundNetwork}
 use Rattle.network.specs.Town.{graphOf, town-lawful}
 use Rattle.search_chains.specs.Chain.{Unchained, unchained}
 

@@ -2,16 +2,12 @@
 -- is a node's label and the node in one number. Its invariant with the labels (`Frontier`), and how relaxing
 -- lets it grow (`Grown`). It never overflows: each entry has its label, and with every entry a node without a
 -- label is gone.
-use mathlib.Core.Path.{_≡_, refl, sym, _∙_, ap}
+use mathlib.Core.{Path._≡_, Path.refl, Path.sym, Path._∙_, Path.ap, List.List, List.[], List._∷_}
 use mathlib.Core.Logic.{_⊎_, inl, inr, ⊎-elim}
-use mathlib.Core.List.{List, [], _∷_}
 use Prim.Native.Nat.{ℕ, _+_, _-_, _*_, _%_, _^_, _≤_, _<_}
-use native.Mathlib.Nat.{le-refl, le-trans}
-use native.Mathlib.Decide.{ℕ-discrete, decLt}
-use native.Mathlib.Omega.{arith}
+use native.Mathlib.{Nat.le-refl, Nat.le-trans, Decide.ℕ-discrete, Decide.decLt, Omega.arith}
 use lib.ListN.{length, getD, List·getD-eq-default}
-use Rattle.theory_paths.specs.Earliest.{never}
-use Rattle.theory_paths.specs.Labels.{label}
+use Rattle.theory_paths.specs.{Earliest.never, Labels.label}
 use Rattle.network.specs.Limits.{mostNodes}
 
 -- A key, and its node.

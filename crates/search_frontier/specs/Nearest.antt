@@ -1,11 +1,8 @@
 -- The nearest node of the frontier: that of the least key, found by one pass over the keys. The invariant of
 -- the pass is what it has found (`Least`) at the keys passed. Of nodes that are equally near, any will do.
-use mathlib.Core.Path.{_≡_, refl, sym, _∙_}
-use mathlib.Core.List.{List}
+use mathlib.Core.{Path._≡_, Path.refl, Path.sym, Path._∙_, List.List}
 use Prim.Native.Nat.{ℕ, _+_, _*_, _^_, _≤_, _<_}
-use native.Mathlib.Nat.{le-refl, le-trans, le-of-lt}
-use native.Mathlib.Decide.{ℕ-discrete}
-use native.Mathlib.Omega.{arith}
+use native.Mathlib.{Nat.le-refl, Nat.le-trans, Nat.le-of-lt, Decide.ℕ-discrete, Omega.arith}
 use lib.ListN.{getD}
 use Rattle.theory_paths.specs.Labels.{label}
 use Rattle.network.specs.Limits.{mostNodes}

@@ -1,15 +1,12 @@
 -- A label is lowered: a node of the frontier gets another key, and a node without a label gets an entry. The
 -- laws are in the shape of the needs of `relax`.
-use mathlib.Core.Path.{_≡_, refl, sym, _∙_, ap}
-use mathlib.Core.Logic.{_≢_, inl, inr}
+use mathlib.Core.{Path._≡_, Path.refl, Path.sym, Path._∙_, Path.ap, Logic._≢_, Logic.inl, Logic.inr}
 use mathlib.Core.List.{List, [], _∷_}
 use Prim.Native.Nat.{ℕ, zero, suc, _+_, _-_, _≤_, _<_}
-use native.Mathlib.Decide.{ℕ-discrete, decLt}
-use native.Mathlib.Omega.{arith}
+use native.Mathlib.{Decide.ℕ-discrete, Decide.decLt, Omega.arith}
 use lib.ListN.{length, getD, set, length-set}
 use lib.Seq.{getD-set-same, getD-set-other, set-getD}
-use Rattle.theory_paths.specs.Earliest.{never}
-use Rattle.theory_paths.specs.Labels.{label, label-at}
+use Rattle.theory_paths.specs.{Earliest.never, Labels.label, Labels.label-at}
 use Rattle.network.specs.Limits.{mostNodes}
 use Rattle.search_frontier.specs.Frontier.{
   keyOf,

@@ -1,18 +1,13 @@
 -- Relaxing the permitted arcs out of a node, taken at a tick: what one arc makes of the labels, what all of
 -- them below a number have made of them, and the walk from each such arc to the next.
-use mathlib.Core.Path.{_≡_, refl, sym, _∙_, ap}
+use mathlib.Core.{Path._≡_, Path.refl, Path.sym, Path._∙_, Path.ap, List.List}
 use mathlib.Core.Logic.{_≢_, _⊎_, inl, inr}
 use mathlib.Core.Bool.{Bool, true, false, cond, true≢false}
-use mathlib.Core.List.{List}
 use Prim.Native.Nat.{ℕ, suc, _+_, _≤_, _<_, min}
-use native.Mathlib.Nat.{le-refl}
-use native.Mathlib.Numerals.{add-one}
-use native.Mathlib.Omega.{arith}
-use native.Mathlib.Decide.{ℕ-discrete, decLe}
+use native.Mathlib.{Nat.le-refl, Numerals.add-one, Omega.arith, Decide.ℕ-discrete, Decide.decLe}
 use lib.ListN.{length, getD, set, length-set}
 use lib.Seq.{getD-set-same, getD-set-other, set-getD}
-use Rattle.theory_paths.specs.Graph.{Graph, ends, Permit, ArcFrom}
-use Rattle.theory_paths.specs.Earliest.{never}
+use Rattle.theory_paths.specs.{Graph.Graph, Graph.ends, Graph.Permit, Graph.ArcFrom, Earliest.never}
 use Rattle.theory_paths.specs.Labels.{label, label-at, lowered}
 use Rattle.search_chains.specs.Chain.{NextArc}
 

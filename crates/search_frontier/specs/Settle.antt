@@ -2,19 +2,14 @@
 -- and are not settled. A settled node's label is never improved, so once no node of the frontier is nearer
 -- than the target, the labels are exact up to the target's. The steps: `start`, `settle`, `nearest-exact`.
 -- How the frontier is held does not matter here: it is a predicate.
-use mathlib.Core.Path.{_≡_, _∙_}
-use mathlib.Core.Logic.{_≢_, _⊎_, inl, inr, ⊎-elim}
-use mathlib.Core.List.{List}
+use mathlib.Core.{Path._≡_, Path._∙_, Logic._≢_, Logic._⊎_, Logic.inl, Logic.inr, Logic.⊎-elim, List.List}
 use Prim.Native.Nat.{ℕ, zero, suc, _+_, _-_, _*_, _≤_, _<_}
-use native.Mathlib.Nat.{le-refl, le-trans, suc-mul}
-use native.Mathlib.Numerals.{sub-one}
-use native.Mathlib.Omega.{arith}
+use native.Mathlib.{Nat.le-refl, Nat.le-trans, Nat.suc-mul, Numerals.sub-one, Omega.arith}
 use native.Mathlib.Decide.{ℕ-discrete, decLt}
 use lib.ListN.{length}
 use Rattle.theory_paths.specs.Graph.{Graph, Lawful, Bounded, ends, Permit, ArcFrom, Arrival}
 use Rattle.theory_paths.specs.Drive.{arc-takes, arc-ends, arrival-start, arrival-then}
-use Rattle.theory_paths.specs.Simple.{arrive-bound}
-use Rattle.theory_paths.specs.Earliest.{never, Exact, closed-exact}
+use Rattle.theory_paths.specs.{Simple.arrive-bound, Earliest.never, Earliest.Exact, Earliest.closed-exact}
 use Rattle.theory_paths.specs.Labels.{label}
 use Rattle.search_frontier.specs.Relax.{Relaxed}
 

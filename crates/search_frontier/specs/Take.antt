@@ -1,13 +1,10 @@
 -- A node is taken out of the frontier: the last entry comes in its place. The laws are in the shape of the
 -- needs of `take` and `settle`.
-use mathlib.Core.Path.{_≡_, refl, sym, _∙_, ap}
+use mathlib.Core.{Path._≡_, Path.refl, Path.sym, Path._∙_, Path.ap, List.List}
 use mathlib.Core.Logic.{_≢_, inl, inr, ⊎-elim}
-use mathlib.Core.List.{List}
 use Prim.Native.Nat.{ℕ, _-_, _<_}
-use native.Mathlib.Decide.{ℕ-discrete}
-use native.Mathlib.Omega.{arith}
-use lib.ListN.{length, getD, set, length-set}
-use lib.Seq.{getD-set-same, getD-set-other}
+use native.Mathlib.{Decide.ℕ-discrete, Omega.arith}
+use lib.{ListN.length, ListN.getD, ListN.set, ListN.length-set, Seq.getD-set-same, Seq.getD-set-other}
 use Rattle.theory_paths.specs.Labels.{label}
 use Rattle.search_frontier.specs.Settle.{Moved}
 use Rattle.search_frontier.specs.Frontier.{

@@ -1,23 +1,16 @@
 -- The notes that a search keeps beside the labels: for each node by how many arcs its label came about, and
 -- by which arc last, in one number, so that of two notes the lesser has fewer arcs, or as many and a lower
 -- last one. What one arc makes of them (`notesAt`), and what all arcs out of a node have made (`Noted`).
-use mathlib.Core.Path.{_≡_, refl, sym, _∙_, ap}
+use mathlib.Core.{Path._≡_, Path.refl, Path.sym, Path._∙_, Path.ap, List.List}
 use mathlib.Core.Logic.{_≢_, _⊎_, inl, inr}
 use mathlib.Core.Bool.{Bool, true, false, cond, true≢false}
-use mathlib.Core.List.{List}
 use Prim.Native.Nat.{ℕ, suc, _+_, _*_, _/_, _%_, _≤_, _<_, min}
-use native.Mathlib.Nat.{le-refl}
-use native.Mathlib.Numerals.{add-one}
-use native.Mathlib.Omega.{arith}
-use native.Mathlib.Decide.{ℕ-discrete, decLt}
-use lib.ListN.{length, getD, set, length-set}
-use lib.Dec.{eqb, ltb}
+use native.Mathlib.{Nat.le-refl, Numerals.add-one, Omega.arith, Decide.ℕ-discrete, Decide.decLt}
+use lib.{ListN.length, ListN.getD, ListN.set, ListN.length-set, Dec.eqb, Dec.ltb}
 use lib.Seq.{getD-set-same, getD-set-other, set-getD}
 use borrow.Author.Tests.{eq-eqb, ne-eqb, lt-ltb, le-ltb}
 use Rattle.theory_paths.specs.Graph.{Graph, Lawful, ends, Permit, ArcFrom}
-use Rattle.theory_paths.specs.Drive.{arc-takes}
-use Rattle.theory_paths.specs.Earliest.{never}
-use Rattle.theory_paths.specs.Labels.{label, label-at, lowered}
+use Rattle.theory_paths.specs.{Drive.arc-takes, Earliest.never, Labels.label, Labels.label-at, Labels.lowered}
 use Rattle.network.specs.Limits.{mostNodes, mostArcs}
 use Rattle.search_chains.specs.Chain.{NextArc}
 use Rattle.search_frontier.specs.Relax.{relaxAt, ByArc, Relaxed, NoArc, no-arc, extended, Walked}

@@ -1,12 +1,8 @@
 -- What the search leaves in the labels (`Reached`), and the laws by which its loop comes to it: how it
 -- starts, a turn, and its two ends.
-use mathlib.Core.Path.{_≡_, sym, _∙_, ap}
-use mathlib.Core.Logic.{_≢_}
-use mathlib.Core.List.{List, [], _∷_}
+use mathlib.Core.{Path._≡_, Path.sym, Path._∙_, Path.ap, Logic._≢_, List.List, List.[], List._∷_}
 use Prim.Native.Nat.{ℕ, zero, suc, _+_, _≤_, _<_}
-use native.Mathlib.Nat.{le-trans}
-use native.Mathlib.Decide.{decLt}
-use native.Mathlib.Omega.{arith}
+use native.Mathlib.{Nat.le-trans, Decide.decLt, Omega.arith}
 use lib.ListN.{
   length,
   getD,
@@ -19,18 +15,11 @@ use lib.ListN.{
 }
 use lib.Seq.{getD-set-same, getD-set-other}
 use Rattle.theory_loops.specs.Fill.{Filled}
-use Rattle.theory_paths.specs.Graph.{Graph, Permit}
-use Rattle.theory_paths.specs.Drive.{path-takes}
-use Rattle.theory_paths.specs.Earliest.{never, Exact}
-use Rattle.theory_paths.specs.Labels.{label, label-at}
-use Rattle.theory_paths.specs.Hops.{Known, Counted}
-use Rattle.theory_paths.specs.Chosen.{arcInto}
-use Rattle.network.specs.Limits.{mostNodes}
+use Rattle.theory_paths.specs.{Graph.Graph, Graph.Permit, Drive.path-takes, Earliest.never, Earliest.Exact}
+use Rattle.theory_paths.specs.{Labels.label, Labels.label-at, Hops.Known, Hops.Counted, Chosen.arcInto}
+use Rattle.network.specs.{Limits.mostNodes, Decode.decode, Town.graphOf}
 use Rattle.network.specs.declared.header.Layout.{Layout}
-use Rattle.network.specs.Decode.{decode}
-use Rattle.network.specs.Town.{graphOf}
-use Rattle.search_labels.specs.Walk.{Spread}
-use Rattle.search_labels.specs.Notes.{hopsIn, arcIn}
+use Rattle.search_labels.specs.{Walk.Spread, Notes.hopsIn, Notes.arcIn}
 use Rattle.search_labels.specs.Tally.{
   Tallied,
   tally-start,

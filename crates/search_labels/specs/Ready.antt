@@ -1,24 +1,17 @@
 -- What every function of a search rests on: a town, the mask of permitted arcs and the tables of the arcs'
 -- heads and first points (`Ready`); and a graph that is left within the first period, so that no label is
 -- late (`Leaving`).
-use mathlib.Core.Path.{_≡_}
-use mathlib.Core.List.{List}
+use mathlib.Core.{Path._≡_, List.List}
 use Prim.Native.Nat.{ℕ, _≤_, _<_}
-use native.Mathlib.Nat.{mul-le-mul}
-use native.Mathlib.Omega.{arith}
-use lib.ListN.{length, getD}
-use lib.Dec.{eqb}
+use native.Mathlib.{Nat.mul-le-mul, Omega.arith}
+use lib.{ListN.length, ListN.getD, Dec.eqb}
 use Rattle.theory_paths.specs.Graph.{Graph, Lawful, Bounded, Permit}
 use Rattle.network.specs.declared.header.Layout.{Layout}
-use Rattle.network.specs.Limits.{mostPeriod, mostNodes, mostArcs}
-use Rattle.network.specs.Network.{head, start}
-use Rattle.network.specs.Decode.{decode}
-use Rattle.network.specs.Town.{graphOf, town-bounded}
-use Rattle.search_chains.specs.Town.{Town, lawful, head-node}
-use Rattle.search_chains.specs.Tables.{Tabled}
+use Rattle.network.specs.{Limits.mostPeriod, Limits.mostNodes, Limits.mostArcs, Network.head, Network.start}
+use Rattle.network.specs.{Decode.decode, Town.graphOf, Town.town-bounded}
+use Rattle.search_chains.specs.{Town.Town, Town.lawful, Town.head-node, Tables.Tabled}
 use Rattle.search_arcs.specs.Times.{NextStart, next-start}
-use Rattle.search_frontier.specs.Settle.{latest}
-use Rattle.search_frontier.specs.Frontier.{lastLabel}
+use Rattle.search_frontier.specs.{Settle.latest, Frontier.lastLabel}
 
 -- Arc a is permitted: its entry in the mask is 1.
 abbrev pub permitOf : List ℕ → Permit

@@ -2,17 +2,12 @@
 -- fewest hops and, among these, of the lowest last arc (`Tallied`). Its steps are `tally-start`,
 -- `tally-settle` and `tally-counted`, beside `start`, `settle` and `nearest-exact` of Settle; at its end each
 -- note has the arc of the chosen path (`tally-arc`).
-use mathlib.Core.Path.{_≡_, refl, sym, _∙_, ap}
+use mathlib.Core.{Path._≡_, Path.refl, Path.sym, Path._∙_, Path.ap, List.List}
 use mathlib.Core.Logic.{_≢_, _⊎_, inl, inr, ⊎-elim}
-use mathlib.Core.List.{List}
 use Prim.Native.Nat.{ℕ, _+_, _*_, _/_, _%_, _≤_, _<_}
-use native.Mathlib.Nat.{le-refl, le-trans, le-antisymm}
-use native.Mathlib.Omega.{arith}
-use native.Mathlib.Decide.{ℕ-discrete}
+use native.Mathlib.{Nat.le-refl, Nat.le-trans, Nat.le-antisymm, Omega.arith, Decide.ℕ-discrete}
 use Rattle.theory_paths.specs.Graph.{Graph, Lawful, Bounded, ends, Permit, ArcFrom}
-use Rattle.theory_paths.specs.Drive.{arc-takes, path-takes}
-use Rattle.theory_paths.specs.Earliest.{never}
-use Rattle.theory_paths.specs.Labels.{label}
+use Rattle.theory_paths.specs.{Drive.arc-takes, Drive.path-takes, Earliest.never, Labels.label}
 use Rattle.theory_paths.specs.Hops.{Known, Tight, Last, Counted, tight-less}
 use Rattle.theory_paths.specs.Chosen.{arcInto, explains, explaining, lowest-passes, arc-into, hop-few}
 use Rattle.network.specs.Limits.{mostArcs}

@@ -1,22 +1,16 @@
 -- What relaxing one arc (`Stepped`), and all arcs out of a node (`Spread`), makes of the labels and the
 -- frontier, and the walk over the arcs out of a node, from each to the next by their chain.
-use mathlib.Core.Path.{_≡_, refl, sym, _∙_}
-use mathlib.Core.Bool.{true}
-use mathlib.Core.List.{List}
+use mathlib.Core.{Path._≡_, Path.refl, Path.sym, Path._∙_, Bool.true, List.List}
 use Prim.Native.Nat.{ℕ, _+_, _-_, _*_, _≤_, _<_}
 use native.Mathlib.Omega.{arith}
-use mir.Val.{Fits}
-use mir.Syntax.{w32, w64}
+use mir.{Val.Fits, Syntax.w32, Syntax.w64}
 use lib.ListN.{length, getD}
-use Rattle.theory_paths.specs.Graph.{Graph, ends, Permit, ArcFrom}
-use Rattle.theory_paths.specs.Drive.{arc-ends}
+use Rattle.theory_paths.specs.{Graph.Graph, Graph.ends, Graph.Permit, Graph.ArcFrom, Drive.arc-ends}
 use Rattle.theory_paths.specs.Labels.{label, label-at}
-use Rattle.network.specs.Limits.{mostNodes, mostArcs}
+use Rattle.network.specs.{Limits.mostNodes, Limits.mostArcs, Network.tail, Decode.decode}
 use Rattle.network.specs.declared.header.Layout.{Layout}
-use Rattle.network.specs.Network.{tail}
-use Rattle.network.specs.Decode.{decode}
 use Rattle.network.specs.Town.{graphOf, town-bounded}
-use Rattle.search_chains.specs.Chain.{NextArc, Chained}
+use Rattle.search_chains.specs.{Chain.NextArc, Chain.Chained, Town.lastTick, Town.lawful, Town.head-node}
 use Rattle.search_frontier.specs.Relax.{relaxAt, Relaxed, Walked, walk-first, walk-next, walk-last}
 use Rattle.search_labels.specs.Notes.{
   longer,
@@ -47,7 +41,6 @@ use Rattle.search_frontier.specs.Frontier.{
 }
 use Rattle.search_frontier.specs.Take.{Taken, taken-front, taken-open, taken-moved}
 use Rattle.search_labels.specs.Ready.{Ready, permitOf}
-use Rattle.search_chains.specs.Town.{lastTick, lawful, head-node}
 
 -- Arc a, taken at tick y and bringing the a-th note from b on: labels, notes and frontier, before and after.
 pub record Stepped (g : Graph) (p : Permit) (y b a : ℕ) (L M H K Q R S : List ℕ) (n m : ℕ) : Type 0 where

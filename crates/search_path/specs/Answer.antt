@@ -1,23 +1,17 @@
 -- What a search answers, and what it leaves in the two lists, by the labels and the chosen path of
 -- `theory_paths`. Definitions, and which of its cases an answer is; what they mean for a van is in `Promise`.
-use mathlib.Core.Path.{_≡_, refl, _∙_, ap}
-use mathlib.Core.Logic.{_≢_}
+use mathlib.Core.{Path._≡_, Path.refl, Path._∙_, Path.ap, Logic._≢_, List.List}
 use mathlib.Core.Bool.{Bool, true, false, cond}
-use mathlib.Core.List.{List}
 use Prim.Native.Nat.{ℕ, _≤_, _<_}
 use native.Mathlib.Omega.{arith}
-use lib.ListN.{length, getD}
-use lib.Dec.{eqb, ltb}
+use lib.{ListN.length, ListN.getD, Dec.eqb, Dec.ltb}
 use borrow.Author.Tests.{eqb-true, eqb-false, ltb-true, ltb-false}
 use Rattle.theory_loops.specs.Fill.{Filled}
-use Rattle.theory_paths.specs.Graph.{Graph, Permit}
-use Rattle.theory_paths.specs.Earliest.{never}
-use Rattle.theory_paths.specs.Labels.{label, labels}
+use Rattle.theory_paths.specs.{Graph.Graph, Graph.Permit, Earliest.never, Labels.label, Labels.labels}
 use Rattle.theory_paths.specs.Chosen.{chosen}
 use Rattle.file_refusals.specs.Refusal.{refusal}
 use Rattle.search_path.specs.Trim.{shown}
-use Rattle.search_path.specs.declared.answer.Arrival.{Arrival}
-use Rattle.search_path.specs.declared.answer.Answer.{Answer}
+use Rattle.search_path.specs.declared.answer.{Arrival.Arrival, Answer.Answer}
 use Rattle.search_path.specs.declared.answer.Answer.the-variants.{Arrived, Refused}
 
 -- The answer where the target's label is `tick`, the chosen path has `count` arcs and the list of roads has

@@ -1,36 +1,26 @@
 -- The laws by which the search comes to its answer, from the labels that it left: exact up to the target's,
 -- they tell and show what the true labels do. In the shape of the needs of `tell`, `search_nodes` and
 -- `search`.
-use mathlib.Core.Path.{_≡_, sym, _∙_, ap}
-use mathlib.Core.Logic.{_≢_}
-use mathlib.Core.List.{List, _++_}
+use mathlib.Core.{Path._≡_, Path.sym, Path._∙_, Path.ap, Logic._≢_, List.List, List._++_}
 use Prim.Native.Nat.{ℕ, _+_, _-_, _≤_, _<_}
-use native.Mathlib.Nat.{le-refl, le-of-lt}
-use native.Mathlib.Decide.{decLt}
-use native.Mathlib.Omega.{arith}
+use native.Mathlib.{Nat.le-refl, Nat.le-of-lt, Decide.decLt, Omega.arith}
 use lib.ListN.{length, getD, take, drop, length-take, List·getD-eq-default, List·getD-append}
-use lib.Seq.{getD-append-add, getD-drop, length-front}
+use lib.{Seq.getD-append-add, Seq.getD-drop, Seq.length-front, Dec.eqb, Dec.ltb}
 use borrow.Author.Tests.{eq-eqb, ne-eqb, lt-ltb, le-ltb}
 use Rattle.theory_loops.specs.Fill.{Filled, fill-none, fill-end}
-use Rattle.theory_paths.specs.Graph.{Graph, Permit}
-use Rattle.theory_paths.specs.Earliest.{never, Exact}
+use Rattle.theory_paths.specs.{Graph.Graph, Graph.Permit, Earliest.never, Earliest.Exact, Hops.Known}
 use Rattle.theory_paths.specs.Labels.{label, label-at, labels, labels-exact, labels-capped}
 use Rattle.search_path.specs.Trim.{shown, target-same, shown-same}
-use Rattle.theory_paths.specs.Hops.{Known}
 use Rattle.theory_paths.specs.Same.{chosen-same}
 use Rattle.search_chains.specs.Town.{Town}
-use Rattle.search_labels.specs.Ready.{Leaving, leaving, permitOf}
+use Rattle.search_labels.specs.{Ready.Leaving, Ready.leaving, Ready.permitOf, Reach.Reached, Reach.small}
 use Rattle.network.specs.declared.header.Layout.{Layout}
-use Rattle.network.specs.Decode.{decode}
-use Rattle.network.specs.Town.{graphOf}
-use Rattle.search_labels.specs.Reach.{Reached, small}
+use Rattle.network.specs.{Decode.decode, Town.graphOf, Limits.mostNodes}
 use Rattle.search_labels.specs.Notes.{hopsIn}
 use Rattle.search_path.specs.Trail.{roadTo, Trail, Listed}
 use Rattle.search_path.specs.Back.{trail, trail-count, trail-road}
 use Rattle.search_path.specs.Answer.{Answered, Told, entryOf, pathOf, answerOf, written}
-use Rattle.network.specs.Limits.{mostNodes}
 use mathlib.Core.Bool.{Bool, true, false, cond}
-use lib.Dec.{eqb, ltb}
 use Rattle.file_refusals.specs.declared.Refusal.{Refusal}
 use Rattle.file_refusals.specs.Refusal.{refusal}
 use Rattle.search_path.specs.declared.answer.Answer.{Answer}

@@ -1,20 +1,15 @@
 -- The way back by the notes that a search left is the chosen path (`trail-count`, `trail-road`). Going back
 -- along the chosen path, arc by arc: where it stands after n arcs, which arc comes next, and when it is at
 -- the path's start.
-use mathlib.Core.Path.{_≡_, refl, sym, _∙_, ap}
-use mathlib.Core.Logic.{_≢_}
+use mathlib.Core.{Path._≡_, Path.refl, Path.sym, Path._∙_, Path.ap, Logic._≢_}
 use mathlib.Core.Bool.{Bool, true, false, cond}
 use mathlib.Core.List.{List, [], _∷_, _++_, append-assoc}
 use Prim.Native.Nat.{ℕ, zero, suc, _+_, _-_, _≤_, _<_}
 use native.Mathlib.Omega.{arith}
-use lib.Dec.{eqb}
-use lib.ListN.{length, getD, length-append}
-use lib.Seq.{getD-at}
+use lib.{Dec.eqb, ListN.length, ListN.getD, ListN.length-append, Seq.getD-at}
 use borrow.Author.Tests.{eq-eqb, ne-eqb}
-use Rattle.theory_paths.specs.Graph.{Graph, Lawful, Permit}
-use Rattle.theory_paths.specs.Earliest.{Exact}
-use Rattle.theory_paths.specs.Labels.{label}
-use Rattle.theory_paths.specs.Hops.{Known, Counted}
+use Rattle.theory_paths.specs.{Graph.Graph, Graph.Lawful, Graph.Permit, Earliest.Exact, Labels.label}
+use Rattle.theory_paths.specs.{Hops.Known, Hops.Counted, Same.chosen-traced}
 use Rattle.theory_paths.specs.Chosen.{
   arcInto,
   back,
@@ -26,10 +21,8 @@ use Rattle.theory_paths.specs.Chosen.{
   last-tail,
   hop-few,
 }
-use Rattle.theory_paths.specs.Same.{chosen-traced}
 use Rattle.network.specs.Limits.{mostNodes}
-use Rattle.search_labels.specs.Notes.{hopsIn}
-use Rattle.search_labels.specs.Reach.{Reached}
+use Rattle.search_labels.specs.{Notes.hopsIn, Reach.Reached}
 use Rattle.search_path.specs.Trail.{nodeBack, arcBack, roadTo, Trail}
 
 -- v lies on the chosen path to t, n arcs before its end.
@@ -124,10 +117,10 @@ module _ {g : Graph} (ok : Lawful g) (few : g .nodes ≤ mostNodes) {p : Permit}
   trail-count = sym (traced-fewest ok L (hopsIn K) (r .counted) k .count)
       ∙ ap length (chosen-traced ok L (hopsIn K) (r .exact) (r .counted) k)
 
-  abbrev Stands : ℕ → Type 0
-  Stands n = Walk g p s L (hopsIn K) (label L t) t (nodeBack g K t n) n
+  abbrev WalkedBack : ℕ → Type 0
+  WalkedBack n = Walk g p s L (hopsIn K) (label L t) t (nodeBack g K t n) n
 
-  onward : (n : ℕ) → n < length (chosen g p s L t) → Stands n
+  onward : (n : ℕ) → n < length (chosen g p s L t) → WalkedBack n
       → Onward g p s L (hopsIn K) (label L t) t n (arcBack g K t n)
   onward n l w =
       let v = nodeBack g K t n in
@@ -136,7 +129,7 @@ module _ {g : Graph} (ok : Lawful g) (few : g .nodes ≤ mostNodes) {p : Permit}
       walk-on ok L (hopsIn K) (r .counted) (omega (arith, c .short, k .node)) w ne (arcBack g K t n)
       (r .arcs v ne (w .known))
 
-  stands : (n : ℕ) → n ≤ length (chosen g p s L t) → Stands n
+  stands : (n : ℕ) → n ≤ length (chosen g p s L t) → WalkedBack n
   unfolding nodeBack
   stands zero l = walk-start ok L (hopsIn K) (r .counted) (r .exact) k
   stands (suc n) l = let z : n + 1 ≡ suc n = omega arith in

@@ -2,27 +2,21 @@
 -- and the list of roads is shorter than the chosen path, else an arrival that is the earliest over all
 -- permitted paths, by the chosen path. From a node to itself it arrives at once (`at-home`). The word for
 -- never is no arrival (`before-never`).
-use mathlib.Core.Path.{_≡_, refl, sym, _∙_, ap}
-use mathlib.Core.Logic.{_≢_, _↔_}
-use mathlib.Core.List.{List}
+use mathlib.Core.{Path._≡_, Path.refl, Path.sym, Path._∙_, Path.ap, Logic._≢_, Logic._↔_, List.List}
 use Prim.Native.Nat.{ℕ, _+_, _-_, _*_, _≤_, _<_}
-use native.Mathlib.Nat.{sub-le, mul-le-mul-right}
-use native.Mathlib.Omega.{arith}
+use native.Mathlib.{Nat.sub-le, Nat.mul-le-mul-right, Omega.arith}
 use lib.ListN.{length}
 use borrow.Author.Tests.{ne-eqb, le-ltb}
 use Rattle.theory_paths.specs.Graph.{Graph, Permit, driven, Reachable, EarliestArrival}
-use Rattle.theory_paths.specs.Drive.{arrival-reach}
+use Rattle.theory_paths.specs.{Drive.arrival-reach, Labels.label, Labels.labels, Hops.Known}
 use Rattle.theory_paths.specs.Earliest.{never, earliest-unique, exact-bound, exact-never}
-use Rattle.theory_paths.specs.Labels.{label, labels}
-use Rattle.theory_paths.specs.Hops.{Known}
 use Rattle.theory_paths.specs.Chosen.{IsChosen, chosen-path, chosen-is, chosen-empty}
 use Rattle.file_refusals.specs.Refusal.{refusal}
 use Rattle.search_labels.specs.Ready.{Leaving}
 use Rattle.search_chains.specs.Town.{lastTick}
 use Rattle.search_path.specs.Answering.{true-exact, true-capped}
 use Rattle.search_path.specs.Answer.{pathOf, searched, Case, none, short, fits, case-of}
-use Rattle.search_path.specs.declared.answer.Arrival.{Arrival}
-use Rattle.search_path.specs.declared.answer.Answer.{Answer}
+use Rattle.search_path.specs.declared.answer.{Arrival.Arrival, Answer.Answer}
 use Rattle.search_path.specs.declared.answer.Answer.the-variants.{Arrived, Refused}
 
 -- The path is the way of document 02 from s to t; driven from tick x, it ends at the tick; no permitted path

@@ -2,19 +2,15 @@
 -- arrival of the target, and of every node that is reached before it, and never for the others
 -- (`shows-before`). Where there is none, the least arrival of every node that is reached, and never for the
 -- others (`shows-all`). Entries past the nodes stay.
-use mathlib.Core.Path.{_≡_, refl, _∙_}
-use mathlib.Core.Logic.{_≢_}
+use mathlib.Core.{Path._≡_, Path.refl, Path._∙_, Logic._≢_, List.List}
 use mathlib.Core.Bool.{Bool, true, false, cond, _||_}
-use mathlib.Core.List.{List}
 use Prim.Native.Nat.{ℕ, _≤_, _<_}
 use native.Mathlib.Omega.{arith}
-use lib.ListN.{length, getD}
-use lib.Dec.{eqb, ltb}
+use lib.{ListN.length, ListN.getD, Dec.eqb, Dec.ltb}
 use borrow.Author.Tests.{lt-ltb, le-ltb, eq-eqb, ne-eqb}
 use Rattle.theory_loops.specs.Fill.{Filled}
 use Rattle.theory_paths.specs.Graph.{Graph, Permit, Reachable, EarliestArrival}
-use Rattle.theory_paths.specs.Earliest.{never, exact-value}
-use Rattle.theory_paths.specs.Labels.{label, labels}
+use Rattle.theory_paths.specs.{Earliest.never, Earliest.exact-value, Labels.label, Labels.labels}
 use Rattle.search_labels.specs.Ready.{Leaving}
 use Rattle.search_path.specs.Trim.{shown, shownOf, shown-all}
 use Rattle.search_path.specs.Answering.{true-exact, true-capped}

@@ -1,24 +1,16 @@
 -- The way back from a node by the arcs of the notes, as the code goes it: from each node by the arc of its
 -- note to that arc's tail, as often as the first note counts. The laws are in the shape of the needs of the
 -- loop that writes these arcs from the last to the first.
-use mathlib.Core.Path.{_≡_, sym, _∙_, ap}
-use mathlib.Core.Bool.{cond}
-use mathlib.Core.List.{List}
+use mathlib.Core.{Path._≡_, Path.sym, Path._∙_, Path.ap, Bool.cond, List.List}
 use Prim.Native.Nat.{ℕ, zero, suc, _-_, _*_, _≤_, _<_}
-use native.Mathlib.Nat.{le-refl}
-use native.Mathlib.Omega.{arith}
-use mir.Val.{Fits}
-use mir.Syntax.{w64}
-use lib.ListN.{length, set}
-use lib.Dec.{ltb}
+use native.Mathlib.{Nat.le-refl, Omega.arith}
+use mir.{Val.Fits, Syntax.w64}
+use lib.{ListN.length, ListN.set, Dec.ltb}
 use borrow.Author.Tests.{lt-ltb, le-ltb}
 use Rattle.theory_loops.specs.Fill.{Filled, fill-none, fill-back, fill-start}
 use Rattle.theory_paths.specs.Graph.{Graph}
 use Rattle.network.specs.declared.header.Layout.{Layout}
-use Rattle.network.specs.Limits.{mostNodes}
-use Rattle.network.specs.Network.{tail}
-use Rattle.network.specs.Decode.{decode}
-use Rattle.network.specs.Town.{graphOf}
+use Rattle.network.specs.{Limits.mostNodes, Network.tail, Decode.decode, Town.graphOf}
 use Rattle.search_chains.specs.Town.{Town, tail-node}
 use Rattle.search_labels.specs.Notes.{hopsIn, arcIn}
 

@@ -1,19 +1,14 @@
 -- What a search stopped at its target shows: the labels before the target's, the target's own, and no other.
 -- It is the same by any labels that are exact up to the target's.
-use mathlib.Core.Path.{_≡_, refl, sym, _∙_}
+use mathlib.Core.{Path._≡_, Path.refl, Path.sym, Path._∙_, List.List}
 use mathlib.Core.Bool.{Bool, true, false, cond, _||_}
-use mathlib.Core.List.{List}
 use Prim.Native.Nat.{ℕ, _+_, _≤_, _<_}
-use native.Mathlib.Nat.{le-refl, le-of-lt}
-use native.Mathlib.Omega.{arith}
-use native.Mathlib.Decide.{decLt}
-use lib.ListN.{length, getD, set}
-use lib.Dec.{eqb, ltb}
+use native.Mathlib.{Nat.le-refl, Nat.le-of-lt, Omega.arith, Decide.decLt}
+use lib.{ListN.length, ListN.getD, ListN.set, Dec.eqb, Dec.ltb}
 use borrow.Author.Tests.{eqb-true, lt-ltb, le-ltb}
 use Rattle.theory_loops.specs.Fill.{Filled, fill-up}
-use Rattle.theory_paths.specs.Graph.{Graph, Permit}
+use Rattle.theory_paths.specs.{Graph.Graph, Graph.Permit, Labels.label, Labels.label-at}
 use Rattle.theory_paths.specs.Earliest.{never, Exact, exact-same, exact-equal}
-use Rattle.theory_paths.specs.Labels.{label, label-at}
 
 -- v's label e where it is before b, or v is t; else never
 abbrev pub shownOf : ℕ → ℕ → ℕ → ℕ → ℕ

@@ -1,7 +1,6 @@
 -- An input that comes in pieces: the state after a piece's bytes, one after the other, and after piece upon
 -- piece. How many bytes a piece has, and which, is for whoever reads it.
-use mathlib.Core.Path.{_≡_, refl, sym, _∙_, ap}
-use mathlib.Core.List.{List, [], _++_}
+use mathlib.Core.{Path._≡_, Path.refl, Path.sym, Path._∙_, Path.ap, List.List, List.[], List._++_}
 use Prim.Native.Nat.{ℕ}
 use Rattle.text_spaced.specs.Fold.{folded, folded-append, folded-none, folded-next, folded-end}
 use Rattle.sheet.specs.declared.reading.Reading.{Reading}

@@ -1,16 +1,12 @@
 -- The input taken a byte at a time, up to the 64th line: what is printed at each byte, and at the end. Over
 -- the input as a whole that is the texts of its first 64 lines (`reads-lines`), whatever text a line has:
 -- `say` gives it.
-use mathlib.Core.Path.{_≡_, refl, sym, _∙_, ap}
-use mathlib.Core.Logic.{_≢_}
+use mathlib.Core.{Path._≡_, Path.refl, Path.sym, Path._∙_, Path.ap, Logic._≢_}
 use mathlib.Core.Bool.{true, false, cond, not}
 use mathlib.Core.List.{List, [], _∷_, _++_, append-nil}
 use Prim.Native.Nat.{ℕ, suc, _+_, _-_, _≤_, _<_}
-use native.Mathlib.Decide.{ℕ-discrete, decLt}
-use native.Mathlib.Omega.{arith}
-use lib.ListN.{take}
-use lib.Seq.{take-nil}
-use lib.Dec.{eqb, leb}
+use native.Mathlib.{Decide.ℕ-discrete, Decide.decLt, Omega.arith}
+use lib.{ListN.take, Seq.take-nil, Dec.eqb, Dec.leb}
 use borrow.Author.Tests.{le-leb, lt-leb, ne-eqb}
 use Rattle.sheet_line.specs.declared.line.Line.{Line}
 use Rattle.text_spaced.specs.declared.spaced.Scan.{Scan}

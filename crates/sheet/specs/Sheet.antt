@@ -1,18 +1,15 @@
 -- THE RUN SHEET of two files and an input, and that the program's steps print it: what is printed at the
 -- start, at each byte of the input in order, and at its end, one after the other, is the sheet, for every
 -- input (`sheet-bytes`).
-use mathlib.Core.Path.{_≡_, ap}
-use mathlib.Core.Bool.{Bool, true, false, cond}
+use mathlib.Core.{Path._≡_, Path.ap, Bool.Bool, Bool.true, Bool.false, Bool.cond}
 use mathlib.Core.List.{List, [], _++_}
 use Prim.Native.Nat.{ℕ}
 use native.Mathlib.Omega.{arith}
 use lib.ListN.{take}
-use Rattle.text_spaced.specs.Fold.{folded}
-use Rattle.text_spaced.specs.Scanning.{fresh}
+use Rattle.text_spaced.specs.{Fold.folded, Scanning.fresh}
 use Rattle.text_lines.specs.Lines.{linesOf}
 use Rattle.sheet.specs.Reading.{runText, textsOf, reads-lines, full}
-use Rattle.sheet_text.specs.TripText.{lineText}
-use Rattle.sheet_text.specs.Head.{headText, reads}
+use Rattle.sheet_text.specs.{TripText.lineText, Head.headText, Head.reads}
 use Rattle.sheet.specs.Reading.{beginning}
 
 -- the first line; then, where lines are read, the texts of the first 64

@@ -1,8 +1,6 @@
 -- A line that asks for a trip: three decimal numbers, one space apart, each of 32 bits. Leading zeros are
 -- allowed, and any number of them. The scan says so exactly where it is such a line (`line-exactly`).
-use mathlib.Core.Path.{_≡_, refl, subst}
-use mathlib.Core.Logic.{_↔_}
-use mathlib.Core.Bool.{Bool, true, false, cond}
+use mathlib.Core.{Path._≡_, Path.refl, Path.subst, Logic._↔_, Bool.Bool, Bool.true, Bool.false, Bool.cond}
 use mathlib.Core.List.{List, [], _∷_}
 use Prim.Native.Nat.{ℕ}
 use native.Mathlib.Omega.{arith}
@@ -11,8 +9,7 @@ use Rattle.text_spaced.specs.declared.spaced.Scan.{Scan}
 use Rattle.text_numbers.specs.Spaced.{Spaced}
 use Rattle.text_spaced.specs.Scanning.{fresh, scannedAll, whole}
 use Rattle.text_spaced.specs.SpacedExact.{three-values, scanned-spaced, three-read}
-use Rattle.sheet_line.specs.declared.line.Asking.{Asking}
-use Rattle.sheet_line.specs.declared.line.Line.{Line}
+use Rattle.sheet_line.specs.declared.line.{Asking.Asking, Line.Line}
 use Rattle.sheet_line.specs.declared.line.Line.the-variants.{Asks, Other}
 
 -- the line asks for this trip

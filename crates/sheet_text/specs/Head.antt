@@ -1,10 +1,8 @@
 -- The first line of the sheet: the check, or `too large` where a file has more bytes than the sheet takes.
 -- Lines are read only where the plan is accepted.
-use mathlib.Core.Bool.{Bool, true, false, cond}
-use mathlib.Core.List.{List, [], _∷_, _++_}
+use mathlib.Core.{Bool.Bool, Bool.true, Bool.false, Bool.cond, List.List, List.[], List._∷_, List._++_}
 use Prim.Native.Nat.{ℕ}
-use lib.ListN.{length}
-use lib.Dec.{ltb}
+use lib.{ListN.length, Dec.ltb}
 use Rattle.plan_check.specs.declared.answer.Checking.{Checking}
 use Rattle.plan_check.specs.declared.answer.Checking.the-variants.{Accepted, Refused}
 use Rattle.plan_check.specs.CheckPlan.{checking}

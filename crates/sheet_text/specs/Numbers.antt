@@ -3,10 +3,8 @@
 use mathlib.Core.Path.{_≡_, refl, _∙_, ap}
 use mathlib.Core.List.{List, [], _∷_, _++_, append-assoc, append-nil}
 use Prim.Native.Nat.{ℕ, _+_, _≤_, _<_}
-use native.Mathlib.Numerals.{add-one}
-use native.Mathlib.Omega.{arith}
-use lib.ListN.{length, getD, set, take}
-use lib.Seq.{take-suc, take-length}
+use native.Mathlib.{Numerals.add-one, Omega.arith}
+use lib.{ListN.length, ListN.getD, ListN.set, ListN.take, Seq.take-suc, Seq.take-length}
 use Rattle.text_numbers.specs.Text.{Stored, stored-none, stored-then}
 use Rattle.text_numbers.specs.Number.{decimal, decimal-few, decimal-five}
 

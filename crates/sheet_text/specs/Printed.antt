@@ -1,11 +1,9 @@
 -- What a step of the sheet leaves in lent bytes: a text from the first byte on, of at most so many bytes as
 -- a line may have.
-use mathlib.Core.Path.{_≡_, refl}
-use mathlib.Core.List.{List, []}
+use mathlib.Core.{Path._≡_, Path.refl, List.List, List.[]}
 use Prim.Native.Nat.{ℕ, _*_, _≤_}
 use native.Mathlib.Omega.{arith}
-use lib.ListN.{length, take, drop}
-use lib.Seq.{sets, take-append-seam}
+use lib.{ListN.length, ListN.take, ListN.drop, Seq.sets, Seq.take-append-seam}
 use Rattle.theory_loops.specs.Stores.{stored-front}
 use Rattle.text_numbers.specs.Text.{Stored}
 use Rattle.network.specs.Limits.{mostNodes}

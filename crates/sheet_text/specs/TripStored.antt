@@ -1,25 +1,21 @@
 -- The laws by which code that stores the text of a line goes on from part to part. The roads that a trip
 -- leaves in its list are the chosen path (`trip-stored`), and there are never more than the list has room for
 -- (`trip-fits`).
-use mathlib.Core.Path.{_≡_, refl, _∙_, ap}
-use mathlib.Core.List.{List, [], _∷_, _++_}
+use mathlib.Core.{Path._≡_, Path.refl, Path._∙_, Path.ap, List.List, List.[], List._∷_, List._++_}
 use Prim.Native.Nat.{ℕ, _≤_}
 use native.Mathlib.Omega.{arith}
 use lib.ListN.{take, replicate}
 use Rattle.theory_paths.specs.Earliest.{never}
 use Rattle.file_refusals.specs.declared.Refusal.{Refusal}
 use Rattle.network.specs.Limits.{mostNodes, mostRoads}
-use Rattle.search_path.specs.declared.answer.Arrival.{Arrival}
-use Rattle.search_path.specs.declared.answer.Answer.{Answer}
+use Rattle.search_path.specs.declared.answer.{Arrival.Arrival, Answer.Answer}
 use Rattle.search_path.specs.declared.answer.Answer.the-variants.{Arrived, Refused}
 use Rattle.search_path.specs.Says.{tripCount}
 use Rattle.trip_call.specs.Drive.{call-count, call-roads}
 use Rattle.trip.specs.Flagged.{FlaggedTrip}
-use Rattle.sheet_line.specs.declared.line.Asking.{Asking}
-use Rattle.sheet_line.specs.declared.line.Line.{Line}
+use Rattle.sheet_line.specs.declared.line.{Asking.Asking, Line.Line}
 use Rattle.sheet_line.specs.declared.line.Line.the-variants.{Asks, Other}
-use Rattle.text_numbers.specs.Text.{Stored, ascii, lineFeed, stored-then}
-use Rattle.text_numbers.specs.Number.{decimal}
+use Rattle.text_numbers.specs.{Text.Stored, Text.ascii, Text.lineFeed, Text.stored-then, Number.decimal}
 use Rattle.sheet_text.specs.Numbers.{spaced, spaced-append}
 use Rattle.sheet_text.specs.TripText.{tripOf, pathFor, askingText, answerText, tripText, lineText}
 

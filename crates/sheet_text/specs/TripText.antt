@@ -5,11 +5,9 @@ use Prim.Native.Nat.{ℕ}
 use Rattle.search_path.specs.declared.answer.Answer.{Answer}
 use Rattle.search_path.specs.declared.answer.Answer.the-variants.{Arrived, Refused}
 use Rattle.trip.specs.Calls.{flaggedCall, flaggedPath}
-use Rattle.sheet_line.specs.declared.line.Asking.{Asking}
-use Rattle.sheet_line.specs.declared.line.Line.{Line}
+use Rattle.sheet_line.specs.declared.line.{Asking.Asking, Line.Line}
 use Rattle.sheet_line.specs.declared.line.Line.the-variants.{Asks, Other}
-use Rattle.text_numbers.specs.Text.{ascii, lineFeed}
-use Rattle.text_numbers.specs.Number.{decimal}
+use Rattle.text_numbers.specs.{Text.ascii, Text.lineFeed, Number.decimal}
 use Rattle.sheet_text.specs.Numbers.{spaced}
 
 -- the flagged trip that a line asks for, with fresh lists: its answer, and the chosen path

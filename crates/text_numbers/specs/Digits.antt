@@ -1,21 +1,15 @@
 -- Digits that stand at a place of a text: the bytes from one place to another, up to nine and all of them
 -- digits, and their value.
-use mathlib.Core.Path.{_≡_, _∙_}
-use mathlib.Core.Logic.{_≢_}
-use mathlib.Core.Bool.{true, and-eq-true-iff}
+use mathlib.Core.{Path._≡_, Path._∙_, Logic._≢_, Bool.true, Bool.and-eq-true-iff}
 use mathlib.Core.List.{List, [], _∷_, _++_}
 use Prim.Native.Nat.{ℕ, zero, suc, _+_, _-_, _*_, _%_, _^_, _≤_, _<_}
-use native.Mathlib.Numerals.{add-one}
-use native.Mathlib.Nat.{pow-succ', pow-le-pow-right}
-use native.Mathlib.Omega.{arith}
-use lib.ListN.{length, getD, take, drop, length-take, length-drop}
+use native.Mathlib.{Numerals.add-one, Nat.pow-succ', Nat.pow-le-pow-right, Omega.arith}
+use lib.{ListN.length, ListN.getD, ListN.take, ListN.drop, ListN.length-take, ListN.length-drop, Dec.leb}
 use lib.Seq.{take-suc, take-add, getD-take, getD-drop, drop-drop, drop-cons}
-use lib.Dec.{leb}
 use borrow.Author.Tests.{le-leb, leb-true}
 use Rattle.text_lines.specs.Lines.{Unended}
 use Rattle.text_numbers.specs.Number.{isDigit, areDigits, valueFrom, valueOf, digits-append}
-use Rattle.text_numbers.specs.Number.{value-append}
-use Rattle.text_numbers.specs.Spaced.{Numeral}
+use Rattle.text_numbers.specs.{Number.value-append, Spaced.Numeral}
 
 -- the bytes of a text from one place to another
 abbrev pub part : List ℕ → ℕ → ℕ → List ℕ
@@ -76,13 +70,7 @@ pub digits-none : (text : List ℕ) (at : ℕ) → DigitsAt text at at 0
 unfolding areDigits valueFrom
 digits-none text at =
     let z : at - at ≡ 0 = omega arith in
-    record {
-      after = omega arith;
-      few = omega arith;
-      digits = rw z;
-      is = rw z;
-      small = rw z (omega arith);
-    }
+    record { after = omega arith; few = omega arith; digits = rw z; is = rw z; small = rw z (omega arith) }
 
 pub digits-below : (text : List ℕ) (at i value : ℕ) → DigitsAt text at i value → i < at + 9 → value < 10 ^ 8
 digits-below text at i value h l =

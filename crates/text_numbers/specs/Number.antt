@@ -1,14 +1,11 @@
 -- Numbers in decimal: the digits that are printed, without leading zeros, and the value of digits that are
 -- read, with any number of them. What is printed is digits alone (`decimal-digits`), and is read back
 -- (`value-decimal`).
-use mathlib.Core.Path.{_≡_, refl, sym, _∙_, ap}
+use mathlib.Core.{Path._≡_, Path.refl, Path.sym, Path._∙_, Path.ap, List.List, List.[], List._∷_, List._++_}
 use mathlib.Core.Bool.{Bool, true, false, cond, _&&_, and-eq-true-iff}
-use mathlib.Core.List.{List, [], _∷_, _++_}
 use Prim.Native.Nat.{ℕ, zero, suc, _+_, _-_, _*_, _/_, _%_, _^_, _≤_, _<_}
-use native.Mathlib.Nat.{pow-succ'}
-use native.Mathlib.Omega.{arith}
-use lib.ListN.{length, set, length-append}
-use lib.Dec.{leb, ltb}
+use native.Mathlib.{Nat.pow-succ', Omega.arith}
+use lib.{ListN.length, ListN.set, ListN.length-append, Dec.leb, Dec.ltb}
 use borrow.Author.Tests.{lt-ltb, le-ltb, ltb-true, ltb-false, le-leb}
 use Rattle.text_numbers.specs.Text.{Stored, stored-byte, stored-none}
 

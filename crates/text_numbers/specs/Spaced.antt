@@ -1,8 +1,6 @@
 -- Numbers in a line, one space apart: each some digits, of a value of 32 bits. How many digits one may have
 -- is for its reader to say: up to nine, leading zeros counted, or ten, which stands for any number of them.
-use mathlib.Core.Path.{_≡_}
-use mathlib.Core.Bool.{true}
-use mathlib.Core.List.{List, [], _∷_, _++_}
+use mathlib.Core.{Path._≡_, Bool.true, List.List, List.[], List._∷_, List._++_}
 use Prim.Native.Nat.{ℕ, _^_, _≤_, _<_, min}
 use lib.ListN.{length}
 use Rattle.text_numbers.specs.Number.{areDigits, valueOf, decimal, decimal-some, decimal-digits}

@@ -1,13 +1,9 @@
 -- Texts as bytes, and what code leaves that stores a text in lent bytes (`Stored`). Texts that are stored one
 -- after the other are one text stored (`stored-then`).
-use Prim.Native.Nat.{ℕ, _+_, _≤_, _<_}
-use Prim.Native.Char.{code}
+use Prim.Native.{Nat.ℕ, Nat._+_, Nat._≤_, Nat._<_, Char.code}
 use Prim.Native.String.{String, [] as blank, _∷_ as _before_}
-use mathlib.Core.Path.{_≡_, refl, sym, _∙_}
-use mathlib.Core.List.{List, [], _∷_, _++_}
-use native.Mathlib.Nat.{add-zero}
-use native.Mathlib.Numerals.{add-one}
-use native.Mathlib.Omega.{arith}
+use mathlib.Core.{Path._≡_, Path.refl, Path.sym, Path._∙_, List.List, List.[], List._∷_, List._++_}
+use native.Mathlib.{Nat.add-zero, Numerals.add-one, Omega.arith}
 use lib.ListN.{length, getD, set, take, length-append}
 use lib.Seq.{sets, take-suc, take-length}
 use Rattle.theory_loops.specs.Stores.{sets-append}

@@ -1,11 +1,8 @@
 -- Bytes taken one after the other: the state that they lead to, whatever a state is.
-use mathlib.Core.Path.{_≡_, refl}
-use mathlib.Core.List.{List, [], _∷_, _++_}
+use mathlib.Core.{Path._≡_, Path.refl, List.List, List.[], List._∷_, List._++_}
 use Prim.Native.Nat.{ℕ, _+_, _≤_, _<_}
-use native.Mathlib.Numerals.{add-one}
-use native.Mathlib.Omega.{arith}
-use lib.ListN.{length, getD, take}
-use lib.Seq.{take-suc, take-length}
+use native.Mathlib.{Numerals.add-one, Omega.arith}
+use lib.{ListN.length, ListN.getD, ListN.take, Seq.take-suc, Seq.take-length}
 
 -- the state after these bytes, where `step` is what one byte does
 unfoldable pub folded : {S : Type 0} → (S → ℕ → S) → S → List ℕ → S

@@ -1,8 +1,6 @@
 -- Numbers one space apart, read a byte at a time: what the bytes so far come to, by a state that holds up to
 -- three numbers, and whether a line that has ended is so many of them.
-use mathlib.Core.Path.{_≡_}
-use mathlib.Core.Bool.{Bool, true, false, cond}
-use mathlib.Core.List.{List}
+use mathlib.Core.{Path._≡_, Bool.Bool, Bool.true, Bool.false, Bool.cond, List.List}
 use Prim.Native.Nat.{ℕ, _+_, _-_, _*_, _≤_, _<_, min}
 use lib.Dec.{eqb, ltb}
 use borrow.Author.Tests.{lt-ltb, le-ltb}
@@ -13,14 +11,7 @@ use Rattle.text_numbers.specs.Spaced.{limit}
 -- not ruled out: so many numbers have ended, these two, and the next has so many digits and this value
 abbrev pub reading : ℕ → ℕ → ℕ → ℕ → ℕ → Scan
 reading fields digits value first second =
-    record {
-      bad = false;
-      fields = fields;
-      digits = digits;
-      value = value;
-      first = first;
-      second = second;
-    }
+    record { bad = false; fields = fields; digits = digits; value = value; first = first; second = second }
 
 -- before a line's first byte
 abbrev pub fresh : Scan

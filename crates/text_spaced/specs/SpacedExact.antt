@@ -1,15 +1,11 @@
 -- The scan says that a line is numbers one space apart exactly where it is: what it has read of a line that
 -- is not ruled out are such numbers (`scanned-spaced`), and up to three of them are read (`spaced-scanned`).
-use mathlib.Core.Path.{_≡_, refl, sym, _∙_, subst⁻¹}
-use mathlib.Core.Logic.{_≢_}
+use mathlib.Core.{Path._≡_, Path.refl, Path.sym, Path._∙_, Path.subst⁻¹, Logic._≢_}
 use mathlib.Core.Bool.{Bool, true, false, cond, and-eq-true-iff}
 use mathlib.Core.List.{List, [], _∷_, _++_, append-nil, append-assoc}
 use Prim.Native.Nat.{ℕ, _+_, _-_, _*_, _≤_, _<_, min}
-use native.Mathlib.Nat.{le-refl, le-trans}
-use native.Mathlib.Decide.{ℕ-discrete, decLt}
-use native.Mathlib.Omega.{arith}
-use lib.ListN.{length, length-append}
-use lib.Dec.{eqb, leb}
+use native.Mathlib.{Nat.le-refl, Nat.le-trans, Decide.ℕ-discrete, Decide.decLt, Omega.arith}
+use lib.{ListN.length, ListN.length-append, Dec.eqb, Dec.leb}
 use borrow.Author.Tests.{lt-ltb, le-ltb, leb-true, le-leb, eq-eqb, ne-eqb, ltb-true}
 use Rattle.text_spaced.specs.declared.spaced.Scan.{Scan}
 use Rattle.text_numbers.specs.Number.{isDigit, areDigits, valueFrom, valueOf, digits-append}

@@ -1,11 +1,9 @@
 -- Runs that stand one behind the other: run a, from 0, goes from index `start a` up to `start (a + 1)`. Where
 -- a test holds at the first index of each run that has one, and at no more indices than there are such runs,
 -- it holds at no other index.
-use mathlib.Core.Path.{_≡_, refl}
-use mathlib.Core.Bool.{Bool, true, false}
+use mathlib.Core.{Path._≡_, Path.refl, Bool.Bool, Bool.true, Bool.false}
 use Prim.Native.Nat.{ℕ, zero, suc, _+_, _-_, _≤_, _<_}
-use native.Mathlib.Numerals.{add-one}
-use native.Mathlib.Omega.{arith}
+use native.Mathlib.{Numerals.add-one, Omega.arith}
 use Rattle.theory_loops.specs.Count.{count, count-none, count-yes, count-no, count-grows, count-rises}
 
 -- the test p holds at the first index of each of R runs for which q says that they have one

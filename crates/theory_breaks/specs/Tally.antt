@@ -1,11 +1,8 @@
 -- Counting by adding up, along a row: a test's answer as 1 or 0, the entry before an entry, the count with
 -- one index more, and with a block of indices more.
-use mathlib.Core.Path.{_≡_, refl, sym, _∙_}
-use mathlib.Core.Bool.{Bool, true, false, cond}
+use mathlib.Core.{Path._≡_, Path.refl, Path.sym, Path._∙_, Bool.Bool, Bool.true, Bool.false, Bool.cond}
 use Prim.Native.Nat.{ℕ, zero, suc, _+_, _-_, _≤_, _<_}
-use native.Mathlib.Nat.{add-zero}
-use native.Mathlib.Numerals.{add-one}
-use native.Mathlib.Omega.{arith}
+use native.Mathlib.{Nat.add-zero, Numerals.add-one, Omega.arith}
 use Rattle.theory_loops.specs.Count.{count, count-none, count-yes, count-no, count-same}
 
 -- 1 for yes, 0 for no

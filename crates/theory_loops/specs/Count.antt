@@ -1,12 +1,10 @@
 -- How many indices below a bound pass a test, counted one by one, with the laws of the loop that counts. It
 -- is the length of the list that `select` makes of them, and the index n, where it passes, is entry `count n`
 -- of that list.
-use mathlib.Core.Path.{_≡_, refl, sym, ap}
-use mathlib.Core.Bool.{Bool, true, false, true≢false}
+use mathlib.Core.{Path._≡_, Path.refl, Path.sym, Path.ap, Bool.Bool, Bool.true, Bool.false, Bool.true≢false}
 use mathlib.Core.List.{[], _∷_, _++_}
 use Prim.Native.Nat.{ℕ, zero, suc, _+_, _≤_, _<_}
-use native.Mathlib.Numerals.{add-one}
-use native.Mathlib.Omega.{arith}
+use native.Mathlib.{Numerals.add-one, Omega.arith}
 use lib.ListN.{length, getD, length-append}
 use Rattle.theory_loops.specs.Select.{select, selected-at, rank-grows, rank-rises}
 

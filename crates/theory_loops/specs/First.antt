@@ -1,13 +1,9 @@
 -- The first index below a bound at which a test holds, with its laws: what every loop cites that is left at
 -- the first failing index.
-use mathlib.Core.Path.{_≡_, refl, sym, _∙_}
-use mathlib.Core.Logic.{_↔_}
+use mathlib.Core.{Path._≡_, Path.refl, Path.sym, Path._∙_, Logic._↔_}
 use mathlib.Core.Bool.{Bool, true, false, cond, _||_}
 use Prim.Native.Nat.{ℕ, zero, suc, _+_, _≤_, _<_}
-use native.Mathlib.Numerals.{add-one}
-use native.Mathlib.Nat.{le-antisymm}
-use native.Mathlib.Decide.{decLe}
-use native.Mathlib.Omega.{arith}
+use native.Mathlib.{Numerals.add-one, Nat.le-antisymm, Decide.decLe, Omega.arith}
 use lib.Dec.{ltb}
 use borrow.Author.Count.{below-more}
 use borrow.Author.Tests.{lt-ltb, le-ltb, le-leb, lt-leb, eq-eqb, ne-eqb, ltb-true, ltb-false}

@@ -1,8 +1,7 @@
 -- Numbers in rows of one width, one row behind the other in one list: the number in row i at column j.
 use mathlib.Core.List.{List}
 use Prim.Native.Nat.{ℕ, _+_, _*_, _<_}
-use native.Mathlib.Nat.{mul-le-mul-right}
-use native.Mathlib.Omega.{arith}
+use native.Mathlib.{Nat.mul-le-mul-right, Omega.arith}
 use lib.ListN.{getD}
 
 unfoldable pub gridAt : ℕ → List ℕ → ℕ → ℕ → ℕ

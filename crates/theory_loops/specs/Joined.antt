@@ -1,12 +1,9 @@
 -- Parts that lie one behind the other in one list, such as the points of all profiles: the whole list, and
 -- where an entry of a part stands in it.
-use mathlib.Core.Path.{_≡_, refl, _∙_, ap}
-use mathlib.Core.List.{List, [], _++_}
+use mathlib.Core.{Path._≡_, Path.refl, Path._∙_, Path.ap, List.List, List.[], List._++_}
 use Prim.Native.Nat.{ℕ, zero, suc, _+_, _-_, _<_}
-use native.Mathlib.Decide.{ℕ-discrete, decLt}
-use native.Mathlib.Omega.{arith}
-use lib.ListN.{length, getD, length-append, List·getD-append}
-use lib.Seq.{getD-append-add}
+use native.Mathlib.{Decide.ℕ-discrete, Decide.decLt, Omega.arith}
+use lib.{ListN.length, ListN.getD, ListN.length-append, ListN.List·getD-append, Seq.getD-append-add}
 use Rattle.theory_loops.specs.Total.{total, total-part}
 
 unfoldable pub joined : ℕ → (ℕ → List ℕ) → List ℕ

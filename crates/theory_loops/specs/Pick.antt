@@ -1,7 +1,6 @@
 -- The laws that a branch of the code cites where the contract is a nest of `cond`: a test applies, or is
 -- passed.
-use mathlib.Core.Path.{_≡_, refl}
-use mathlib.Core.Logic.{_↔_}
+use mathlib.Core.{Path._≡_, Path.refl, Logic._↔_}
 use mathlib.Core.Bool.{Bool, true, false, cond, _||_, _&&_}
 use Prim.Native.Nat.{ℕ, _≤_, _<_}
 use native.Mathlib.Omega.{arith}

@@ -1,13 +1,9 @@
 -- The indices below a bound at which a test holds, in rising order, and what a loop leaves that writes them
 -- to a list's front.
-use mathlib.Core.Path.{_≡_, refl, _∙_}
-use mathlib.Core.Bool.{Bool, true, false}
+use mathlib.Core.{Path._≡_, Path.refl, Path._∙_, Bool.Bool, Bool.true, Bool.false}
 use mathlib.Core.List.{List, [], _∷_, _++_, append-assoc}
 use Prim.Native.Nat.{ℕ, zero, suc, _+_, _≤_, _<_}
-use native.Mathlib.Numerals.{add-one}
-use native.Mathlib.Nat.{le-refl, le-trans}
-use native.Mathlib.Decide.{decLt, le-ind}
-use native.Mathlib.Omega.{arith}
+use native.Mathlib.{Numerals.add-one, Nat.le-refl, Nat.le-trans, Decide.decLt, Decide.le-ind, Omega.arith}
 use lib.ListN.{length, getD, drop, set, length-append, length-set, List·getD-append}
 use lib.Seq.{drop-cons, getD-append-seam, set-append-seam}
 use Rattle.theory_loops.specs.Fill.{overwritten}

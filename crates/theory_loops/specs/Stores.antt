@@ -1,12 +1,9 @@
 -- Texts stored one after the other: what several runs of stores leave is what one run leaves of all the
 -- values.
-use mathlib.Core.Path.{_≡_, refl, _∙_, ap}
-use mathlib.Core.List.{List, [], _∷_, _++_}
+use mathlib.Core.{Path._≡_, Path.refl, Path._∙_, Path.ap, List.List, List.[], List._∷_, List._++_}
 use Prim.Native.Nat.{ℕ, zero, suc, _+_, _≤_}
-use native.Mathlib.Nat.{add-zero}
-use native.Mathlib.Omega.{arith}
-use lib.ListN.{length, drop, set}
-use lib.Seq.{sets, sets-eq}
+use native.Mathlib.{Nat.add-zero, Omega.arith}
+use lib.{ListN.length, ListN.drop, ListN.set, Seq.sets, Seq.sets-eq}
 
 -- a second run, from where the first one ends
 pub sets-append : (xs ys l : List ℕ) (i : ℕ) → sets (sets l i xs) (i + length xs) ys ≡ sets l i (xs ++ ys)

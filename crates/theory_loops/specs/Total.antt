@@ -2,10 +2,7 @@
 -- each arc.
 use mathlib.Core.Path.{_≡_, refl}
 use Prim.Native.Nat.{ℕ, zero, suc, _+_, _-_, _*_, _≤_, _<_}
-use native.Mathlib.Nat.{add-zero}
-use native.Mathlib.Numerals.{add-one}
-use native.Mathlib.Omega.{arith}
-use native.Mathlib.Decide.{ℕ-discrete}
+use native.Mathlib.{Nat.add-zero, Numerals.add-one, Omega.arith, Decide.ℕ-discrete}
 
 unfoldable pub total : ℕ → (ℕ → ℕ) → ℕ
 total zero f = 0

@@ -1,7 +1,5 @@
 -- The first failing triple of indices in three ranges, the first range weighing most.
-use mathlib.Core.Path.{_≡_, refl}
-use mathlib.Core.Logic.{_↔_}
-use mathlib.Core.Bool.{Bool, true, false, cond}
+use mathlib.Core.{Path._≡_, Path.refl, Logic._↔_, Bool.Bool, Bool.true, Bool.false, Bool.cond}
 use Prim.Native.Nat.{ℕ, _<_}
 use Rattle.theory_loops.specs.First.{first, any, any-clear, all-clear, stop, yes-any}
 

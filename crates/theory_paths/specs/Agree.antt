@@ -2,14 +2,10 @@
 -- and the ends and travel of these, have the same permitted paths, earliest arrivals (`earliest-agree`),
 -- labels (`labels-agree`) and chosen path (`chosen-agree`). They may differ in every other arc, and in how
 -- many arcs there are.
-use mathlib.Core.Path.{_≡_, refl, sym, _∙_, ap}
-use mathlib.Core.Logic.{_↔_}
+use mathlib.Core.{Path._≡_, Path.refl, Path.sym, Path._∙_, Path.ap, Logic._↔_, List.List, List.[], List._∷_}
 use mathlib.Core.Bool.{Bool, true, false, cond, true≢false}
-use mathlib.Core.List.{List, [], _∷_}
 use Prim.Native.Nat.{ℕ, zero, suc, _+_, _%_, _≤_, _<_}
-use native.Mathlib.Nat.{le-refl, le-antisymm, mod-lt}
-use native.Mathlib.Omega.{arith}
-use native.Mathlib.Decide.{decLe, le-ind}
+use native.Mathlib.{Nat.le-refl, Nat.le-antisymm, Nat.mod-lt, Omega.arith, Decide.decLe, Decide.le-ind}
 use Rattle.theory_paths.specs.Graph.{
   Graph,
   Lawful,
@@ -24,7 +20,7 @@ use Rattle.theory_paths.specs.Graph.{
   Arrival,
   EarliestArrival,
 }
-use Rattle.theory_paths.specs.Earliest.{Exact}
+use Rattle.theory_paths.specs.{Earliest.Exact, Same.bool-ext, Same.lowest-ext, Same.back-ext}
 use Rattle.theory_paths.specs.Labels.{label, lowered, offer, relax, relaxed, rounds, labels}
 use Rattle.theory_paths.specs.Hops.{tight, counting, hops, Known, Tight, Last, is-tight, tight-is}
 use Rattle.theory_paths.specs.Chosen.{
@@ -40,7 +36,6 @@ use Rattle.theory_paths.specs.Chosen.{
   chosen,
   chosen-counted,
 }
-use Rattle.theory_paths.specs.Same.{bool-ext, lowest-ext, back-ext}
 
 -- a is a permitted arc.
 abbrev pub Usable : Graph → Permit → ℕ → Type 0

@@ -7,11 +7,8 @@ use mathlib.Core.Logic.{_≢_, _⊎_, inl, inr, _↔_}
 use mathlib.Core.Bool.{Bool, true, false, cond, _&&_, and-eq-true-iff, true≢false}
 use mathlib.Core.List.{List, [], _∷_, _++_, append-assoc, append-nil}
 use Prim.Native.Nat.{ℕ, zero, suc, _+_, _-_, _≤_, _<_}
-use native.Mathlib.Nat.{le-refl, le-antisymm, eq-or-lt-of-le}
-use native.Mathlib.Decide.{decLt}
-use native.Mathlib.Omega.{arith}
-use lib.Dec.{eqb}
-use lib.ListN.{length, length-append}
+use native.Mathlib.{Nat.le-refl, Nat.le-antisymm, Nat.eq-or-lt-of-le, Decide.decLt, Omega.arith}
+use lib.{Dec.eqb, ListN.length, ListN.length-append}
 use borrow.Author.Tests.{eqb-true, eqb-false, eq-eqb}
 use Rattle.theory_paths.specs.Graph.{
   Graph,
@@ -25,10 +22,8 @@ use Rattle.theory_paths.specs.Graph.{
   driven,
   EarliestArrival,
 }
-use Rattle.theory_paths.specs.Drive.{path-takes, arc-takes, arc-node}
-use Rattle.theory_paths.specs.Simple.{shorten}
-use Rattle.theory_paths.specs.Earliest.{Exact, earliest-unique}
-use Rattle.theory_paths.specs.Labels.{label}
+use Rattle.theory_paths.specs.{Drive.path-takes, Drive.arc-takes, Drive.arc-node, Simple.shorten}
+use Rattle.theory_paths.specs.{Earliest.Exact, Earliest.earliest-unique, Labels.label}
 use Rattle.theory_paths.specs.Hops.{
   tight,
   hops,

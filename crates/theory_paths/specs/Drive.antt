@@ -1,8 +1,7 @@
 -- Driving along a path: a later departure never ends earlier (`later`), waiting never helps (`waiting`), and
 -- k periods later everything ends k periods later (`driven-shift`). Also: a path takes a tick at least for
 -- each arc, paths join, and a permitted path is a path.
-use mathlib.Core.Path.{_≡_, refl, sym, _∙_, ap}
-use mathlib.Core.Logic.{_↔_}
+use mathlib.Core.{Path._≡_, Path.refl, Path.sym, Path._∙_, Path.ap, Logic._↔_}
 use mathlib.Core.List.{List, [], _∷_, _++_}
 use Prim.Native.Nat.{ℕ, _+_, _*_, _/_, _%_, _≤_, _<_}
 use native.Mathlib.Nat.{le-refl, le-trans, add-mul-mod-self-right, mod-add-div', mod-lt}

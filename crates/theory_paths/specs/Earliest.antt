@@ -1,13 +1,9 @@
 -- The earliest arrival is unique (`earliest-unique`), and labels that are sound and closed below a bound are
 -- the earliest arrivals up to that bound (`closed-exact`). This is all that a search such as Dijkstra's,
 -- stopped early at its target or not, has to show.
-use mathlib.Core.Path.{_≡_, sym}
-use mathlib.Core.Logic.{_↔_}
-use mathlib.Core.List.{List}
+use mathlib.Core.{Path._≡_, Path.sym, Logic._↔_, List.List}
 use Prim.Native.Nat.{ℕ, _+_, _-_, _*_, _≤_, _<_}
-use native.Mathlib.Nat.{le-trans, le-of-lt, le-antisymm}
-use native.Mathlib.Omega.{arith}
-use native.Mathlib.Decide.{decLt}
+use native.Mathlib.{Nat.le-trans, Nat.le-of-lt, Nat.le-antisymm, Omega.arith, Decide.decLt}
 use Rattle.theory_paths.specs.Graph.{
   Graph,
   Lawful,
@@ -115,10 +111,7 @@ module _ {g : Graph} {p : Permit} {s x : ℕ} {L : ℕ → ℕ} (e : Exact g p s
     )
 
     pub exact-never : (t : ℕ) → L t ≤ never → (L t ≡ never) ↔ (¬ Reachable g p s t)
-    exact-never t h = (
-      λ q r. omega (arith, exact-bound r),
-      λ k. go k (decLt (L t) never),
-    )
+    exact-never t h = (λ q r. omega (arith, exact-bound r), λ k. go k (decLt (L t) never))
       where
         go : ¬ Reachable g p s t → Dec (L t < never) → L t ≡ never
         go k (yes l) = absurd (k (exact-reach t .0 l))

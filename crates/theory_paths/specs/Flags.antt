@@ -2,14 +2,11 @@
 -- arrival over the arcs with the flag of the target's cell is the earliest over all arcs (`arc-flags`), and
 -- there is a flagged path exactly when there is a path (`arc-flags-reach`). What a check tests is exactly
 -- that the profiles are true and the flags enough (`checked-exact`).
-use mathlib.Core.Path.{_≡_, refl, _∙_, ap}
+use mathlib.Core.{Path._≡_, Path.refl, Path._∙_, Path.ap, Bool.Bool, Bool.true}
 use mathlib.Core.Logic.{_↔_, _≢_, _⊎_, inl, inr}
-use mathlib.Core.Bool.{Bool, true}
 use mathlib.Core.List.{List, [], _∷_, _++_}
 use Prim.Native.Nat.{ℕ, zero, suc, _+_, _%_, _≤_, _<_}
-use native.Mathlib.Nat.{le-refl, le-trans, mod-lt}
-use native.Mathlib.Omega.{arith}
-use native.Mathlib.Decide.{ℕ-discrete}
+use native.Mathlib.{Nat.le-refl, Nat.le-trans, Nat.mod-lt, Omega.arith, Decide.ℕ-discrete}
 use Rattle.theory_paths.specs.Graph.{
   Graph,
   Lawful,

@@ -1,9 +1,7 @@
 -- Time-dependent graphs, the paths in them, and what it is to arrive earliest. Definitions alone: what every
 -- theorem of this crate is about. Document 01's words: a node is a place, an arc a road, a path a way; an
 -- earliest arrival is a least arrival.
-use mathlib.Core.Path.{_≡_}
-use mathlib.Core.Bool.{Bool, true}
-use mathlib.Core.List.{List, [], _∷_}
+use mathlib.Core.{Path._≡_, Bool.Bool, Bool.true, List.List, List.[], List._∷_}
 use Prim.Native.Nat.{ℕ, _+_, _%_, _≤_, _<_}
 
 -- Nodes and arcs are numbered from 0. Arc a leads from its tail to its head, and `travel a x` is how many

@@ -3,16 +3,12 @@
 -- (`tight-driven`). A node's hops are the fewest arcs of such paths: the labels of the graph in which every
 -- arc takes one tick. `Counted` says of each node what they are by its arcs alone, and `hops-counted` that
 -- they are so.
-use mathlib.Core.Path.{_≡_, refl, sym, _∙_, ap}
+use mathlib.Core.{Path._≡_, Path.refl, Path.sym, Path._∙_, Path.ap, List.List, List.[], List._∷_, List._++_}
 use mathlib.Core.Logic.{_≢_, _⊎_, inl, inr, ⊎-elim}
 use mathlib.Core.Bool.{true, _&&_, and-eq-true-iff}
-use mathlib.Core.List.{List, [], _∷_, _++_}
 use Prim.Native.Nat.{ℕ, zero, suc, _+_, _≤_, _<_}
-use native.Mathlib.Nat.{le-refl}
-use native.Mathlib.Omega.{arith}
-use native.Mathlib.Decide.{ℕ-discrete}
-use lib.Dec.{eqb, ltb}
-use lib.ListN.{length}
+use native.Mathlib.{Nat.le-refl, Omega.arith, Decide.ℕ-discrete}
+use lib.{Dec.eqb, Dec.ltb, ListN.length}
 use borrow.Author.Tests.{eqb-true, ltb-true, eq-eqb, lt-ltb}
 use Rattle.theory_paths.specs.Graph.{
   Graph,
@@ -268,9 +264,5 @@ module _ {g : Graph} (ok : Lawful g) {p : Permit} {s x : ℕ} (n : s < g .nodes)
           let q = ap (label (hops g p s L)) (r .enters) in
           let o = counting-ends g a (driven (counting g) (r .before) 0) in (
             a,
-            record {
-              tight = k;
-              enters = r .enters;
-              fewer = omega (arith, r .at);
-            },
+            record { tight = k; enters = r .enters; fewer = omega (arith, r .at) },
           )

@@ -2,14 +2,12 @@
 -- rounds a label is the least arrival over the permitted paths of at most k arcs, and fewer arcs than nodes
 -- are enough (Simple). So a label is the earliest arrival (`labels-earliest`), and `never` exactly where
 -- there is no path (`labels-never`).
-use mathlib.Core.Path.{_≡_, refl, sym, _∙_, ap}
+use mathlib.Core.{Path._≡_, Path.refl, Path.sym, Path._∙_, Path.ap, List.List, List.[], List._∷_, List._++_}
 use mathlib.Core.Logic.{_≢_, _⊎_, inl, inr, _↔_}
 use mathlib.Core.Bool.{Bool, true, false, cond, true≢false}
-use mathlib.Core.List.{List, [], _∷_, _++_}
 use Prim.Native.Nat.{ℕ, zero, suc, _+_, _-_, _*_, _≤_, _<_, min}
 use native.Mathlib.Nat.{le-refl, le-trans, le-of-lt, le-of-eq, le-step, le-of-suc-le-suc, eq-or-lt-of-le}
-use native.Mathlib.Omega.{arith}
-use native.Mathlib.Decide.{ℕ-discrete, decLe, le-ind}
+use native.Mathlib.{Omega.arith, Decide.ℕ-discrete, Decide.decLe, Decide.le-ind}
 use lib.ListN.{length, getD, set, replicate, length-set, length-replicate, length-append}
 use lib.Seq.{getD-set-same, getD-set-other}
 use Rattle.theory_paths.specs.Graph.{
@@ -27,8 +25,7 @@ use Rattle.theory_paths.specs.Graph.{
   Reachable,
 }
 use Rattle.theory_paths.specs.Drive.{driven-append, path-append, arc-takes, path-takes}
-use Rattle.theory_paths.specs.Earliest.{never, Exact, exact-never}
-use Rattle.theory_paths.specs.Simple.{shorten}
+use Rattle.theory_paths.specs.{Earliest.never, Earliest.Exact, Earliest.exact-never, Simple.shorten}
 
 abbrev pub label : List ℕ → ℕ → ℕ
 label L v = getD L v never

@@ -2,13 +2,10 @@
 -- where there is no path (`leastTicks`). A number is the least travel exactly where it is a path's and no
 -- path takes less (`least-is`). As a profile they are the true one (`least-true`), and a profile is true
 -- exactly where it is this one (`least-exactly`): so a contract may equate a table with them.
-use mathlib.Core.Path.{_≡_, refl, sym, _∙_, ap}
-use mathlib.Core.Logic.{_≢_, _↔_}
+use mathlib.Core.{Path._≡_, Path.refl, Path.sym, Path._∙_, Path.ap, Logic._≢_, Logic._↔_, List.List}
 use mathlib.Core.Bool.{Bool, true, false, cond}
-use mathlib.Core.List.{List}
 use Prim.Native.Nat.{ℕ, _+_, _-_, _*_, _≤_, _<_}
-use native.Mathlib.Omega.{arith}
-use native.Mathlib.Decide.{decLt}
+use native.Mathlib.{Omega.arith, Decide.decLt}
 use lib.Dec.{eqb}
 use borrow.Author.Tests.{eqb-true, eqb-false, eq-eqb, ne-eqb}
 use Rattle.theory_paths.specs.Graph.{Graph, Lawful, Bounded, all, IsPath, driven, Arrival}

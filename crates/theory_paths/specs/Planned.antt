@@ -2,23 +2,18 @@
 -- starts a least path to some border of c at some tick (`planned-exactly`); that is tested on the least
 -- travels alone (`starts-exactly`). With true profiles such flags are enough (`planned-enough`) and pass what
 -- a check tests (`planned-checked`): every plan so made is accepted.
-use mathlib.Core.Path.{_≡_, refl, sym, _∙_, ap}
+use mathlib.Core.{Path._≡_, Path.refl, Path.sym, Path._∙_, Path.ap, List.List, List._∷_}
 use mathlib.Core.Logic.{_↔_, _⊎_, inl, inr}
 use mathlib.Core.Bool.{Bool, true, false, _&&_, _||_, and-eq-true-iff, true≢false}
-use mathlib.Core.List.{List, _∷_}
 use Prim.Native.Nat.{ℕ, _+_, _%_, _≤_, _<_}
-use native.Mathlib.Nat.{le-antisymm, mod-lt, mod-add-div'}
-use native.Mathlib.Omega.{arith}
-use native.Mathlib.Decide.{decLt}
+use native.Mathlib.{Nat.le-antisymm, Nat.mod-lt, Nat.mod-add-div', Omega.arith, Decide.decLt}
 use lib.Dec.{eqb}
 use borrow.Author.Tests.{eqb-true, eq-eqb}
 use Rattle.theory_loops.specs.First.{any, any-found, yes-any, any-none, any-more}
 use Rattle.theory_paths.specs.Graph.{Graph, Lawful, ends, all, ArcFrom, step, driven}
-use Rattle.theory_paths.specs.Drive.{driven-mod, arc-takes}
-use Rattle.theory_paths.specs.Earliest.{never}
+use Rattle.theory_paths.specs.{Drive.driven-mod, Drive.arc-takes, Earliest.never, Flags.border-node}
 use Rattle.theory_paths.specs.Profiles.{Profile, StartsLeast, Toward, profile-exact, toward-exact}
 use Rattle.theory_paths.specs.Flags.{Border, flagged, EnoughFlags, TrueProfiles, Checked, checked-exact}
-use Rattle.theory_paths.specs.Flags.{border-node}
 use Rattle.theory_paths.specs.Least.{Travels, Modest, Least, leastTicks, leastTravel, least-travels}
 use Rattle.theory_paths.specs.Least.{least-true, least-known}
 use Rattle.theory_paths.specs.Settled.{givesTicks, gives-now}

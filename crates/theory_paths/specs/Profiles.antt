@@ -2,12 +2,10 @@
 -- opposite of what each test refuses. 21 to 23 hold everywhere exactly when the profile is the true least
 -- travel (`profile-exact`); and then 24 holds everywhere exactly when permitted arcs start least paths from
 -- every node at every tick (`toward-exact`).
-use mathlib.Core.Path.{_≡_, refl, sym, _∙_, ap}
-use mathlib.Core.Logic.{_↔_, _≢_}
+use mathlib.Core.{Path._≡_, Path.refl, Path.sym, Path._∙_, Path.ap, Logic._↔_, Logic._≢_}
 use mathlib.Core.List.{List, [], _∷_}
 use Prim.Native.Nat.{ℕ, zero, suc, _+_, _-_, _%_, _≤_, _<_}
-use native.Mathlib.Nat.{mod-lt, mod-eq-of-lt, mod-add-mod, mod-add-div'}
-use native.Mathlib.Omega.{arith}
+use native.Mathlib.{Nat.mod-lt, Nat.mod-eq-of-lt, Nat.mod-add-mod, Nat.mod-add-div', Omega.arith}
 use native.Mathlib.Decide.{ℕ-discrete}
 use Rattle.theory_paths.specs.Graph.{
   Graph,
@@ -253,10 +251,7 @@ module _ {g : Graph} (ok : Lawful g) (D : Profile) where
   -- a true profile has no number exactly where there is no path
   pub true-unreachable : {b : ℕ} → TrueProfile g b D → (u x : ℕ) → u < nodes → x < period
       → (D u x ≡ unreachable) ↔ (¬ Reachable g all u b)
-  true-unreachable {b} t u x n h = (
-    t .none u x n h,
-    λ k. go k (D u x) refl,
-  )
+  true-unreachable {b} t u x n h = (t .none u x n h, λ k. go k (D u x) refl)
     where
       go : ¬ Reachable g all u b → (d : Travel) → D u x ≡ d → d ≡ unreachable
       go k unreachable q = refl

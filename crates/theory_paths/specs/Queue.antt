@@ -3,17 +3,11 @@
 -- it have not been lowered since. Arcs that give nothing below a bar may be left out. Where no dirty node has
 -- a number below the bar, the numbers up to it are least (`queue-least`), whatever the order in which nodes
 -- were taken.
-use mathlib.Core.Path.{_≡_, sym, _∙_}
-use mathlib.Core.Logic.{_≢_}
-use mathlib.Core.List.{List}
+use mathlib.Core.{Path._≡_, Path.sym, Path._∙_, Logic._≢_, List.List}
 use Prim.Native.Nat.{ℕ, _+_, _%_, _≤_, _<_, min}
-use native.Mathlib.Nat.{le-trans, mod-lt}
-use native.Mathlib.Omega.{arith}
-use native.Mathlib.Decide.{ℕ-discrete, decLt, decLe}
-use lib.ListN.{length, getD, set}
-use lib.Seq.{getD-set-same, getD-set-other}
-use Rattle.theory_paths.specs.Graph.{Graph, Lawful, all, Arrival}
-use Rattle.theory_paths.specs.Earliest.{never}
+use native.Mathlib.{Nat.le-trans, Nat.mod-lt, Omega.arith, Decide.ℕ-discrete, Decide.decLt, Decide.decLe}
+use lib.{ListN.length, ListN.getD, ListN.set, Seq.getD-set-same, Seq.getD-set-other}
+use Rattle.theory_paths.specs.{Graph.Graph, Graph.Lawful, Graph.all, Graph.Arrival, Earliest.never}
 use Rattle.theory_paths.specs.Least.{Travels, IsLeast}
 use Rattle.theory_paths.specs.Settled.{givesTicks, Sound, settled-least, arc-path, first-sound}
 

@@ -1,19 +1,14 @@
 -- The chosen path does not depend on the labels and hops by which it is found: it is the same by any exact
 -- labels as far as both know (`chosen-same`), and by any hops of them (`chosen-traced`), so a search that
 -- carries hops comes to it.
-use mathlib.Core.Path.{_≡_, refl, sym, _∙_, ap}
-use mathlib.Core.Logic.{_≢_}
+use mathlib.Core.{Path._≡_, Path.refl, Path.sym, Path._∙_, Path.ap, Logic._≢_, List.List, List.[], List._∷_}
 use mathlib.Core.Bool.{Bool, true, false, cond}
-use mathlib.Core.List.{List, [], _∷_}
 use Prim.Native.Nat.{ℕ, zero, suc, _+_, _≤_, _<_, min}
-use native.Mathlib.Nat.{le-refl, le-trans, le-antisymm}
-use native.Mathlib.Decide.{ℕ-discrete, decLt}
-use native.Mathlib.Omega.{arith}
+use native.Mathlib.{Nat.le-refl, Nat.le-trans, Nat.le-antisymm, Decide.ℕ-discrete, Decide.decLt, Omega.arith}
 use lib.Dec.{eqb}
 use borrow.Author.Tests.{eqb-false}
-use Rattle.theory_paths.specs.Graph.{Graph, Lawful, Permit}
+use Rattle.theory_paths.specs.{Graph.Graph, Graph.Lawful, Graph.Permit, Labels.label}
 use Rattle.theory_paths.specs.Earliest.{Exact, exact-same}
-use Rattle.theory_paths.specs.Labels.{label}
 use Rattle.theory_paths.specs.Hops.{tight, Known, Tight, Last, Counted, tight-less, known-tail}
 use Rattle.theory_paths.specs.Chosen.{
   explains,

@@ -2,17 +2,12 @@
 -- and no arc gives less than its tail's number (`Settled`), or only what is not wanted: a number that is not
 -- below some bar. Numbers up to the bar are the least travels then (`settled-least`), in whatever order they
 -- were worked out.
-use mathlib.Core.Path.{_≡_, refl}
-use mathlib.Core.Logic.{_≢_}
-use mathlib.Core.List.{List, [], _∷_}
+use mathlib.Core.{Path._≡_, Path.refl, Logic._≢_, List.List, List.[], List._∷_}
 use Prim.Native.Nat.{ℕ, _+_, _%_, _≤_, _<_, min}
-use native.Mathlib.Nat.{mod-lt, mod-eq-of-lt, mod-add-mod, mod-add-div'}
-use native.Mathlib.Omega.{arith}
+use native.Mathlib.{Nat.mod-lt, Nat.mod-eq-of-lt, Nat.mod-add-mod, Nat.mod-add-div', Omega.arith}
 use native.Mathlib.Decide.{ℕ-discrete, decLt}
 use Rattle.theory_paths.specs.Graph.{Graph, Lawful, ends, all, ArcFrom, IsPath, stop, step, driven}
-use Rattle.theory_paths.specs.Graph.{Arrival}
-use Rattle.theory_paths.specs.Drive.{driven-mod, arc-takes}
-use Rattle.theory_paths.specs.Earliest.{never}
+use Rattle.theory_paths.specs.{Graph.Arrival, Drive.driven-mod, Drive.arc-takes, Earliest.never}
 use Rattle.theory_paths.specs.Least.{Travels, IsLeast}
 
 -- What arc a gives at tick x: its travel, and its head's number at the tick at which it ends.

@@ -1,12 +1,9 @@
 -- The pigeonhole: distinct numbers below n are at most n. So a path of n arcs or more visits a node twice,
 -- and every path has one of fewer than n arcs, with its cycles cut out, that ends no later.
-use mathlib.Core.Path.{_≡_, refl, _∙_, ap}
-use mathlib.Core.Logic.{_≢_, _⊎_, inl, inr}
+use mathlib.Core.{Path._≡_, Path.refl, Path._∙_, Path.ap, Logic._≢_, Logic._⊎_, Logic.inl, Logic.inr}
 use mathlib.Core.List.{List, [], _∷_}
 use Prim.Native.Nat.{ℕ, zero, suc, _+_, _-_, _*_, _≤_, _<_}
-use native.Mathlib.Nat.{le-refl, le-trans, mul-le-mul-right}
-use native.Mathlib.Omega.{arith}
-use native.Mathlib.Decide.{ℕ-discrete}
+use native.Mathlib.{Nat.le-refl, Nat.le-trans, Nat.mul-le-mul-right, Omega.arith, Decide.ℕ-discrete}
 use lib.ListN.{length}
 use Rattle.theory_paths.specs.Graph.{Graph, Lawful, Bounded, ends, Permit, IsPath, stop, step, driven}
 use Rattle.theory_paths.specs.Drive.{arc-takes, later, path-bound}

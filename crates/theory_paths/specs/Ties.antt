@@ -1,15 +1,11 @@
 -- Where rules for ties part, on two graphs of four nodes, from node 0 to node 3 leaving at tick 0. In
 -- `falling` the fewest arcs of all that arrive at 7 are 0 and 3, but they come to node 1 a tick late and win
 -- it back; the chosen path is there in time. In `crossing` two paths tie, and they part by their last arcs.
-use mathlib.Core.Path.{_≡_, refl}
-use mathlib.Core.Bool.{cond}
-use mathlib.Core.List.{List, [], _∷_}
+use mathlib.Core.{Path._≡_, Path.refl, Bool.cond, List.List, List.[], List._∷_}
 use Prim.Native.Nat.{ℕ}
-use lib.ListN.{getD}
-use lib.Dec.{eqb, ltb}
-use Rattle.theory_paths.specs.Graph.{Graph, ends, all, driven}
+use lib.{ListN.getD, Dec.eqb, Dec.ltb}
+use Rattle.theory_paths.specs.{Graph.Graph, Graph.ends, Graph.all, Graph.driven, Hops.hops}
 use Rattle.theory_paths.specs.Labels.{relaxed, rounds, labels}
-use Rattle.theory_paths.specs.Hops.{hops}
 use Rattle.theory_paths.specs.Chosen.{lowest, back, traced, chosen}
 
 -- Arcs 0: 0 to 1, taking 3. 1: 0 to 2, and 2: 2 to 1, taking 1 each. 3: 1 to 3, taking 5 before tick 3, then

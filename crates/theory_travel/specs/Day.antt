@@ -1,16 +1,13 @@
 -- The points of one day as a file has them: n points and the period. They are closed by the next day's first,
 -- (period, value of the first), so that the line runs on after the last point, and then have all the laws of
 -- points in general. It also has the laws by which code that has found the segment gives the value.
-use mathlib.Core.Path.{_≡_, sym, _∙_, ap}
-use mathlib.Core.Bool.{cond}
+use mathlib.Core.{Path._≡_, Path.sym, Path._∙_, Path.ap, Bool.cond}
 use Prim.Native.Nat.{ℕ, suc, _+_, _-_, _%_, _≤_, _<_}
-use native.Mathlib.Decide.{decLt}
-use native.Mathlib.Numerals.{add-one}
-use native.Mathlib.Omega.{arith}
+use native.Mathlib.{Decide.decLt, Numerals.add-one, Omega.arith}
 use lib.Dec.{ltb}
 use borrow.Author.Tests.{lt-ltb, le-ltb}
 use Rattle.theory_loops.specs.First.{first-same}
-use Rattle.theory_travel.specs.Line.{line}
+use Rattle.theory_travel.specs.{Line.line, Search.Sorted, Search.Last}
 use Rattle.theory_travel.specs.Points.{
   Points,
   Fifo,
@@ -22,7 +19,6 @@ use Rattle.theory_travel.specs.Points.{
   value-most,
   fifo-over,
 }
-use Rattle.theory_travel.specs.Search.{Sorted, Last}
 
 -- f at the day's n points, and from there on e, the next day's first
 unfoldable pub closed : ℕ → (ℕ → ℕ) → ℕ → ℕ → ℕ

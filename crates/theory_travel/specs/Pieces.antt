@@ -3,11 +3,9 @@
 -- in place from a file, has them.
 use mathlib.Core.Path.{_≡_, refl, sym}
 use Prim.Native.Nat.{ℕ, _+_, _≤_, _<_}
-use native.Mathlib.Numerals.{add-one}
-use native.Mathlib.Omega.{arith}
-use Rattle.theory_travel.specs.Line.{line}
+use native.Mathlib.{Numerals.add-one, Omega.arith}
+use Rattle.theory_travel.specs.{Line.line, Search.Last, Search.between-end}
 use Rattle.theory_travel.specs.Day.{Day, dayValue, day-sorted, to-next, to-first}
-use Rattle.theory_travel.specs.Search.{Last, between-end}
 
 -- the line from (a, v) to (b, w) as a function of the tick
 unfoldable pub lineAt : ℕ → ℕ → ℕ → ℕ → ℕ → ℕ

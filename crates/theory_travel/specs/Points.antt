@@ -2,9 +2,7 @@
 -- tick lies in, the value there, and the laws of values, FIFO over all days among them. The ticks and values
 -- are any functions, so that whoever reads points, from lists or in place from a file, has these laws for the
 -- asking.
-use mathlib.Core.Path.{_≡_, refl, ap}
-use mathlib.Core.Bool.{Bool}
-use mathlib.Core.Logic.{⊎-elim}
+use mathlib.Core.{Path._≡_, Path.refl, Path.ap, Bool.Bool, Logic.⊎-elim}
 use Prim.Native.Nat.{ℕ, zero, suc, _+_, _-_, _*_, _/_, _%_, _≤_, _<_, zero-le}
 use native.Mathlib.Nat.{
   le-trans,
@@ -16,8 +14,7 @@ use native.Mathlib.Nat.{
   le-div-iff-mul-le,
   mul-le-mul-right,
 }
-use native.Mathlib.Decide.{ℕ-discrete, decLe}
-use native.Mathlib.Omega.{arith}
+use native.Mathlib.{Decide.ℕ-discrete, Decide.decLe, Omega.arith}
 use lib.Dec.{ltb}
 use borrow.Author.Tests.{ltb-true, ltb-false}
 use Rattle.theory_loops.specs.First.{first, first-le, found, least}

@@ -1,7 +1,6 @@
 -- Points that stand in lists: the ticks in one and the values in another, `count` of them from index `from`
 -- on, for one arc or profile; and the value at a tick by such points, which is what code computes.
-use mathlib.Core.Path.{_≡_, _∙_}
-use mathlib.Core.List.{List}
+use mathlib.Core.{Path._≡_, Path._∙_, List.List}
 use Prim.Native.Nat.{ℕ, _+_}
 use native.Mathlib.Nat.{add-zero}
 use lib.ListN.{getD}

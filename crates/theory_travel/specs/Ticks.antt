@@ -1,8 +1,6 @@
 -- The rule for the ticks of points, as a test at each of them: the first is 0, each later one rises, and all
 -- are below the period. No tick is bad exactly where they are a day's (`ticks-day`).
-use mathlib.Core.Path.{_≡_}
-use mathlib.Core.Logic.{_↔_}
-use mathlib.Core.Bool.{Bool, false, not, _||_}
+use mathlib.Core.{Path._≡_, Logic._↔_, Bool.Bool, Bool.false, Bool.not, Bool._||_}
 use Prim.Native.Nat.{ℕ, zero, suc, _<_}
 use lib.Dec.{leb, eqb}
 use borrow.Author.Tests.{leb-false, eqb-true, not-false, lt-leb, eq-eqb}

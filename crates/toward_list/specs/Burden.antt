@@ -1,17 +1,11 @@
 -- What is left to do, as a number: it falls with each node that is taken. Twice the sum of all numbers, and
 -- the dirty nodes: an arc that lowers some number makes at most one more node dirty.
-use mathlib.Core.Path.{_≡_, refl, ap}
-use mathlib.Core.Bool.{false}
-use mathlib.Core.Logic.{_≢_}
-use mathlib.Core.List.{List}
+use mathlib.Core.{Path._≡_, Path.refl, Path.ap, Bool.false, Logic._≢_, List.List}
 use Prim.Native.Nat.{ℕ, zero, suc, _+_, _*_, _≤_, _<_, min}
-use native.Mathlib.Omega.{arith}
-use native.Mathlib.Decide.{ℕ-discrete, decLt}
-use lib.ListN.{length, getD, set}
-use lib.Seq.{getD-set-same, getD-set-other}
+use native.Mathlib.{Omega.arith, Decide.ℕ-discrete, Decide.decLt}
+use lib.{ListN.length, ListN.getD, ListN.set, Seq.getD-set-same, Seq.getD-set-other}
 use Rattle.theory_loops.specs.Total.{total, total-same}
-use Rattle.toward_row.specs.Cut.{Cut}
-use Rattle.toward_row.specs.Lower.{entries}
+use Rattle.toward_row.specs.{Cut.Cut, Lower.entries}
 use Rattle.network.specs.Limits.{mostNodes}
 
 -- 1 where a node is dirty

@@ -3,22 +3,16 @@
 -- that no entry of its row is above. A row gets its first numbers from one that has some, and then they are
 -- at most a period more; after that they only fall. So no number comes to a period for each node that has
 -- some.
-use mathlib.Core.Path.{_≡_, sym, _∙_, ap}
-use mathlib.Core.Bool.{Bool, true, false}
-use mathlib.Core.Logic.{_≢_}
+use mathlib.Core.{Path._≡_, Path.sym, Path._∙_, Path.ap, Bool.Bool, Bool.true, Bool.false, Logic._≢_}
 use mathlib.Core.List.{List}
 use Prim.Native.Nat.{ℕ, _+_, _-_, _*_, _≤_, _<_, min}
-use native.Mathlib.Nat.{mul-le-mul, mul-le-mul-right}
-use native.Mathlib.Omega.{arith}
-use native.Mathlib.Decide.{ℕ-discrete}
+use native.Mathlib.{Nat.mul-le-mul, Nat.mul-le-mul-right, Omega.arith, Decide.ℕ-discrete}
 use lib.ListN.{length, getD, set, replicate, length-set, length-replicate, getD-replicate}
 use lib.Seq.{getD-set-same, getD-set-other}
-use Rattle.theory_loops.specs.Total.{total}
-use Rattle.theory_loops.specs.Grid.{gridAt}
+use Rattle.theory_loops.specs.{Total.total, Grid.gridAt}
 use Rattle.theory_paths.specs.Earliest.{never}
 use Rattle.network.specs.declared.header.Layout.{Layout}
-use Rattle.network.specs.Decode.{Small}
-use Rattle.network.specs.Limits.{mostNodes}
+use Rattle.network.specs.{Decode.Small, Limits.mostNodes}
 use Rattle.toward_row.specs.Lower.{Capped, Known}
 use Rattle.toward_list.specs.Burden.{flag, total-set, total-flag}
 

@@ -1,17 +1,11 @@
 -- A table of each arc's least travel, found among its points: no travel of the arc is less.
-use mathlib.Core.Path.{_≡_}
-use mathlib.Core.List.{List}
+use mathlib.Core.{Path._≡_, List.List}
 use Prim.Native.Nat.{ℕ, _+_, _≤_, _<_, min}
-use native.Mathlib.Omega.{arith}
-use native.Mathlib.Decide.{ℕ-discrete}
-use lib.ListN.{length, getD, set}
-use lib.Seq.{getD-set-same, getD-set-other}
-use Rattle.theory_travel.specs.Day.{day-least}
-use Rattle.theory_travel.specs.Table.{entryAt, valueAt}
+use native.Mathlib.{Omega.arith, Decide.ℕ-discrete}
+use lib.{ListN.length, ListN.getD, ListN.set, Seq.getD-set-same, Seq.getD-set-other}
+use Rattle.theory_travel.specs.{Day.day-least, Table.entryAt, Table.valueAt}
 use Rattle.network.specs.declared.header.Layout.{Layout}
-use Rattle.network.specs.Network.{count}
-use Rattle.network.specs.Decode.{decode}
-use Rattle.network.specs.Town.{travelAt}
+use Rattle.network.specs.{Network.count, Decode.decode, Town.travelAt}
 use Rattle.toward_row.specs.Arcs.{Primed, arc-of}
 
 -- r is at most the first n entries of a part of a list.

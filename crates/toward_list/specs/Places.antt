@@ -1,22 +1,15 @@
 -- Where a node's row stands, and the laws of the loops that copy one, fill one, and look for its least and
 -- its greatest number.
-use mathlib.Core.Path.{_≡_, refl, sym, _∙_, ap}
-use mathlib.Core.List.{List}
+use mathlib.Core.{Path._≡_, Path.refl, Path.sym, Path._∙_, Path.ap, List.List}
 use Prim.Native.Nat.{ℕ, _+_, _-_, _*_, _≤_, _<_, min, max}
-use native.Mathlib.Nat.{mul-le-mul, mul-le-mul-right}
-use native.Mathlib.Omega.{arith}
-use native.Mathlib.Decide.{ℕ-discrete, decLt}
+use native.Mathlib.{Nat.mul-le-mul, Nat.mul-le-mul-right, Omega.arith, Decide.ℕ-discrete, Decide.decLt}
 use lib.ListN.{getD}
-use mir.Val.{Fits}
-use mir.Syntax.{w64}
-use Rattle.theory_loops.specs.Fill.{Filled}
-use Rattle.theory_loops.specs.Grid.{gridAt}
+use mir.{Val.Fits, Syntax.w64}
+use Rattle.theory_loops.specs.{Fill.Filled, Grid.gridAt}
 use Rattle.theory_paths.specs.Earliest.{never}
 use Rattle.network.specs.declared.header.Layout.{Layout}
-use Rattle.network.specs.Decode.{Small}
-use Rattle.toward_list.specs.Heights.{Near, Highest}
-use Rattle.toward_list.specs.Rows.{rowsOf}
-use Rattle.network.specs.Limits.{mostNodes}
+use Rattle.network.specs.{Decode.Small, Limits.mostNodes}
+use Rattle.toward_list.specs.{Heights.Near, Heights.Highest, Rows.rowsOf}
 
 module _ {l : Layout} (s : Small l) {u : ℕ} (h : u < l .nodes) where
   pub row-early : u * l .period + l .period < 2000000

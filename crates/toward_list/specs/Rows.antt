@@ -1,21 +1,14 @@
 -- Numbers in one list, row by row: node u's number at tick x stands at place u × period + x. What an arc
 -- lowered into the row of its tail makes of the list.
-use mathlib.Core.Path.{_≡_, refl, sym, _∙_, ap}
-use mathlib.Core.Bool.{Bool, false}
-use mathlib.Core.Logic.{_≢_}
+use mathlib.Core.{Path._≡_, Path.refl, Path.sym, Path._∙_, Path.ap, Bool.Bool, Bool.false, Logic._≢_}
 use mathlib.Core.List.{List, _++_}
 use Prim.Native.Nat.{ℕ, _+_, _-_, _*_, _%_, _≤_, _<_, min}
-use native.Mathlib.Nat.{mod-lt, mul-le-mul-right}
-use native.Mathlib.Omega.{arith}
-use native.Mathlib.Decide.{decLt}
+use native.Mathlib.{Nat.mod-lt, Nat.mul-le-mul-right, Omega.arith, Decide.decLt}
 use lib.ListN.{length, getD, take, drop, length-append, length-take, length-drop, List·getD-append}
 use lib.Seq.{ext-getD, getD-append-add, getD-drop, getD-take, length-take-le}
 use Rattle.theory_loops.specs.Grid.{gridAt}
-use Rattle.theory_paths.specs.Graph.{Graph}
-use Rattle.theory_paths.specs.Least.{Travels, leastTicks}
-use Rattle.theory_paths.specs.Settled.{givesTicks}
-use Rattle.toward_row.specs.Cut.{Cut}
-use Rattle.toward_row.specs.Lower.{entries, offer, lowest, lowered, Known}
+use Rattle.theory_paths.specs.{Graph.Graph, Least.Travels, Least.leastTicks, Settled.givesTicks}
+use Rattle.toward_row.specs.{Cut.Cut, Lower.entries, Lower.offer, Lower.lowest, Lower.lowered, Lower.Known}
 use Rattle.theory_paths.specs.Queue.{Lowering}
 
 abbrev pub rowsOf : ℕ → List ℕ → Travels

@@ -1,22 +1,16 @@
 -- The rows as they read while the work goes on (`seen`): that of a node with 0 in H has no number, whatever
 -- stands in the list. So no row need be filled before it gets its first numbers, but those that got none and
 -- are wanted are filled in the end (`ShownFor`).
-use mathlib.Core.Path.{_≡_, refl, sym, _∙_}
-use mathlib.Core.Bool.{Bool, true, false, true≢false}
-use mathlib.Core.Logic.{_≢_}
-use mathlib.Core.List.{List}
+use mathlib.Core.{Path._≡_, Path.refl, Path.sym, Path._∙_, Bool.Bool, Bool.true, Bool.false, Bool.true≢false}
+use mathlib.Core.{Logic._≢_, List.List}
 use Prim.Native.Nat.{ℕ, zero, suc, _+_, _-_, _*_, _/_, _≤_, _<_}
 use native.Mathlib.Nat.{div-eq-of-lt-le, div-mul-le-self, lt-div-mul-add, mul-le-mul-right}
-use native.Mathlib.Omega.{arith}
-use native.Mathlib.Decide.{ℕ-discrete, decLt}
+use native.Mathlib.{Omega.arith, Decide.ℕ-discrete, Decide.decLt}
 use lib.ListN.{length, getD, List·getD-eq-default}
-use Rattle.theory_loops.specs.Fill.{Filled, tab, length-tab, getD-tab}
-use Rattle.theory_loops.specs.Grid.{gridAt}
-use Rattle.theory_paths.specs.Graph.{Graph}
-use Rattle.theory_paths.specs.Earliest.{never}
+use Rattle.theory_loops.specs.{Fill.Filled, Fill.tab, Fill.length-tab, Fill.getD-tab, Grid.gridAt}
+use Rattle.theory_paths.specs.{Graph.Graph, Earliest.never}
 use Rattle.network.specs.declared.header.Layout.{Layout}
-use Rattle.toward_row.specs.Cut.{Cut, Fallen}
-use Rattle.toward_row.specs.Lower.{offer, lowest, Known}
+use Rattle.toward_row.specs.{Cut.Cut, Cut.Fallen, Lower.offer, Lower.lowest, Lower.Known}
 use Rattle.toward_list.specs.Heights.{Heights, Near, Highest, Bounds}
 use Rattle.toward_list.specs.Rows.{rowLowered, WorkedFor}
 
@@ -120,9 +114,9 @@ pub seen-size : {l : Layout} {D H : List ℕ} (W : List ℕ) → Heights l (seen
 seen-size {l} {H = H} W o = sym (seen-long (l .period) H W) ∙ o .size
 
 -- first or not
-pub told : {A : Type 0} (first : Bool) → (first ≡ true → A) → (first ≡ false → A) → A
-told true f g = f refl
-told false f g = g refl
+pub by-first : {A : Type 0} (first : Bool) → (first ≡ true → A) → (first ≡ false → A) → A
+by-first true f g = f refl
+by-first false f g = g refl
 
 -- what an entry becomes is at most what is given
 lowest-most : (first : Bool) (old given : ℕ) → lowest first old given ≤ given
@@ -140,11 +134,7 @@ module _ {r : ℕ} {first : Bool} {W M : List ℕ} (wide u : ℕ) (w h : ℕ →
 
   pub row-most : (k : ℕ) → u * wide ≤ k → k < u * wide + wide → getD M k 0 ≤ offer w h wide (k - u * wide)
   row-most k lo hi =
-      omega (
-        arith,
-        row-given k lo hi,
-        lowest-most first (getD W k 0) (offer w h wide (k - u * wide)),
-      )
+      omega (arith, row-given k lo hi, lowest-most first (getD W k 0) (offer w h wide (k - u * wide)))
 
   pub row-first : first ≡ true → (x : ℕ) → x < wide → gridAt wide M u x ≡ offer w h wide x
   unfolding gridAt lowest
@@ -171,7 +161,7 @@ module _ {r : ℕ} {first : Bool} {W M : List ℕ} (wide u : ℕ) (w h : ℕ →
         → lowest first (getD W k 0) (offer w h wide (k - u * wide))
         ≡ rowLowered false w h wide (u * wide) (seen wide H W) k
     unfolding rowLowered lowest
-    entry-lowest k lo hi = told first
+    entry-lowest k lo hi = by-first first
         (λ t. rw t (omega (
           arith,
           entry-bare wide H W u k lo hi (omega arith) (bare t),
@@ -219,20 +209,16 @@ module _ {r : ℕ} {first : Bool} {W M : List ℕ} (wide u : ℕ) (w h : ℕ →
       };
       few = c .few;
       all = λ t. absurd (true≢false (sym t));
-      none = λ _ z k lo hi. told first (λ t. absurd (omega (arith, c .all t)))
+      none = λ _ z k lo hi. by-first first (λ t. absurd (omega (arith, c .all t)))
           (λ t. entry-some wide I M u k lo hi got ∙ c .none t z k lo hi
           ∙ sym (entry-some wide H W u k lo hi (known t)));
-      some = λ _ z. told first fallen-first (λ t. fallen (c .some t z) (known t));
+      some = λ _ z. by-first first fallen-first (λ t. fallen (c .some t z) (known t));
     }
 
 -- FOR THE LOOP that fills the rows without a number
 module _ (wide from : ℕ) (H W : List ℕ) where
   pub shown-none : Shown wide from from H W W
-  shown-none = record {
-    long = refl;
-    row = λ u x lo hi h. absurd (omega arith);
-    after = λ u x l h. refl;
-  }
+  shown-none = record { long = refl; row = λ u x lo hi h. absurd (omega arith); after = λ u x l h. refl }
 
   module _ {M : List ℕ} (v : ℕ) (s : Shown wide from v H W M) where
     -- node v has numbers

@@ -1,17 +1,12 @@
 -- The lent work list as a whole: how many entries the least travels of a network take (`workSize`), and how
 -- an operation leaves the list that it has worked in (`cleared`).
-use mathlib.Core.Path.{_≡_, _∙_}
-use mathlib.Core.List.{List, _++_}
+use mathlib.Core.{Path._≡_, Path._∙_, List.List, List._++_}
 use Prim.Native.Nat.{ℕ, _*_, _≤_}
 use native.Mathlib.Omega.{arith}
-use lib.ListN.{length, take, drop, length-append}
-use lib.Seq.{drop-at, length-take-le}
+use lib.{ListN.length, ListN.take, ListN.drop, ListN.length-append, Seq.drop-at, Seq.length-take-le}
 use Rattle.theory_loops.specs.Fill.{Filled, tab, length-tab, overwritten, filled-list}
-use Rattle.network.specs.declared.header.Header.{Header}
-use Rattle.network.specs.declared.header.Layout.{Layout}
-use Rattle.network.specs.Network.{Network, nodes, start}
-use Rattle.network.specs.Layout.{layoutOf}
-use Rattle.network.specs.Decode.{decode}
+use Rattle.network.specs.declared.header.{Header.Header, Layout.Layout}
+use Rattle.network.specs.{Network.Network, Network.nodes, Network.start, Layout.layoutOf, Decode.decode}
 use Rattle.network.specs.Valid.{ValidFile, valid-laid}
 use Rattle.search_chains.specs.Town.{Town, town-of}
 use Rattle.toward_row.specs.Arcs.{Primed}

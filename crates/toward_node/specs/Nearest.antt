@@ -1,10 +1,7 @@
 -- The nearest dirty node: the laws of the two loops that look for it.
-use mathlib.Core.Path.{_≡_}
-use mathlib.Core.Logic.{_≢_}
-use mathlib.Core.List.{List}
+use mathlib.Core.{Path._≡_, Logic._≢_, List.List}
 use Prim.Native.Nat.{ℕ, _+_, _≤_, _<_, max}
-use native.Mathlib.Omega.{arith}
-use native.Mathlib.Decide.{ℕ-discrete, decLt}
+use native.Mathlib.{Omega.arith, Decide.ℕ-discrete, Decide.decLt}
 use lib.ListN.{getD}
 use Rattle.toward_node.specs.Turn.{Found}
 

@@ -1,43 +1,31 @@
 -- The laws of the code: an arc's turn, a node's turn, and turn after turn until no dirty node is near enough.
 -- `bar` is on the scale of the tables: what is not below never less `bar` is not wanted.
-use mathlib.Core.Path.{_≡_, refl, sym, _∙_, ap}
-use mathlib.Core.Bool.{Bool, true, false}
-use mathlib.Core.Logic.{_≢_}
-use mathlib.Core.List.{List}
+use mathlib.Core.{Path._≡_, Path.refl, Path.sym, Path._∙_, Path.ap, Bool.Bool, Bool.true, Bool.false}
+use mathlib.Core.{Logic._≢_, List.List}
 use Prim.Native.Nat.{ℕ, _+_, _-_, _*_, _%_, _^_, _≤_, _<_, max, zero-le}
-use native.Mathlib.Nat.{mul-le-mul, mul-le-mul-right, mod-lt}
-use native.Mathlib.Omega.{arith}
+use native.Mathlib.{Nat.mul-le-mul, Nat.mul-le-mul-right, Nat.mod-lt, Omega.arith}
 use native.Mathlib.Decide.{ℕ-discrete, decLt}
-use lib.ListN.{length, getD, set, replicate}
-use lib.Seq.{getD-set-same, getD-set-other}
-use Rattle.theory_loops.specs.Fill.{Filled}
-use Rattle.theory_loops.specs.Grid.{gridAt, grid-in}
-use Rattle.theory_paths.specs.Graph.{Graph}
-use Rattle.theory_paths.specs.Earliest.{never}
-use Rattle.theory_paths.specs.Least.{Travels, Modest, least-is}
-use Rattle.theory_paths.specs.Settled.{givesTicks}
+use lib.{ListN.length, ListN.getD, ListN.set, ListN.replicate, Seq.getD-set-same, Seq.getD-set-other}
+use Rattle.theory_loops.specs.{Fill.Filled, Grid.gridAt, Grid.grid-in}
+use Rattle.theory_paths.specs.{Graph.Graph, Earliest.never, Least.Travels, Least.Modest, Least.least-is}
+use Rattle.theory_paths.specs.{Settled.givesTicks, Queue.queue-first, Queue.queue-bar, Queue.Lowering}
 use Rattle.network.specs.declared.header.Layout.{Layout}
-use Rattle.network.specs.Network.{tail, head}
-use Rattle.network.specs.Decode.{decode}
+use Rattle.network.specs.{Network.tail, Network.head, Decode.decode}
 use Rattle.network.specs.Town.{graphOf, travelAt, town-bounded}
 use Rattle.search_chains.specs.Town.{Town, lawful, tail-node, head-node}
 use Rattle.search_chains.specs.Chain.{Chained, NextArc}
-use Rattle.toward_row.specs.Arcs.{Primed}
-use Rattle.toward_row.specs.Cut.{Cut}
-use Rattle.toward_row.specs.Lower.{entries, offer, Numbers}
+use Rattle.toward_row.specs.{Arcs.Primed, Cut.Cut, Lower.entries, Lower.offer, Lower.Numbers}
 use Rattle.theory_paths.specs.Queue.{Queue, queue-begin, queue-skip, queue-quiet, queue-lower, queue-least}
-use Rattle.theory_paths.specs.Queue.{queue-first, queue-bar, Lowering}
-use Rattle.toward_list.specs.Burden.{burden, burden-clear, burden-lower}
+use Rattle.toward_list.specs.{Burden.burden, Burden.burden-clear, Burden.burden-lower, Leasts.LeastTravel}
 use Rattle.toward_list.specs.Heights.{Heights, Held, Near, NearFirst, Highest, numbered}
 use Rattle.toward_list.specs.Heights.{number-early, heights-held, held-capped}
 use Rattle.toward_list.specs.Heights.{heights-clear, heights-lower, heights-first, numbered-early}
 use Rattle.toward_list.specs.Heights.{only-same, only-other, Lows, Bounds}
 use Rattle.toward_list.specs.Heights.{lows-taken, lows-bounds, lows-first}
-use Rattle.toward_list.specs.Leasts.{LeastTravel}
 use Rattle.toward_list.specs.Rows.{rowsOf, WorkedFor, rowLowered, row-lower, row-same, row-lowering}
 use Rattle.toward_list.specs.Rows.{row-quiet, row-held}
 use Rattle.toward_list.specs.Seen.{seen, seen-long, seen-size, seen-some, seen-bare}
-use Rattle.toward_list.specs.Seen.{seen-near, seen-highest, seen-cut, row-most, row-first, told}
+use Rattle.toward_list.specs.Seen.{seen-near, seen-highest, seen-cut, row-most, row-first, by-first}
 use Rattle.network.specs.Limits.{mostArcs, mostNodes, mostPeriod}
 
 -- A town, the table of its arcs' first points, and the chains of the arcs into each node.
@@ -358,7 +346,7 @@ module _ {file : List ℕ} {l : Layout} {starts hs W M D H : List ℕ} {a u near
     pub tail-quiet : {bar : ℕ} → r ≡ 0
         → Stepped file l a near bar hs (seen (l .period) H W) D H (seen (l .period) H M) D H
     tail-quiet z =
-        let f : first ≡ false = told first
+        let f : first ≡ false = by-first first
         (λ q. absurd (omega (arith, c .all q, t .town .small .period-some))) (λ q. q) in
         stepped-quiet t h o k e (cut-seen H (known f) (λ _ _. refl)) z
 
@@ -481,10 +469,7 @@ module _ {file : List ℕ} {l : Layout} {starts into next : List ℕ} (t : Ready
     bars = k;
     queue = queue-first (lawful town) (omega (arith, town .sizes .nodes)) home away
         (λ e. omega (arith, dirty));
-    found = record {
-      dirty = λ _ e. omega (arith, dirty);
-      none = λ m. absurd (omega arith);
-    };
+    found = record { dirty = λ _ e. omega (arith, dirty); none = λ m. absurd (omega arith) };
   }
     where
       only : List ℕ
@@ -563,11 +548,7 @@ module _ {file : List ℕ} {l : Layout} {starts into next : List ℕ} (t : Ready
             → never - bar ≤ gridAt (l .period) W u x
         far u x n y d =
             let o : u < l .nodes = omega (arith, town .sizes .nodes) in
-            omega (
-              arith,
-              w .heights .low u x o (omega (arith, town .sizes .period)) d,
-              w .found .none h u o,
-            )
+            omega (arith, w .heights .low u x o (omega (arith, town .sizes .period)) d, w .found .none h u o)
 
         -- the numbers that are wanted are not above the bar
         wanted : (u x : ℕ) → u < l .nodes → x < l .period → (goal < l .nodes → u ≡ goal)

@@ -1,16 +1,12 @@
 -- A row of travels, a number for each tick of a day, and the laws of the loop that counts its points.
-use mathlib.Core.Path.{_≡_, refl}
-use mathlib.Core.Logic.{_≢_}
-use mathlib.Core.Bool.{Bool, true, false, cond, not}
+use mathlib.Core.{Path._≡_, Path.refl, Logic._≢_, Bool.Bool, Bool.true, Bool.false, Bool.cond, Bool.not}
 use mathlib.Core.List.{List}
 use Prim.Native.Nat.{ℕ, _+_, _-_, _≤_, _<_, _^_}
 use native.Mathlib.Omega.{arith}
-use lib.ListN.{length, getD}
-use lib.Dec.{eqb}
+use lib.{ListN.length, ListN.getD, Dec.eqb}
 use borrow.Author.Tests.{eq-eqb, ne-eqb}
 use Rattle.theory_loops.specs.Count.{count, count-none, count-yes, count-no, count-few}
-use Rattle.theory_travel.specs.Day.{closed-in, closed-end}
-use Rattle.theory_travel.specs.Turns.{turns, straight, turnCount}
+use Rattle.theory_travel.specs.{Day.closed-in, Day.closed-end, Turns.turns, Turns.straight, Turns.turnCount}
 
 abbrev pub entryOf : List ℕ → ℕ → ℕ
 entryOf row x = getD row x 0

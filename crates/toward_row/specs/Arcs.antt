@@ -1,25 +1,17 @@
 -- An arc lowered piece by piece, by its points as the file has them.
-use mathlib.Core.Path.{_≡_, sym, _∙_}
-use mathlib.Core.Bool.{Bool}
-use mathlib.Core.List.{List}
+use mathlib.Core.{Path._≡_, Path.sym, Path._∙_, Bool.Bool, List.List}
 use Prim.Native.Nat.{ℕ, _+_, _≤_, _<_}
-use native.Mathlib.Omega.{arith}
-use native.Mathlib.Decide.{decLt}
+use native.Mathlib.{Omega.arith, Decide.decLt}
 use lib.ListN.{length, getD}
-use Rattle.theory_travel.specs.Day.{Day}
-use Rattle.theory_travel.specs.Table.{entryAt, valueAt}
-use Rattle.theory_travel.specs.Pieces.{lineAt}
+use Rattle.theory_travel.specs.{Day.Day, Table.entryAt, Table.valueAt, Pieces.lineAt}
 use Rattle.theory_travel.specs.Pieces.{tick-below, tick-rises, piece-next, piece-last}
 use Rattle.network.specs.declared.header.Layout.{Layout}
-use Rattle.network.specs.Network.{count, start}
-use Rattle.network.specs.Decode.{decode}
-use Rattle.network.specs.Town.{travelAt}
+use Rattle.network.specs.{Network.count, Network.start, Decode.decode, Town.travelAt, Limits.mostPeriod}
 use Rattle.search_chains.specs.Town.{Town}
 use Rattle.search_arcs.specs.Times.{arc-points, arc-day}
 use Rattle.toward_row.specs.Cut.{Cut, cut-as}
 use Rattle.toward_row.specs.Lower.{always, lowered, offer, Capped, Known, Ready, lower-join, known-part}
 use Rattle.travel_runs.specs.Runs.{value-flat}
-use Rattle.network.specs.Limits.{mostPeriod}
 
 -- A town, and the table of its arcs' first points.
 pub record Primed (file : List ℕ) (l : Layout) (starts : List ℕ) : Type 0 where

@@ -1,14 +1,10 @@
 -- What a loop leaves that lowers a part of a lent list: the part is filled, and a count is 0 exactly where no
 -- entry of it fell. Where the part is written for the first time all of its entries count.
-use mathlib.Core.Path.{_≡_, refl, sym, _∙_}
-use mathlib.Core.Bool.{Bool, true, false, true≢false}
-use mathlib.Core.Logic.{_≢_}
-use mathlib.Core.List.{List}
+use mathlib.Core.{Path._≡_, Path.refl, Path.sym, Path._∙_, Bool.Bool, Bool.true, Bool.false, Bool.true≢false}
+use mathlib.Core.{Logic._≢_, List.List}
 use Prim.Native.Nat.{ℕ, _+_, _-_, _≤_, _<_}
-use native.Mathlib.Decide.{ℕ-discrete, decLt}
-use native.Mathlib.Omega.{arith}
-use lib.ListN.{length, getD, set}
-use lib.Seq.{getD-set-same, getD-set-other}
+use native.Mathlib.{Decide.ℕ-discrete, Decide.decLt, Omega.arith}
+use lib.{ListN.length, ListN.getD, ListN.set, Seq.getD-set-same, Seq.getD-set-other}
 use Rattle.theory_loops.specs.Fill.{Filled, fill-none, fill-up, fill-within, fill-join}
 
 -- One entry, which does not rise: r is 1 where it fell, and 0 where not.

@@ -1,11 +1,8 @@
 -- What an arc gives at every tick, lowered into a row. An entry of a row is a travel to one node; a row that
 -- has none yet is written for the first time, whatever its entries are.
-use mathlib.Core.Path.{_≡_, refl, _∙_}
-use mathlib.Core.Bool.{Bool, true, false, true≢false}
-use mathlib.Core.List.{List}
+use mathlib.Core.{Path._≡_, Path.refl, Path._∙_, Bool.Bool, Bool.true, Bool.false, Bool.true≢false, List.List}
 use Prim.Native.Nat.{ℕ, _+_, _-_, _%_, _^_, _≤_, _<_, min}
-use native.Mathlib.Nat.{mod-eq-of-lt, mod-eq-sub-mod, le-of-lt}
-use native.Mathlib.Omega.{arith}
+use native.Mathlib.{Nat.mod-eq-of-lt, Nat.mod-eq-sub-mod, Nat.le-of-lt, Omega.arith}
 use lib.ListN.{length, getD, set}
 use Rattle.theory_loops.specs.Fill.{Filled, fill-up, fill-end}
 use Rattle.toward_row.specs.Cut.{Cut, Fell, cut-none, cut-up, cut-end, cut-as, cut-join}

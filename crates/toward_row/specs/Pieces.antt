@@ -1,20 +1,15 @@
 -- A piece of an arc's line lowered run by run: what the loops hold, and their laws.
-use mathlib.Core.Path.{_≡_, refl, sym, _∙_, ap}
-use mathlib.Core.Bool.{Bool}
-use mathlib.Core.List.{List}
+use mathlib.Core.{Path._≡_, Path.refl, Path.sym, Path._∙_, Path.ap, Bool.Bool, List.List}
 use Prim.Native.Nat.{ℕ, _+_, _-_, _*_, _/_, _≤_, _<_}
-use native.Mathlib.Nat.{mul-le-mul-right, div-mul-le-self}
-use native.Mathlib.Omega.{arith}
-use mir.Val.{Fits}
-use mir.Syntax.{w64}
+use native.Mathlib.{Nat.mul-le-mul-right, Nat.div-mul-le-self, Omega.arith}
+use mir.{Val.Fits, Syntax.w64}
 use Rattle.travel_runs.specs.Fixed.{stepUp, stepDown, floored, ceiled}
 use Rattle.theory_travel.specs.Pieces.{lineAt}
-use Rattle.travel_runs.specs.Fixed.{climb-floored, climb-ceiled}
+use Rattle.travel_runs.specs.{Fixed.climb-floored, Fixed.climb-ceiled, Runs.value-first, Runs.value-flat}
 use Rattle.toward_row.specs.Cut.{Cut, cut-none}
 use Rattle.toward_row.specs.Lower.{entries, always, lowered, Ready, lower-join, lower-as}
 use Rattle.travel_runs.specs.Runs.{ceiled-none, ceiled-more, ceiled-most, ceiled-all, floored-none}
 use Rattle.travel_runs.specs.Runs.{floored-more, floored-most, falling-value, rising-run, rising-last}
-use Rattle.travel_runs.specs.Runs.{value-first, value-flat}
 
 -- On a falling line run j begins at tick x.
 pub record FallingAt (a v b w step parts x j : ℕ) : Type 0 where

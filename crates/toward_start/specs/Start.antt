@@ -1,34 +1,20 @@
 -- Whether an arc starts a least path, told by lowering: the row of its tail with one more at each tick falls
 -- exactly where the arc gives the tail's number, since no arc gives less.
-use mathlib.Core.Path.{_≡_, refl, sym, _∙_, ap}
-use mathlib.Core.Logic.{_≢_}
+use mathlib.Core.{Path._≡_, Path.refl, Path.sym, Path._∙_, Path.ap, Logic._≢_, List.List}
 use mathlib.Core.Bool.{Bool, true, false}
-use mathlib.Core.List.{List}
 use Prim.Native.Nat.{ℕ, _+_, _-_, _*_, _%_, _≤_, _<_}
-use native.Mathlib.Nat.{mod-lt, le-antisymm, mul-le-mul}
-use native.Mathlib.Omega.{arith}
-use native.Mathlib.Decide.{decLt, ℕ-discrete}
-use lib.ListN.{length, getD, take, drop}
-use lib.Dec.{ltb}
+use native.Mathlib.{Nat.mod-lt, Nat.le-antisymm, Nat.mul-le-mul, Omega.arith, Decide.decLt, Decide.ℕ-discrete}
+use lib.{ListN.length, ListN.getD, ListN.take, ListN.drop, Dec.ltb}
 use borrow.Author.Tests.{eq-eqb, ne-eqb, lt-ltb, le-ltb}
-use Rattle.theory_loops.specs.First.{yes-any, any-clear}
-use Rattle.theory_loops.specs.Fill.{Filled}
-use Rattle.theory_loops.specs.Grid.{gridAt}
-use Rattle.theory_paths.specs.Graph.{Graph}
-use Rattle.theory_paths.specs.Earliest.{never}
+use Rattle.theory_loops.specs.{First.yes-any, First.any-clear, Fill.Filled, Grid.gridAt}
+use Rattle.theory_paths.specs.{Graph.Graph, Earliest.never, Least.least-reach, Least.least-bound}
 use Rattle.theory_paths.specs.Least.{Modest, leastTicks, least-travels, least-capped, never-always}
-use Rattle.theory_paths.specs.Least.{least-reach}
-use Rattle.theory_paths.specs.Least.{least-bound}
-use Rattle.theory_paths.specs.Settled.{givesTicks}
-use Rattle.theory_paths.specs.Planned.{starts, startsAt, gives-no-less}
+use Rattle.theory_paths.specs.{Settled.givesTicks, Planned.starts, Planned.startsAt, Planned.gives-no-less}
 use Rattle.network.specs.declared.header.Layout.{Layout}
-use Rattle.network.specs.Limits.{mostPeriod, mostNodes}
-use Rattle.network.specs.Network.{tail, head}
-use Rattle.network.specs.Decode.{decode}
+use Rattle.network.specs.{Limits.mostPeriod, Limits.mostNodes, Network.tail, Network.head, Decode.decode}
 use Rattle.network.specs.Town.{graphOf, travelAt}
 use Rattle.search_chains.specs.Town.{Town, lawful}
-use Rattle.toward_row.specs.Arcs.{Primed}
-use Rattle.toward_row.specs.Cut.{Cut}
+use Rattle.toward_row.specs.{Arcs.Primed, Cut.Cut}
 use Rattle.toward_row.specs.Lower.{entries, lowest, lowered, offer, Capped, Known}
 use Rattle.toward_list.specs.Rows.{Worked, row-long, row-entry}
 use Rattle.toward_node.specs.Turn.{modest}

@@ -5,8 +5,7 @@
 use mathlib.Core.Path.{_≡_, ap}
 use Prim.Native.Nat.{ℕ, _+_, _-_, _*_, _/_, _≤_, _<_}
 use native.Mathlib.Nat.{div-eq-of-lt-le, div-mul-le-self, lt-div-mul-add, le-of-mul-le-mul-right}
-use native.Mathlib.Nat.{lt-of-mul-lt-mul-right, mul-le-mul, mul-le-mul-right}
-use native.Mathlib.Omega.{arith}
+use native.Mathlib.{Nat.lt-of-mul-lt-mul-right, Nat.mul-le-mul, Nat.mul-le-mul-right, Omega.arith}
 
 -- a step of d / n in parts, rounded up and rounded down
 unfoldable pub stepUp : ℕ → ℕ → ℕ

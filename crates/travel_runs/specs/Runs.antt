@@ -5,9 +5,8 @@ use mathlib.Core.Path.{_≡_, _∙_, ap}
 use Prim.Native.Nat.{ℕ, _+_, _-_, _*_, _/_, _≤_, _<_}
 use native.Mathlib.Nat.{div-eq-of-lt-le, mul-le-mul-right, lt-of-mul-lt-mul-right, le-of-lt}
 use native.Mathlib.Omega.{arith}
-use Rattle.theory_travel.specs.Line.{line-first, line-rising, line-falling}
+use Rattle.theory_travel.specs.{Line.line-first, Line.line-rising, Line.line-falling, Pieces.lineAt}
 use Rattle.travel_runs.specs.Fixed.{floored, ceiled, floored-is, ceiled-is}
-use Rattle.theory_travel.specs.Pieces.{lineAt}
 
 -- WHERE RUNS BEGIN, d of them in n ticks
 module _ (n d : ℕ) (some : 0 < d) where

@@ -3,9 +3,7 @@
 use mathlib.Core.List.{List}
 use Prim.Native.Nat.{ℕ}
 use Rattle.theory_paths.specs.Graph.{all}
-use Rattle.network.specs.Limits.{mostNodes, mostRoads}
-use Rattle.network.specs.Decode.{decode}
-use Rattle.network.specs.Town.{graphOf}
+use Rattle.network.specs.{Limits.mostNodes, Limits.mostRoads, Decode.decode, Town.graphOf}
 use Rattle.search_path.specs.Answer.{pathOf, searched}
 use Rattle.search_path.specs.declared.answer.Answer.{Answer}
 use Rattle.trip_call.specs.Trip.{tripAnswer}

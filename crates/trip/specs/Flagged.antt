@@ -1,40 +1,30 @@
 -- The flagged trip: validation of both files, the refusals 25 to 27, and a search over the arcs with the flag
 -- of the target's cell.
-use mathlib.Core.Path.{_≡_, refl, sym, _∙_, ap}
+use mathlib.Core.{Path._≡_, Path.refl, Path.sym, Path._∙_, Path.ap, List.List}
 use mathlib.Core.Bool.{Bool, true, false, cond}
-use mathlib.Core.List.{List}
 use Prim.Native.Nat.{ℕ, _≤_, _<_}
 use native.Mathlib.Omega.{arith}
-use lib.ListN.{length, replicate, length-replicate}
-use lib.Dec.{eqb}
+use lib.{ListN.length, ListN.replicate, ListN.length-replicate, Dec.eqb}
 use Rattle.theory_loops.specs.Fill.{Filled}
-use Rattle.theory_paths.specs.Graph.{Graph, Permit}
-use Rattle.theory_paths.specs.Flags.{flagged}
+use Rattle.theory_paths.specs.{Graph.Graph, Graph.Permit, Flags.flagged}
 use Rattle.file_refusals.specs.declared.Refusal.{Refusal}
 use Rattle.network.specs.declared.answer.Opening.{Opening}
 use Rattle.network.specs.declared.answer.Opening.the-variants.{Opened, Refused}
 use Rattle.network.specs.declared.header.Header.{Header}
-use Rattle.network.specs.Limits.{mostArcs, mostCells}
-use Rattle.network.specs.Network.{arcs, cell}
-use Rattle.network.specs.Decode.{decode}
-use Rattle.network.specs.Town.{graphOf, partitionOf}
-use Rattle.network.specs.Validate.{validated}
+use Rattle.network.specs.{Limits.mostArcs, Limits.mostCells, Network.arcs, Network.cell, Decode.decode}
+use Rattle.network.specs.{Town.graphOf, Town.partitionOf, Validate.validated}
 use Rattle.network.specs.Valid.{ValidFile, valid-exactly}
 use Rattle.plan.specs.declared.answer.Planning.{Planning}
 use Rattle.plan.specs.declared.answer.Planning.the-variants as planning
-use Rattle.plan.specs.declared.header.PlanHeader.{PlanHeader}
-use Rattle.plan.specs.declared.header.PlanLayout.{PlanLayout}
-use Rattle.plan.specs.Plan.{Plan, bit, flag, towards}
-use Rattle.plan.specs.PlanDecode.{decodePlan, PlanLaid, flagWord}
-use Rattle.plan.specs.PlanLayout.{planLayoutOf}
-use Rattle.plan.specs.PlanValidate.{planned}
+use Rattle.plan.specs.declared.header.{PlanHeader.PlanHeader, PlanLayout.PlanLayout}
+use Rattle.plan.specs.{Plan.Plan, Plan.bit, Plan.flag, Plan.towards, PlanLayout.planLayoutOf}
+use Rattle.plan.specs.{PlanDecode.decodePlan, PlanDecode.PlanLaid, PlanDecode.flagWord, PlanValidate.planned}
 use Rattle.plan.specs.PlanHeader.{PlanWithin}
 use Rattle.plan.specs.PlanValid.{ValidPlan, valid-within, valid-plan-laid, valid-for, plan-exactly}
 use Rattle.search_labels.specs.Ready.{permitOf}
 use Rattle.search_path.specs.declared.answer.Answer.{Answer}
 use Rattle.search_path.specs.declared.answer.Answer.the-variants as answer
-use Rattle.trip_call.specs.Trip.{asked, andThen, TripCall}
-use Rattle.trip_call.specs.Stage.{asked-passed, then-passed}
+use Rattle.trip_call.specs.{Trip.asked, Trip.andThen, Trip.TripCall, Stage.asked-passed, Stage.then-passed}
 use Rattle.trip_call.specs.Drive.{call-permit, drive-nodes, drive-arcs, drive-cells, drive-period}
 use Rattle.trip_plain.specs.Plain.{Begun}
 

@@ -2,40 +2,29 @@
 -- document 01 each: over the arcs with the flag of the target's cell, whatever the plan says. And demand 3:
 -- under a plan that the check has accepted, whoever made it, the trip is as good as any way over any roads
 -- with any waits (`accepted-trip`; `accepted-call` for the call with fresh lists).
-use mathlib.Core.Path.{_≡_, refl}
-use mathlib.Core.Logic.{_↔_, _⊎_}
-use mathlib.Core.List.{List}
+use mathlib.Core.{Path._≡_, Path.refl, Logic._↔_, Logic._⊎_, List.List}
 use Prim.Native.Nat.{ℕ, _≤_, _<_}
 use native.Mathlib.Omega.{arith}
 use lib.ListN.{length, take}
-use Rattle.theory_paths.specs.Graph.{Graph, Permit, all, Reachable}
-use Rattle.theory_paths.specs.Chosen.{IsChosen}
+use Rattle.theory_paths.specs.{Graph.Graph, Graph.Permit, Graph.all, Graph.Reachable, Chosen.IsChosen}
 use Rattle.theory_paths.specs.Drive.{path-all}
 use Rattle.network.specs.declared.answer.Opening.{Opening}
 use Rattle.network.specs.declared.header.Header.{Header}
-use Rattle.network.specs.Limits.{mostNodes, mostRoads}
-use Rattle.network.specs.Network.{nodes}
-use Rattle.network.specs.Decode.{decode}
-use Rattle.network.specs.Town.{graphOf, partitionOf}
-use Rattle.network.specs.Valid.{ValidFile, valid-exactly}
+use Rattle.network.specs.{Limits.mostNodes, Limits.mostRoads, Network.nodes, Decode.decode}
+use Rattle.network.specs.{Town.graphOf, Town.partitionOf, Valid.ValidFile, Valid.valid-exactly}
 use Rattle.plan.specs.declared.header.PlanHeader.{PlanHeader}
-use Rattle.plan.specs.PlanDecode.{decodePlan}
-use Rattle.plan.specs.PlanValid.{ValidPlan, plan-exactly}
+use Rattle.plan.specs.{PlanDecode.decodePlan, PlanValid.ValidPlan, PlanValid.plan-exactly}
 use Rattle.plan_check.specs.declared.answer.Checking.the-variants.{Accepted}
 use Rattle.plan_check.specs.CheckPlan.{checking, AcceptedPlan, accepted-plan, accepted-lawful}
 use Rattle.plan_check.specs.Promise.{FlaggedTrips, flagged-trips}
-use Rattle.search_path.specs.Says.{tripSays}
-use Rattle.search_path.specs.Shows.{ShowsBefore, ShowsAll}
-use Rattle.search_path.specs.declared.answer.Arrival.{Arrival}
-use Rattle.search_path.specs.declared.answer.Answer.{Answer}
+use Rattle.search_path.specs.{Says.tripSays, Shows.ShowsBefore, Shows.ShowsAll}
+use Rattle.search_path.specs.declared.answer.{Arrival.Arrival, Answer.Answer}
 use Rattle.search_path.specs.declared.answer.Answer.the-variants as answer
-use Rattle.trip_call.specs.Drive.{drive-nodes, drive-period}
-use Rattle.trip_call.specs.Stage.{Asked, asked-opens}
+use Rattle.trip_call.specs.{Drive.drive-nodes, Drive.drive-period, Stage.Asked, Stage.asked-opens}
 use Rattle.trip.specs.Flagged.{flaggedBegin, flaggedArcs, FlaggedTrip}
-use Rattle.trip.specs.Calls.{flaggedCall, flaggedPath}
+use Rattle.trip.specs.{Calls.flaggedCall, Calls.flaggedPath, Numbers.flagged-begins}
 use Rattle.trip.specs.Promise.{BestTrip, AsGoodAsAny, Passed, BeforeSearch, Begins, listed}
 use Rattle.trip.specs.Promise as trip
-use Rattle.trip.specs.Numbers.{flagged-begins}
 
 -- nothing before the search is refused of a network that validates, a well-formed plan, and a call that asks
 -- nothing wrong

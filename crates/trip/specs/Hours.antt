@@ -1,43 +1,32 @@
 -- What the hours of places have to do with a trip. On arrival the tick beside it is the first from then on at
 -- which the target is open (`plain-opens`, `flagged-opens`); and nothing else looks at hours: two networks
 -- that are alike but for them give the same trips and the same verdicts on plans (`hours-apart`).
-use mathlib.Core.Path.{_≡_, refl, sym, _∙_, ap}
+use mathlib.Core.{Path._≡_, Path.refl, Path.sym, Path._∙_, Path.ap, List.List, List.[]}
 use mathlib.Core.Bool.{Bool, true, false, cond}
-use mathlib.Core.List.{List, []}
 use Prim.Native.Nat.{ℕ}
-use lib.Dec.{leb, ltb}
-use lib.ListN.{length}
-use Rattle.theory_paths.specs.Graph.{all}
-use Rattle.theory_paths.specs.Partition.{Partition}
+use lib.{Dec.leb, Dec.ltb, ListN.length}
+use Rattle.theory_paths.specs.{Graph.all, Partition.Partition}
 use Rattle.network.specs.declared.answer.Opening.{Opening}
 use Rattle.network.specs.declared.answer.Opening.the-variants.{Opened}
 use Rattle.network.specs.declared.header.Header.{Header}
-use Rattle.network.specs.Limits.{mostNodes, mostRoads}
+use Rattle.network.specs.{Limits.mostNodes, Limits.mostRoads, Decode.decode, Town.partitionOf, Town.travelAt}
 use Rattle.network.specs.Network.{Network, nodes, arcs, points, start}
-use Rattle.network.specs.Decode.{decode}
-use Rattle.network.specs.Town.{partitionOf, travelAt}
-use Rattle.network.specs.Validate.{unopened, validated}
-use Rattle.network.specs.Valid.{ValidFile, valid-exactly}
+use Rattle.network.specs.{Validate.unopened, Validate.validated, Valid.ValidFile, Valid.valid-exactly}
 use Rattle.network_hours.specs.Hours.{FirstOpen}
 use Rattle.plan.specs.declared.answer.Planning.{Planning}
 use Rattle.plan.specs.declared.answer.Planning.the-variants as planning
-use Rattle.plan.specs.Plan.{towards}
-use Rattle.plan.specs.PlanDecode.{decodePlan}
+use Rattle.plan.specs.{Plan.towards, PlanDecode.decodePlan}
 use Rattle.plan.specs.PlanValidate.{planned, plannedFirst, plannedHeader, matching}
 use Rattle.plan_check.specs.CheckPlan.{checkedBy, checking}
 use Rattle.search_path.specs.Answer.{pathOf, searched}
-use Rattle.search_path.specs.declared.answer.Arrival.{Arrival}
-use Rattle.search_path.specs.declared.answer.Answer.{Answer}
+use Rattle.search_path.specs.declared.answer.{Arrival.Arrival, Answer.Answer}
 use Rattle.search_path.specs.declared.answer.Answer.the-variants as answer
-use Rattle.trip_call.specs.Trip.{asked, tripAnswer}
+use Rattle.trip_call.specs.{Trip.asked, Trip.tripAnswer, Drive.drive-points, Visit.openTick, Visit.visit-open}
 use Rattle.trip_call.specs.Drive.{drive-number, drive-period, drive-nodes, drive-arcs, drive-cells}
-use Rattle.trip_call.specs.Drive.{drive-points}
-use Rattle.trip_call.specs.Visit.{openTick, visit-open}
 use Rattle.trip_plain.specs.Plain.{PlainTrip, begun}
 use Rattle.trip.specs.Flagged.{FlaggedTrip, flaggedArcs, plannedThen, flagged-begun}
 use Rattle.trip.specs.Calls.{plainCall, plainPath, flaggedCall, flaggedPath}
-use Rattle.trip.specs.Promise.{trip-arrived}
-use Rattle.trip.specs.Numbers.{plain-begins, flagged-begins}
+use Rattle.trip.specs.{Promise.trip-arrived, Numbers.plain-begins, Numbers.flagged-begins}
 
 -- WHEN THE TARGET IS OPEN, beside the answer a of a trip
 module _ (network : List ℕ) {from to departure : ℕ} {arrivals₀ arrivals₁ roads₀ roads₁ : List ℕ} {a : Answer}

@@ -3,10 +3,8 @@
 -- So what comes before a search is as `Promise` needs it (`plain-begins`, `flagged-begins`); a refusal of the
 -- plain trip is 1 to 10, 37 or 25 to 29, one of the flagged trip 1 to 19, 37 or 25 to 29, and the calls with
 -- fresh lists never say 27 or 29.
-use mathlib.Core.Path.{_≡_, refl, sym, ap}
-use mathlib.Core.Logic.{_⊎_, inl, inr, ⊎-elim}
-use mathlib.Core.Bool.{cond}
-use mathlib.Core.List.{List}
+use mathlib.Core.{Path._≡_, Path.refl, Path.sym, Path.ap, Logic._⊎_, Logic.inl, Logic.inr, Logic.⊎-elim}
+use mathlib.Core.{Bool.cond, List.List}
 use Prim.Native.Nat.{ℕ, _≤_}
 use native.Mathlib.Omega.{arith}
 use lib.Dec.{leb, ltb, lit≤}
@@ -14,25 +12,18 @@ use borrow.Author.Tests.{le-ltb}
 use Rattle.theory_loops.specs.Pick.{cond-holds}
 use Rattle.theory_paths.specs.Graph.{Graph, Permit, all}
 use Rattle.file_refusals.specs.declared.Refusal.{Refusal}
-use Rattle.file_refusals.specs.Refusal.{refusal}
-use Rattle.file_refusals.specs.Numbered.{Between, Numbered, numbered}
+use Rattle.file_refusals.specs.{Refusal.refusal, Numbered.Between, Numbered.Numbered, Numbered.numbered}
 use Rattle.network.specs.declared.answer.Opening.{Opening}
 use Rattle.network.specs.declared.answer.Opening.the-variants.{Opened, Refused}
 use Rattle.network.specs.declared.header.Header.{Header}
-use Rattle.network.specs.Limits.{mostNodes, mostRoads}
-use Rattle.network.specs.Decode.{decode}
-use Rattle.network.specs.Town.{graphOf}
-use Rattle.network.specs.Validate.{validated}
-use Rattle.network.specs.Valid.{valid-exactly}
-use Rattle.network.specs.Numbers.{NetworkNumber, validated-numbers}
+use Rattle.network.specs.{Limits.mostNodes, Limits.mostRoads, Decode.decode, Town.graphOf, Validate.validated}
+use Rattle.network.specs.{Valid.valid-exactly, Numbers.NetworkNumber, Numbers.validated-numbers}
 use Rattle.plan.specs.declared.answer.Planning.{Planning}
 use Rattle.plan.specs.declared.answer.Planning.the-variants as planning
-use Rattle.plan.specs.PlanValidate.{planned}
-use Rattle.plan.specs.Numbers.{planned-numbers}
+use Rattle.plan.specs.{PlanValidate.planned, Numbers.planned-numbers}
 use Rattle.search_path.specs.Answer.{searched}
 use Rattle.search_path.specs.declared.answer.Answer.the-variants as answer
-use Rattle.trip_call.specs.Trip.{asked, andThen, tripAnswer}
-use Rattle.trip_call.specs.Drive.{drive-nodes, valid-leaving}
+use Rattle.trip_call.specs.{Trip.asked, Trip.andThen, Trip.tripAnswer, Drive.drive-nodes, Drive.valid-leaving}
 use Rattle.trip_plain.specs.Plain.{plainBegin, Begun, begun}
 use Rattle.trip.specs.Flagged.{plannedThen, flaggedBegin, flaggedArcs, flagged-begun}
 use Rattle.trip.specs.Calls.{plainAnswer, plainCall, flaggedAnswer, flaggedCall}

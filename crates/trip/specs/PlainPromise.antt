@@ -1,35 +1,24 @@
 -- The plain trip's promises, for any bytes, numbers and lists that meet its contract, a sentence of document
 -- 01 each: demand 2 for trips. `plain-call` says it of the call with fresh lists, which has room for every
 -- network.
-use mathlib.Core.Path.{_≡_, refl}
-use mathlib.Core.Logic.{_↔_, _⊎_}
-use mathlib.Core.List.{List}
+use mathlib.Core.{Path._≡_, Path.refl, Logic._↔_, Logic._⊎_, List.List}
 use Prim.Native.Nat.{ℕ, _≤_, _<_}
 use native.Mathlib.Omega.{arith}
 use lib.ListN.{length, take}
-use Rattle.theory_paths.specs.Graph.{Graph, all, Reachable}
-use Rattle.theory_paths.specs.Chosen.{IsChosen}
+use Rattle.theory_paths.specs.{Graph.Graph, Graph.all, Graph.Reachable, Chosen.IsChosen}
 use Rattle.network.specs.declared.answer.Opening.{Opening}
 use Rattle.network.specs.declared.answer.Opening.the-variants.{Opened}
 use Rattle.network.specs.declared.header.Header.{Header}
-use Rattle.network.specs.Limits.{mostNodes, mostRoads}
-use Rattle.network.specs.Network.{nodes}
-use Rattle.network.specs.Decode.{decode}
-use Rattle.network.specs.Town.{graphOf}
-use Rattle.network.specs.Validate.{validated}
-use Rattle.network.specs.Valid.{valid-exactly}
-use Rattle.search_path.specs.Says.{tripSays}
-use Rattle.search_path.specs.Shows.{ShowsBefore, ShowsAll}
-use Rattle.search_path.specs.declared.answer.Arrival.{Arrival}
-use Rattle.search_path.specs.declared.answer.Answer.{Answer}
+use Rattle.network.specs.{Limits.mostNodes, Limits.mostRoads, Network.nodes, Decode.decode, Town.graphOf}
+use Rattle.network.specs.{Validate.validated, Valid.valid-exactly}
+use Rattle.search_path.specs.{Says.tripSays, Shows.ShowsBefore, Shows.ShowsAll}
+use Rattle.search_path.specs.declared.answer.{Arrival.Arrival, Answer.Answer}
 use Rattle.search_path.specs.declared.answer.Answer.the-variants as answer
-use Rattle.trip_call.specs.Drive.{drive-nodes, drive-period}
-use Rattle.trip_call.specs.Stage.{asked-opens}
+use Rattle.trip_call.specs.{Drive.drive-nodes, Drive.drive-period, Stage.asked-opens}
 use Rattle.trip_plain.specs.Plain.{plainBegin, PlainTrip}
-use Rattle.trip.specs.Calls.{plainCall, plainPath}
+use Rattle.trip.specs.{Calls.plainCall, Calls.plainPath, Numbers.plain-begins}
 use Rattle.trip.specs.Promise.{BestTrip, AsGoodAsAny, Passed, BeforeSearch, Begins, listed}
 use Rattle.trip.specs.Promise as trip
-use Rattle.trip.specs.Numbers.{plain-begins}
 
 -- nothing before the search is refused of a network that validates, two of its places, a tick of its day and
 -- a list of arrivals with room

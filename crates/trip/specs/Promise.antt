@@ -2,35 +2,27 @@
 -- paths, with whatever waits, by the chosen path; 28 is said exactly where nothing before it is refused and
 -- there is no path; 29 exactly where nothing before it is refused, there is a path, and the list of roads is
 -- shorter than the chosen one; and the list of arrivals shows the least arrivals.
-use mathlib.Core.Path.{_≡_, refl, sym, _∙_, ap}
+use mathlib.Core.{Path._≡_, Path.refl, Path.sym, Path._∙_, Path.ap, List.List, List.[]}
 use mathlib.Core.Logic.{_≢_, _↔_, _⊎_, inl, inr}
-use mathlib.Core.List.{List, []}
 use Prim.Native.Nat.{ℕ, _≤_, _<_}
 use native.Mathlib.Omega.{arith}
 use lib.ListN.{length, take}
 use Rattle.theory_loops.specs.Fill.{Filled, length-tab, list-filled}
 use Rattle.theory_paths.specs.Graph.{Graph, Permit, IsPath, driven, waited, Reachable, EarliestArrival}
-use Rattle.theory_paths.specs.Drive.{earliest-waiting}
-use Rattle.theory_paths.specs.Earliest.{never}
-use Rattle.theory_paths.specs.Labels.{labels}
-use Rattle.theory_paths.specs.Chosen.{IsChosen}
+use Rattle.theory_paths.specs.{Drive.earliest-waiting, Earliest.never, Labels.labels, Chosen.IsChosen}
 use Rattle.file_refusals.specs.declared.Refusal.{Refusal}
 use Rattle.file_refusals.specs.Numbered.{Between, Numbered}
 use Rattle.network.specs.declared.answer.Opening.{Opening}
 use Rattle.network.specs.declared.answer.Opening.the-variants.{Opened, Refused}
 use Rattle.network.specs.declared.header.Header.{Header}
 use Rattle.search_labels.specs.Ready.{Leaving}
-use Rattle.search_path.specs.Answer.{pathOf, searched, one-arrival, not-both}
+use Rattle.search_path.specs.{Answer.pathOf, Answer.searched, Answer.one-arrival, Answer.not-both, Trim.shown}
 use Rattle.search_path.specs.Promise.{Means, no-way, too-short, arrives}
-use Rattle.search_path.specs.Promise.{searched-means, at-home, before-never}
-use Rattle.search_path.specs.Says.{tripSays}
+use Rattle.search_path.specs.{Promise.searched-means, Promise.at-home, Promise.before-never, Says.tripSays}
 use Rattle.search_path.specs.Shows.{ShowsBefore, ShowsAll, shows-before, shows-all}
-use Rattle.search_path.specs.Trim.{shown}
-use Rattle.search_path.specs.declared.answer.Arrival.{Arrival}
-use Rattle.search_path.specs.declared.answer.Answer.{Answer}
+use Rattle.search_path.specs.declared.answer.{Arrival.Arrival, Answer.Answer}
 use Rattle.search_path.specs.declared.answer.Answer.the-variants as answer
-use Rattle.trip_call.specs.Trip.{tripAnswer, TripCall}
-use Rattle.trip_call.specs.Drive.{call-roads}
+use Rattle.trip_call.specs.{Trip.tripAnswer, Trip.TripCall, Drive.call-roads}
 use Rattle.network.specs.Limits.{mostRoads}
 
 -- AN ARRIVAL, with a path: it is a permitted one from s to t, as long as counted, that driven from tick x

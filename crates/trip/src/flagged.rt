@@ -10,7 +10,7 @@ use plan::flag::is_set;
 use plan::header::PlanHeader;
 use plan::header::PlanLayout;
 use plan::read::flag_word;
-use plan_validate::header::count_borders;
+use plan_rules::header::count_borders;
 use plan_validate::validate::validate_plan;
 use search_labels::query::Query;
 use trip_call::begin::ask;

@@ -1,32 +1,22 @@
 -- From the search's answer to the trip's: its lists as equations (`driven-call`), and that permissions which
 -- agree on the arcs give the same trip (`call-permit`). And what a valid file gives the search.
-use mathlib.Core.Path.{_≡_, refl, sym, _∙_, ap}
-use mathlib.Core.List.{List}
+use mathlib.Core.{Path._≡_, Path.refl, Path.sym, Path._∙_, Path.ap, List.List}
 use Prim.Native.Nat.{ℕ, _≤_, _<_}
 use native.Mathlib.Omega.{arith}
-use lib.ListN.{length, take, drop}
-use lib.Seq.{take-append-seam}
+use lib.{ListN.length, ListN.take, ListN.drop, Seq.take-append-seam}
 use Rattle.theory_loops.specs.Fill.{tab, length-tab, tab-list, filled-none, filled-list, overwritten}
-use Rattle.theory_paths.specs.Graph.{Graph, Permit}
-use Rattle.theory_paths.specs.Labels.{label, labels}
-use Rattle.theory_paths.specs.Chosen.{chosen}
+use Rattle.theory_paths.specs.{Graph.Graph, Graph.Permit, Labels.label, Labels.labels, Chosen.chosen}
 use Rattle.theory_paths.specs.Agree.{labels-permit, chosen-permit}
 use Rattle.network.specs.declared.answer.Opening.{Opening}
 use Rattle.network.specs.declared.answer.Opening.the-variants.{Opened, Refused}
-use Rattle.network.specs.declared.header.Header.{Header}
-use Rattle.network.specs.declared.header.Layout.{Layout}
-use Rattle.network.specs.Network.{nodes, arcs, points}
-use Rattle.network.specs.Layout.{layoutOf}
-use Rattle.network.specs.Decode.{decode, Laid}
-use Rattle.network.specs.Sound.{SoundNetwork}
-use Rattle.network.specs.Valid.{ValidFile, valid-laid}
-use Rattle.network.specs.Town.{graphOf}
+use Rattle.network.specs.declared.header.{Header.Header, Layout.Layout}
+use Rattle.network.specs.{Network.nodes, Network.arcs, Network.points, Layout.layoutOf, Sound.SoundNetwork}
+use Rattle.network.specs.{Decode.decode, Decode.Laid, Valid.ValidFile, Valid.valid-laid, Town.graphOf}
 use Rattle.search_chains.specs.Town.{town-of}
 use Rattle.search_labels.specs.Ready.{Leaving, leaving}
 use Rattle.search_path.specs.Answer.{Answered, answerOf, pathOf, searched, entryOf, count-is, not-both}
 use Rattle.search_path.specs.Trim.{shown}
-use Rattle.search_path.specs.declared.answer.Arrival.{Arrival}
-use Rattle.search_path.specs.declared.answer.Answer.{Answer}
+use Rattle.search_path.specs.declared.answer.{Arrival.Arrival, Answer.Answer}
 use Rattle.search_path.specs.declared.answer.Answer.the-variants as answer
 use Rattle.trip_call.specs.Trip.{tripAnswer, tripArrivals, tripRoads, TripCall}
 

@@ -1,7 +1,6 @@
 -- The stages before a search: the network's validation, and the refusals 25 to 27. What they have shown where
 -- they are passed (`Asked`), and the laws for code that goes on from one to the next.
-use mathlib.Core.Path.{_≡_, refl, sym, _∙_}
-use mathlib.Core.List.{List}
+use mathlib.Core.{Path._≡_, Path.refl, Path.sym, Path._∙_, List.List}
 use Prim.Native.Nat.{ℕ, _≤_, _<_}
 use native.Mathlib.Omega.{arith}
 use lib.Dec.{leb, ltb}
@@ -12,8 +11,7 @@ use Rattle.file_refusals.specs.declared.Refusal.{Refusal}
 use Rattle.network.specs.declared.answer.Opening.{Opening}
 use Rattle.network.specs.declared.answer.Opening.the-variants.{Opened, Refused}
 use Rattle.network.specs.declared.header.Header.{Header}
-use Rattle.network.specs.Validate.{unopened, validated}
-use Rattle.network.specs.Valid.{ValidFile, valid-exactly}
+use Rattle.network.specs.{Validate.unopened, Validate.validated, Valid.ValidFile, Valid.valid-exactly}
 use Rattle.search_path.specs.declared.answer.Answer.{Answer}
 use Rattle.search_path.specs.declared.answer.Answer.the-variants as answer
 use Rattle.trip_call.specs.Trip.{asked, andThen, TripCall}

@@ -1,22 +1,17 @@
 -- A trip: what it answers, and what it leaves in its two lent lists, by the refusals before the search and by
 -- the search itself. Said once for every kind of trip: which refusals come first, and which arcs of which
 -- graph are permitted, are arguments.
-use mathlib.Core.Path.{_≡_}
-use mathlib.Core.Bool.{cond}
-use mathlib.Core.List.{List}
+use mathlib.Core.{Path._≡_, Bool.cond, List.List}
 use Prim.Native.Nat.{ℕ}
-use lib.ListN.{length}
-use lib.Dec.{leb, ltb}
+use lib.{ListN.length, Dec.leb, Dec.ltb}
 use Rattle.theory_loops.specs.Fill.{tab, overwritten}
-use Rattle.theory_paths.specs.Graph.{Graph, Permit}
-use Rattle.theory_paths.specs.Labels.{labels}
+use Rattle.theory_paths.specs.{Graph.Graph, Graph.Permit, Labels.labels}
 use Rattle.file_refusals.specs.declared.Refusal.{Refusal}
 use Rattle.network.specs.declared.answer.Opening.{Opening}
 use Rattle.network.specs.declared.answer.Opening.the-variants.{Opened, Refused}
 use Rattle.network.specs.declared.header.Header.{Header}
 use Rattle.network.specs.Validate.{unopened}
-use Rattle.search_path.specs.Answer.{pathOf, searched}
-use Rattle.search_path.specs.Trim.{shown}
+use Rattle.search_path.specs.{Answer.pathOf, Answer.searched, Trim.shown}
 use Rattle.search_path.specs.declared.answer.Answer.{Answer}
 use Rattle.search_path.specs.declared.answer.Answer.the-variants as answer
 

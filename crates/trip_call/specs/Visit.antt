@@ -1,7 +1,6 @@
 -- A trip with the hours of its target: the first tick at or after the arrival at which the target is open,
 -- and what is told of both. On a refusal that tick is 0. That it is the first such tick is `visit-open`.
-use mathlib.Core.Path.{_≡_, ap, _∙_}
-use mathlib.Core.List.{List, [], _∷_}
+use mathlib.Core.{Path._≡_, Path.ap, Path._∙_, List.List, List.[], List._∷_}
 use Prim.Native.Nat.{ℕ, _^_, _≤_, _<_}
 use native.Mathlib.Omega.{arith}
 use Rattle.theory_paths.specs.Graph.{Permit}
@@ -10,20 +9,14 @@ use Rattle.file_refusals.specs.declared.Refusal.{Refusal}
 use Rattle.file_refusals.specs.Says.{Says, answers, refuses}
 use Rattle.network.specs.declared.answer.Opening.the-variants.{Opened}
 use Rattle.network.specs.declared.header.Header.{Header}
-use Rattle.network.specs.Network.{Network}
-use Rattle.network.specs.Decode.{decode}
-use Rattle.network.specs.Valid.{ValidFile}
-use Rattle.network.specs.Town.{graphOf}
+use Rattle.network.specs.{Network.Network, Decode.decode, Valid.ValidFile, Town.graphOf}
 use Rattle.network_hours.specs.Hours.{FirstOpen, openAfter, first-open}
 use Rattle.search_labels.specs.Ready.{Leaving}
-use Rattle.search_path.specs.Answer.{searched}
+use Rattle.search_path.specs.{Answer.searched, Says.tripTick}
 use Rattle.search_path.specs.Promise.{Means, no-way, too-short, arrives, searched-means, before-never}
-use Rattle.search_path.specs.Says.{tripTick}
-use Rattle.search_path.specs.declared.answer.Arrival.{Arrival}
-use Rattle.search_path.specs.declared.answer.Answer.{Answer}
+use Rattle.search_path.specs.declared.answer.{Arrival.Arrival, Answer.Answer}
 use Rattle.search_path.specs.declared.answer.Answer.the-variants.{Arrived, Refused}
-use Rattle.trip_call.specs.Trip.{TripCall}
-use Rattle.trip_call.specs.Stage.{Asked}
+use Rattle.trip_call.specs.{Trip.TripCall, Stage.Asked}
 use Rattle.trip_call.specs.Drive.{drive-nodes, drive-period, valid-leaving}
 
 -- the tick, for a trip to node t

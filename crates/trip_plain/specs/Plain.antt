@@ -1,19 +1,13 @@
 -- The plain trip: validation, the refusals 25 to 27, and a search over all arcs.
-use mathlib.Core.Path.{_≡_, sym, _∙_, ap}
-use mathlib.Core.List.{List}
+use mathlib.Core.{Path._≡_, Path.sym, Path._∙_, Path.ap, List.List}
 use Prim.Native.Nat.{ℕ, _≤_, _<_}
 use native.Mathlib.Omega.{arith}
-use lib.ListN.{length, replicate, length-replicate, getD-replicate}
-use lib.Dec.{eqb}
+use lib.{ListN.length, ListN.replicate, ListN.length-replicate, ListN.getD-replicate, Dec.eqb}
 use Rattle.theory_paths.specs.Graph.{all}
 use Rattle.network.specs.declared.answer.Opening.{Opening}
 use Rattle.network.specs.declared.answer.Opening.the-variants.{Opened}
 use Rattle.network.specs.declared.header.Header.{Header}
-use Rattle.network.specs.Limits.{mostArcs}
-use Rattle.network.specs.Network.{arcs}
-use Rattle.network.specs.Decode.{decode}
-use Rattle.network.specs.Town.{graphOf}
-use Rattle.network.specs.Validate.{validated}
+use Rattle.network.specs.{Limits.mostArcs, Network.arcs, Decode.decode, Town.graphOf, Validate.validated}
 use Rattle.network.specs.Valid.{ValidFile, valid-exactly}
 use Rattle.search_labels.specs.Ready.{permitOf}
 use Rattle.search_path.specs.declared.answer.Answer.{Answer}

@@ -1,50 +1,33 @@
 -- Laws for the entries: from what an operation answered to what the call returns and leaves.
-use mathlib.Core.Path.{_≡_, refl, sym, _∙_, ap}
-use mathlib.Core.List.{List, _++_}
+use mathlib.Core.{Path._≡_, Path.refl, Path.sym, Path._∙_, Path.ap, List.List, List._++_}
 use Prim.Native.Nat.{ℕ, _≤_, _<_}
 use native.Mathlib.Omega.{arith}
-use lib.ListN.{length, take, replicate}
-use lib.Seq.{sets, take-length}
+use lib.{ListN.length, ListN.take, ListN.replicate, Seq.sets, Seq.take-length}
 use borrow.Author.Tests.{lt-ltb, le-ltb}
-use Rattle.theory_loops.specs.Fill.{overwritten}
-use Rattle.theory_loops.specs.Stores.{stored-front}
+use Rattle.theory_loops.specs.{Fill.overwritten, Stores.stored-front}
 use Rattle.theory_paths.specs.Graph.{Graph, Permit, all}
-use Rattle.file_refusals.specs.Says.{Says, numbersOf}
+use Rattle.file_refusals.specs.{Says.Says, Says.numbersOf, Writing.writingSays, Writing.Writes}
 use Rattle.network.specs.declared.answer.Opening.{Opening}
-use Rattle.network.specs.Answer.{openingSays}
-use Rattle.network.specs.Limits.{mostRoads}
-use Rattle.network.specs.Network.{Network}
-use Rattle.network.specs.Tables.{Tables}
-use Rattle.network.specs.Town.{graphOf}
+use Rattle.network.specs.{Answer.openingSays, Limits.mostRoads, Network.Network, Tables.Tables, Town.graphOf}
 use Rattle.network_open.specs.Open.{OpenCall}
-use Rattle.file_refusals.specs.Writing.{writingSays, Writes}
 use Rattle.plan_check.specs.declared.answer.Report.{Report}
-use Rattle.plan_check.specs.Answer.{reportSays}
-use Rattle.plan_check.specs.CheckPlan.{checking}
-use Rattle.plan_check.specs.Finds.{Finds}
+use Rattle.plan_check.specs.{Answer.reportSays, CheckPlan.checking, Finds.Finds}
 use Rattle.plan_make.specs.Make.{MakeCall}
 use Rattle.file_refusals.specs.Listing.{listingSays}
 use Rattle.file_refusals.specs.declared.listing.Listing.{Listing}
 use Rattle.file_refusals.specs.declared.writing.Writing.{Writing}
-use Rattle.search_path.specs.declared.answer.Arrival.{Arrival}
-use Rattle.search_path.specs.declared.answer.Answer.{Answer}
+use Rattle.search_path.specs.declared.answer.{Arrival.Arrival, Answer.Answer}
 use Rattle.search_path.specs.declared.answer.Answer.the-variants.{Arrived, Refused}
-use Rattle.search_path.specs.Answer.{pathOf}
-use Rattle.search_path.specs.Says.{tripSays, tripCount}
+use Rattle.search_path.specs.{Answer.pathOf, Says.tripSays, Says.tripCount}
 use Rattle.trip_call.specs.declared.visit.Visit.{Visit}
-use Rattle.trip_call.specs.Trip.{TripCall}
-use Rattle.trip_call.specs.Visit.{openTick, visitSays}
+use Rattle.trip_call.specs.{Trip.TripCall, Visit.openTick, Visit.visitSays}
 use Rattle.trip_call.specs.Drive.{call-count, call-roads}
-use Rattle.trip.specs.Flagged.{flaggedArcs}
-use Rattle.trip.specs.Promise.{trip-arrived}
+use Rattle.trip.specs.{Flagged.flaggedArcs, Promise.trip-arrived, Calls.plainAnswer, Calls.flaggedAnswer}
 use Rattle.trip.specs.Numbers.{plain-begins, flagged-begins}
-use Rattle.trip.specs.Calls.{plainAnswer, flaggedAnswer}
 use Rattle.day_arrivals.specs.Sheet.{DaySheet}
-use Rattle.c_trip.specs.Reply.{tripSize, bytes, roadBytes, tripBytes}
-use Rattle.c_trip.specs.Writing.{trip-long}
-use Rattle.varnwalnut.specs.Room.{roomed, kept}
+use Rattle.c_trip.specs.{Reply.tripSize, Reply.bytes, Reply.roadBytes, Reply.tripBytes, Writing.trip-long}
+use Rattle.varnwalnut.specs.{Room.roomed, Room.kept, Replies.SheetReply, Replies.TripDesk}
 use Rattle.varnwalnut.specs.Replies.{TripReply, DeskReply, CheckReply, OpenReply, WriteReply, MakeReply}
-use Rattle.varnwalnut.specs.Replies.{SheetReply, TripDesk}
 
 -- ROOM
 module _ (w room : ℕ) where

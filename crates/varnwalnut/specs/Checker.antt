@@ -1,19 +1,15 @@
 -- What the C check tells, read off its answer: where that has five numbers, the call returns the verdict's
 -- number, and the two words behind the places come to a count of finds within wish 4's bounds
 -- (`checked-call`).
-use mathlib.Core.Path.{_≡_, sym, _∙_, ap}
-use mathlib.Core.List.{List}
+use mathlib.Core.{Path._≡_, Path.sym, Path._∙_, Path.ap, List.List}
 use Prim.Native.Nat.{ℕ, _+_, _*_, _^_, _≤_}
 use native.Mathlib.Omega.{arith}
 use lib.ListN.{length, getD}
 use borrow.Author.Tests.{le-ltb}
 use Rattle.theory_loops.specs.Fill.{overwritten}
 use Rattle.file_refusals.specs.Says.{numbersOf}
-use Rattle.plan_check.specs.Answer.{checkingSays, reportSays}
-use Rattle.plan_check.specs.CheckPlan.{checking}
-use Rattle.plan_check.specs.Finds.{Finds}
-use Rattle.varnwalnut.specs.Replies.{CheckReply}
-use Rattle.varnwalnut.specs.Room.{roomed, kept}
+use Rattle.plan_check.specs.{Answer.checkingSays, Answer.reportSays, CheckPlan.checking, Finds.Finds}
+use Rattle.varnwalnut.specs.{Replies.CheckReply, Room.roomed, Room.kept}
 
 -- the count that an answer tells
 abbrev pub findsTold : List ℕ → ℕ

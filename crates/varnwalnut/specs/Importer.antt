@@ -1,10 +1,7 @@
 -- What an import is good for, said of the C calls: where varnwalnut_import_dimacs returns 0, the text is one
 -- that the wish describes (`imported-call`), and varnwalnut_open_network shows its arcs from the bytes that
 -- it has written (`imported-tables`).
-use mathlib.Core.Path.{_≡_, refl, subst}
-use mathlib.Core.Bool.{false}
-use mathlib.Core.Logic.{inl, inr}
-use mathlib.Core.List.{List}
+use mathlib.Core.{Path._≡_, Path.refl, Path.subst, Bool.false, Logic.inl, Logic.inr, List.List}
 use Prim.Native.Nat.{ℕ, _^_, _≤_, _<_}
 use native.Mathlib.Omega.{arith}
 use lib.ListN.{length, getD, take}
@@ -12,11 +9,9 @@ use borrow.Author.Tests.{le-ltb}
 use Rattle.file_refusals.specs.declared.writing.Writing.{Writing}
 use Rattle.network.specs.Tables.{Tables}
 use Rattle.network_open.specs.Open.{opening, tooShort}
-use Rattle.dimacs_import.specs.Import.{importing, importedFile, ImportCall}
-use Rattle.dimacs_import.specs.Imported.{headerFor}
+use Rattle.dimacs_import.specs.{Import.importing, Import.importedFile, Import.ImportCall, Imported.headerFor}
 use Rattle.dimacs_import.specs.Promise.{Shows, OpensTo, ImportNumber, imported-opens, import-numbers}
-use Rattle.varnwalnut.specs.Replies.{ImportReply, OpenReply}
-use Rattle.varnwalnut.specs.Returned.{returned-length}
+use Rattle.varnwalnut.specs.{Replies.ImportReply, Replies.OpenReply, Returned.returned-length}
 use Rattle.varnwalnut.specs.Room.{kept}
 
 some-number : (n : ℕ) → ImportNumber n → 1 ≤ n

@@ -1,9 +1,7 @@
 -- What a day sheet is good for, said of the C calls: where varnwalnut_day_sheet returns 0, its answer has P,
 -- and its list the arrivals that varnwalnut_plain_trip tells at each tick, and varnwalnut_flagged_trip under
 -- a plan that varnwalnut_check_plan accepts (`sheet-call`).
-use mathlib.Core.Path.{_≡_, refl, _∙_}
-use mathlib.Core.Logic.{inl, inr}
-use mathlib.Core.List.{List}
+use mathlib.Core.{Path._≡_, Path.refl, Path._∙_, Logic.inl, Logic.inr, List.List}
 use Prim.Native.Nat.{ℕ, _≤_, _<_}
 use native.Mathlib.Omega.{arith}
 use lib.ListN.{length, getD}
@@ -13,13 +11,10 @@ use Rattle.network.specs.Decode.{decode}
 use Rattle.plan_check.specs.declared.answer.Checking.the-variants.{Accepted}
 use Rattle.plan_check.specs.CheckPlan.{checking}
 use Rattle.trip.specs.Calls.{plainCall, flaggedCall}
-use Rattle.day_arrivals.specs.Sheet.{listing, DaySheet}
-use Rattle.day_arrivals.specs.Numbers.{SheetNumber, sheet-numbers}
+use Rattle.day_arrivals.specs.{Sheet.listing, Sheet.DaySheet, Numbers.SheetNumber, Numbers.sheet-numbers}
 use Rattle.day_arrivals.specs.Promise.{ArrivesAt, HoldsDay, sheet-listed, sheet-plain-call}
 use Rattle.day_arrivals.specs.Promise.{sheet-flagged-call}
-use Rattle.varnwalnut.specs.Replies.{SheetReply}
-use Rattle.varnwalnut.specs.Returned.{returned-count}
-use Rattle.varnwalnut.specs.Room.{kept}
+use Rattle.varnwalnut.specs.{Replies.SheetReply, Returned.returned-count, Room.kept}
 
 -- An answer and a list as the wish wants them.
 pub record GoodSheet (network : List ℕ) (from to : ℕ) (list₀ list₁ answer : List ℕ) : Type 0 where

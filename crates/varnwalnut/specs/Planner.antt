@@ -1,9 +1,7 @@
 -- What a plan of our own is good for, said of the C calls: where varnwalnut_make_plan returns 0, the bytes
 -- that it has written are a plan that the check accepts, and every flagged trip with it is as good as any way
 -- (`made-call`).
-use mathlib.Core.Path.{_≡_, refl}
-use mathlib.Core.Logic.{inl, inr}
-use mathlib.Core.List.{List}
+use mathlib.Core.{Path._≡_, Path.refl, Logic.inl, Logic.inr, List.List}
 use Prim.Native.Nat.{ℕ, _≤_, _<_}
 use native.Mathlib.Omega.{arith}
 use lib.ListN.{length, getD, take}
@@ -11,20 +9,14 @@ use borrow.Author.Tests.{le-ltb}
 use Rattle.theory_paths.specs.Graph.{all}
 use Rattle.file_fields.specs.Fields.{Bytes}
 use Rattle.file_refusals.specs.declared.writing.Writing.{Writing}
-use Rattle.network.specs.Network.{nodes}
-use Rattle.network.specs.Decode.{decode}
-use Rattle.network.specs.Town.{graphOf}
+use Rattle.network.specs.{Network.nodes, Decode.decode, Town.graphOf}
 use Rattle.plan_check.specs.declared.answer.Checking.the-variants.{Accepted}
 use Rattle.plan_check.specs.CheckPlan.{checking}
-use Rattle.plan_make.specs.Make.{making, MakeCall}
-use Rattle.plan_make.specs.Numbers.{MakeNumber, make-numbers}
+use Rattle.plan_make.specs.{Make.making, Make.MakeCall, Numbers.MakeNumber, Numbers.make-numbers}
 use Rattle.plan_make.specs.Promise.{made-plan}
-use Rattle.trip.specs.Calls.{flaggedCall, flaggedPath}
-use Rattle.trip.specs.Promise.{AsGoodAsAny}
+use Rattle.trip.specs.{Calls.flaggedCall, Calls.flaggedPath, Promise.AsGoodAsAny}
 use Rattle.trip.specs.FlaggedPromise.{accepted-call}
-use Rattle.varnwalnut.specs.Replies.{MakeReply}
-use Rattle.varnwalnut.specs.Returned.{returned-length}
-use Rattle.varnwalnut.specs.Room.{kept}
+use Rattle.varnwalnut.specs.{Replies.MakeReply, Returned.returned-length, Room.kept}
 
 -- The check accepts the plan, and each flagged trip with it, from whatever place to whatever place at
 -- whatever tick of the day, is as good as any way over any roads.

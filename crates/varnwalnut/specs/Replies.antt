@@ -1,35 +1,27 @@
 -- What a call returns and leaves, by its answer: the tablet's trips in bytes, the desk's calls in numbers.
 -- `before` and `after` are the lent answer at entry and at exit, and `returned` is the number that the call
 -- returns. Tables and lists at entry and at exit have a 0 and a 1.
-use mathlib.Core.Path.{_≡_}
-use mathlib.Core.List.{List}
+use mathlib.Core.{Path._≡_, List.List}
 use Prim.Native.Nat.{ℕ, _≤_}
 use lib.ListN.{length}
 use Rattle.theory_loops.specs.Fill.{overwritten}
 use Rattle.theory_paths.specs.Graph.{Permit, all}
-use Rattle.file_refusals.specs.Says.{Says, numbersOf}
+use Rattle.file_refusals.specs.{Says.Says, Says.numbersOf, Writing.writingSays, Writing.bytesAfter}
 use Rattle.network.specs.declared.answer.Opening.{Opening}
 use Rattle.network.specs.declared.header.Header.{Header}
-use Rattle.network.specs.Answer.{openingSays}
-use Rattle.network.specs.Network.{Network}
-use Rattle.network.specs.Decode.{decode}
-use Rattle.network.specs.Tables.{Tables, networkOf}
+use Rattle.network.specs.{Answer.openingSays, Network.Network, Decode.decode, Tables.Tables, Tables.networkOf}
 use Rattle.network.specs.Town.{graphOf}
 use Rattle.network_open.specs.Open.{opening, tablesAfter}
 use Rattle.network_encode.specs.Encode.{encode}
 use Rattle.file_refusals.specs.declared.writing.Writing.{Writing}
-use Rattle.file_refusals.specs.Writing.{writingSays, bytesAfter}
 use Rattle.file_refusals.specs.Listing.{listingSays, listAfter}
 use Rattle.network_pack.specs.Pack.{packing}
 use Rattle.dimacs_import.specs.Import.{importing, importedFile}
-use Rattle.plan_check.specs.Answer.{reportSays}
-use Rattle.plan_check.specs.CheckPlan.{checking}
-use Rattle.plan_check.specs.Finds.{Finds}
+use Rattle.plan_check.specs.{Answer.reportSays, CheckPlan.checking, Finds.Finds}
 use Rattle.plan_made.specs.File.{madeFile}
 use Rattle.plan_make.specs.Make.{making, workAfter}
 use Rattle.search_path.specs.declared.answer.Answer.{Answer}
-use Rattle.search_path.specs.Answer.{searched}
-use Rattle.search_path.specs.Says.{tripSays}
+use Rattle.search_path.specs.{Answer.searched, Says.tripSays}
 use Rattle.trip_call.specs.Trip.{tripAnswer, tripArrivals, tripRoads}
 use Rattle.trip_call.specs.Visit.{openTick, visitSays}
 use Rattle.trip_plain.specs.Plain.{plainBegin}

@@ -1,24 +1,18 @@
 -- A call that returns 0: where it writes a file its answer is a length, and where it fills a list a count;
 -- it stands behind the three places.
-use mathlib.Core.Path.{_≡_, refl, sym, _∙_, ap}
-use mathlib.Core.List.{List}
+use mathlib.Core.{Path._≡_, Path.refl, Path.sym, Path._∙_, Path.ap, List.List}
 use Prim.Native.Nat.{ℕ, _≤_}
 use native.Mathlib.Omega.{arith}
 use lib.ListN.{length, getD}
 use borrow.Author.Tests.{le-ltb}
 use Rattle.theory_loops.specs.Fill.{overwritten}
 use Rattle.file_refusals.specs.declared.Refusal.{Refusal}
-use Rattle.file_refusals.specs.declared.writing.Length.{Length}
-use Rattle.file_refusals.specs.declared.writing.Writing.{Writing}
+use Rattle.file_refusals.specs.declared.writing.{Length.Length, Writing.Writing}
 use Rattle.file_refusals.specs.declared.writing.Writing.the-variants.{Written, Refused}
-use Rattle.file_refusals.specs.declared.listing.Count.{Count}
-use Rattle.file_refusals.specs.declared.listing.Listing.{Listing}
+use Rattle.file_refusals.specs.declared.listing.{Count.Count, Listing.Listing}
 use Rattle.file_refusals.specs.declared.listing.Listing.the-variants as listing
-use Rattle.file_refusals.specs.Listing.{listingSays}
-use Rattle.file_refusals.specs.Says.{Says, numbersOf}
-use Rattle.file_refusals.specs.Writing.{writingSays}
-use Rattle.varnwalnut.specs.Replies.{DeskReply}
-use Rattle.varnwalnut.specs.Room.{roomed, kept}
+use Rattle.file_refusals.specs.{Listing.listingSays, Says.Says, Says.numbersOf, Writing.writingSays}
+use Rattle.varnwalnut.specs.{Replies.DeskReply, Room.roomed, Room.kept}
 
 -- what a call with room for its answer returns and writes
 returned-says : (says : Says) (before after : List ℕ) (returned : ℕ) → 4 ≤ length before

@@ -33,11 +33,11 @@ use std::process::ExitCode;
 use std::sync::atomic::{AtomicU64, Ordering};
 use std::time::Instant;
 
-/// The run without arguments: about 100 seconds of processor time.
+/// The run without arguments: about 50 seconds of processor time.
 const DEFAULT_SEED: u64 = 20_261_115;
-const DEFAULT_CASES: u64 = 90_000;
-const DEFAULT_LARGE: u64 = 550;
-const DEFAULT_IMPORTS: u64 = 20_000;
+const DEFAULT_CASES: u64 = 45_000;
+const DEFAULT_LARGE: u64 = 300;
+const DEFAULT_IMPORTS: u64 = 10_000;
 const DEFAULT_PLANS: u64 = 1_200;
 const DEFAULT_HOURS: u64 = 300;
 const DEFAULT_DAYS: u64 = 512;

@@ -282,6 +282,11 @@ impl Runner {
         }
     }
 
+    /// The error planted in a stand-in is found, so the rest of the case has no more to tell.
+    fn is_found(&self) -> bool {
+        self.stands_in && self.differences > 0
+    }
+
     fn trial(&mut self, name: CaseName, what: String) -> Trial<'_> {
         Trial { name, what, runner: self }
     }

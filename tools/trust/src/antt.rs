@@ -10,15 +10,15 @@ pub struct Line {
     pub text: String,
 }
 
-/// What a `use` line brings: the items of a module under their names here, or the module itself.
+/// What a `use` line brings: an item of a module under its name here, or the module itself.
 pub struct Use {
     pub path: String,
     pub brings: Brings,
 }
 
 pub enum Brings {
-    /// Each item and the name that it has here.
-    Items(Vec<(String, String)>),
+    /// An item, and the name that it has here.
+    Item { item: String, name: String },
     /// The module's name here.
     Module(String),
 }
@@ -95,22 +95,32 @@ pub fn lines(text: &str) -> Vec<Line> {
     text.lines().enumerate().map(line).filter(holds).collect()
 }
 
-/// Reads what follows the word `use`: `M.{a, b as c}`, `M`, or `M as name`.
-pub fn read_use(text: &str) -> Use {
+/// Reads what follows the word `use`, by the modules that are named: `M.{a, b as c, N.d}`, `M`, or `M as name`.
+pub fn read_use(text: &str) -> Vec<Use> {
     let text = text.trim().trim_end_matches(';');
     if let Some((path, items)) = text.split_once(".{") {
         let items = items.trim_end_matches('}').split(',').map(str::trim).filter(|item| !item.is_empty());
-        let named = |item: &str| match item.split_once(" as ") {
-            Some((item, name)) => (item.to_string(), name.to_string()),
-            None => (item.to_string(), item.to_string()),
-        };
-        return Use { path: path.to_string(), brings: Brings::Items(items.map(named).collect()) };
+        return items.map(|item| read_item(path, item)).collect();
     }
     let (path, name) = match text.split_once(" as ") {
         Some((path, name)) => (path, name),
         None => (text, text.rsplit('.').next().unwrap_or(text)),
     };
-    Use { path: path.to_string(), brings: Brings::Module(name.to_string()) }
+    vec![Use { path: path.to_string(), brings: Brings::Module(name.to_string()) }]
+}
+
+/// One item in braces behind `path`: `a`, `N.a` of a module below, or one of these with `as name`.
+fn read_item(path: &str, text: &str) -> Use {
+    let (item, given) = match text.split_once(" as ") {
+        Some((item, name)) => (item, Some(name)),
+        None => (text, None),
+    };
+    let (path, item) = match item.rsplit_once('.') {
+        Some((below, item)) => (format!("{path}.{below}"), item),
+        None => (path.to_string(), item),
+    };
+    let name = given.unwrap_or(item);
+    Use { path, brings: Brings::Item { item: item.to_string(), name: name.to_string() } }
 }
 
 /// The items of a block: each line at the block's indent, with the deeper lines after it. A line that begins
@@ -152,7 +162,7 @@ impl Spec {
             let words: Vec<&str> = item[0].text.split_whitespace().collect();
             let marks = words.iter().take_while(|word| MARKS.contains(word)).count();
             match words.get(marks).copied().unwrap_or("") {
-                "use" => self.uses.push(read_use(&joined(item)[words[..=marks].join(" ").len()..])),
+                "use" => self.uses.extend(read_use(&joined(item)[words[..=marks].join(" ").len()..])),
                 "mod" => self.children.push(words[marks + 1].to_string()),
                 "infix" | "infixl" | "infixr" => (),
                 "module" => found.append(&mut self.module(item, &sections)?),

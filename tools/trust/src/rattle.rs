@@ -38,7 +38,7 @@ pub fn read(text: &str) -> Result<Code, String> {
     for (i, line) in lines.iter().enumerate() {
         let rest = without_marks(&line.text);
         if let Some(used) = rest.strip_prefix("ghost use ") {
-            code.ghosts.push(read_use(used));
+            code.ghosts.extend(read_use(used));
         } else if let Some(used) = rest.strip_prefix("use ") {
             if used.contains('{') || used.contains(" as ") {
                 return Err(format!("{}: a `use` line of one path is expected", line.number));

@@ -110,11 +110,9 @@ impl Repository {
                 Brings::Module(name) => {
                     scope.modules.insert(name.clone(), used.path.clone());
                 }
-                Brings::Items(items) => {
-                    for (item, name) in items {
-                        let meaning = self.locate(&used.path, item).map_err(|e| format!("{path}: {e}"))?;
-                        scope.bring(name, meaning);
-                    }
+                Brings::Item { item, name } => {
+                    let meaning = self.locate(&used.path, item).map_err(|e| format!("{path}: {e}"))?;
+                    scope.bring(name, meaning);
                 }
             }
         }

@@ -1,6 +1,6 @@
 //! The reading of files, on small texts: what is bound where, what a line is, what is said of a difference.
 
-use crate::antt::{self, Spec};
+use crate::antt::{self, Brings, Spec};
 use crate::documents::difference;
 use crate::names::{Extent, Names};
 use crate::rattle;
@@ -78,6 +78,22 @@ fn lines_are_those_that_hold_something() {
         (&[3][..], &[4, 6, 7][..])
     );
     assert!(antt::read("f : T\ng = a").is_err());
+}
+
+#[test]
+fn a_use_line_names_modules() {
+    let said = |text: &str| {
+        let uses = antt::read_use(text);
+        let one = |used: &antt::Use| match &used.brings {
+            Brings::Item { item, name } => format!("{}/{item}={name}", used.path),
+            Brings::Module(name) => format!("{}={name}", used.path),
+        };
+        uses.iter().map(one).collect::<Vec<_>>().join(" ")
+    };
+    assert_eq!(said(" a.B.{x, y as z}"), "a.B/x=x a.B/y=z");
+    assert_eq!(said(" a.{B._+_, C.D.x as y, z};"), "a.B/_+_=_+_ a.C.D/x=y a/z=z");
+    assert_eq!(said(" a.B as b"), "a.B=b");
+    assert_eq!(said(" a.B"), "a.B=B");
 }
 
 #[test]

@@ -7,18 +7,6 @@ use borrow.Author.Needs.{needs}
 use Rattle.arc_runs.proofs.fill_arc.Statement.{statement}
 use Rattle.arc_runs.proofs.fill_arc.Tie as tie
 
-mul-wide : tie.Need-mul-wide
-mul-wide c = search needs
-
-element-copy-out-wide : tie.Need-element-copy-out-wide
-element-copy-out-wide c = search needs
-
-wide-requires : tie.Need-wide-requires
-wide-requires c κs = search needs
-
-count-requires : tie.Need-count-requires
-count-requires c κs = search needs
-
 fill-points-requires : tie.Need-fill-points-requires
 fill-points-requires c κs =
     let s = c .before .before .before .before .before .before .before .before .before .before in
@@ -37,8 +25,8 @@ fill-points-requires c κs =
 narrow-requires : tie.Need-narrow-requires
 narrow-requires c κs =
     let s =
-    c .before .before .before .before .before .before .before .before .before .before .before .before .before
-    .before .before .before .before in
+    c .before .before .before .before .before .before .before .before .before .before .before .before
+    .before .before .before .before .before in
     let r = c .before .before .before .before .before .before .fill-points .ensures .0 in
     let k = c .before .before .before .before .before .before .fill-points .kept .1 .1 .1 .1 .1 .0 in
     let p = s .pre .1 .1 .0 in (
@@ -51,29 +39,20 @@ narrow-requires c κs =
           .count .ensures .0) r,
     )
 
-same-length : tie.Need-same-length
-same-length c = search needs
-
-same-length-2 : tie.Need-same-length-2
-same-length-2 c = search needs
-
-same-length-3 : tie.Need-same-length-3
-same-length-3 c = search needs
-
 returns : tie.Need-returns
 returns c =
     let s =
-    c .before .before .before .before .before .before .before .before .before .before .before .before .before
-    .before .before .before .before .before .before .before in
+    c .before .before .before .before .before .before .before .before .before .before .before .before
+    .before .before .before .before .before .before .before .before in
     let r = c .before .before .before .before .before .before .before .before .before
     .fill-points .ensures .0 in
     let f = c .before .before .narrow .ensures in
     let from =
-    c .before .before .before .before .before .before .before .before .before .before .before .before .before
-    .before .wide .ensures .0 in
+    c .before .before .before .before .before .before .before .before .before .before .before .before
+    .before .before .wide .ensures .0 in
     let count =
-    c .before .before .before .before .before .before .before .before .before .before .before .before .before
-    .count .ensures .0 in (
+    c .before .before .before .before .before .before .before .before .before .before .before .before
+    .before .count .ensures .0 in (
       runs-told (s .pre .0) (s .pre .1 .0 .0) (now (s .args .points)) _ _ from (s .pre .1 .0 .1) count r f,
       runs-short (s .pre .0) (s .pre .1 .0 .0) (now (s .args .points)) _ _ from (s .pre .1 .0 .1) count r f,
       omega (
@@ -87,13 +66,13 @@ pub fill-arc-spec : {M : Type 1} → statement M
 fill-arc-spec =
     tie.close
     (tie.spec
-    mul-wide
-    element-copy-out-wide
-    wide-requires
-    count-requires
+    (λ c. search needs)
+    (λ c. search needs)
+    (λ c κs. search needs)
+    (λ c κs. search needs)
     fill-points-requires
     narrow-requires
-    same-length
-    same-length-2
-    same-length-3
+    (λ c. search needs)
+    (λ c. search needs)
+    (λ c. search needs)
     returns)

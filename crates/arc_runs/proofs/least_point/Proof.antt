@@ -45,12 +45,6 @@ stands : (c : tie.After-next Inv-loop μ-loop)
 stands c = let d = c .before in
     step-on (start d .pre .0) _ (d .before .loop .k) (here d) (d .before .loop .inv .2) (c .next .ensures)
 
-sub-last : tie.Need-sub-last Inv-loop μ-loop
-sub-last c = search needs
-
-point-at-requires : tie.Need-point-at-requires Inv-loop μ-loop
-point-at-requires c κs = point-near (c .before .pre .0) (first (c .before))
-
 travel-requires : tie.Need-travel-requires Inv-loop μ-loop
 travel-requires c κs = let s = c .before .before in
     travel-there (s .pre .0) (first s) (c .point-at .ensures)
@@ -65,18 +59,6 @@ loop-holds c = let s = c .before .before .before in
 
 next-requires : tie.Need-next-requires Inv-loop μ-loop
 next-requires c κs = step-may (start c .pre .0) _ (c .before .loop .k) (here c) (c .before .loop .inv .2)
-
-travel-requires-2 : tie.Need-travel-requires-2 Inv-loop μ-loop
-travel-requires-2 c κs = travel-there (start (c .before) .pre .0) (inside (c .before)) (stands c)
-
-lesser-requires : tie.Need-lesser-requires Inv-loop μ-loop
-lesser-requires c κs = search needs
-
-add-k : tie.Need-add-k Inv-loop μ-loop
-add-k c = search needs
-
-loop-less : tie.Need-loop-less Inv-loop μ-loop
-loop-less c = search needs
 
 loop-again : tie.Need-loop-again Inv-loop μ-loop
 unfolding entryAt
@@ -99,14 +81,14 @@ least-point-spec =
     (tie.spec
     Inv-loop
     μ-loop
-    sub-last
-    point-at-requires
+    (λ c. search needs)
+    (λ c κs. point-near (c .before .pre .0) (first (c .before)))
     travel-requires
     loop-holds
     next-requires
-    travel-requires-2
-    lesser-requires
-    add-k
-    loop-less
+    (λ c κs. travel-there (start (c .before) .pre .0) (inside (c .before)) (stands c))
+    (λ c κs. search needs)
+    (λ c. search needs)
+    (λ c. search needs)
     loop-again
     returns)

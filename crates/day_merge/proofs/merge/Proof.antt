@@ -49,18 +49,8 @@ next-requires c κs =
     let l = c .before .before .before .before .before .before .loop in
     let r = c .before .before .sweep .ensures in (
       s .pre .0 .1,
-      (
-        l .inv .2 (c .before .before .before .before .if1 .taken),
-        (
-          omega (arith, r .ahead),
-          r
-              .arc,
-        ),
-      ),
+      (l .inv .2 (c .before .before .before .before .if1 .taken), (omega (arith, r .ahead), r .arc)),
     )
-
-loop-less : tie.Need-loop-less Inv-loop μ-loop
-loop-less c = search needs
 
 loop-again : tie.Need-loop-again Inv-loop μ-loop
 loop-again c =
@@ -77,12 +67,6 @@ loop-again c =
       r .onward .walked _ (l .inv .4),
     )
 
-paint-some-requires : tie.Need-paint-some-requires Inv-loop μ-loop
-paint-some-requires c κs = search needs
-
-same-length : tie.Need-same-length Inv-loop μ-loop
-same-length c = search needs
-
 returns : tie.Need-returns Inv-loop μ-loop
 returns c = let l = c .before .before .before .before .before .before .loop in
     walked-end _ _ _ _ _ _ _ _ _ _ _ _ _ _ _ _ _ (l .inv .4) (l .inv .0)
@@ -97,8 +81,8 @@ merge-spec =
     loop-holds
     sweep-requires
     next-requires
-    loop-less
+    (λ c. search needs)
     loop-again
-    paint-some-requires
-    same-length
+    (λ c κs. search needs)
+    (λ c. search needs)
     returns)

@@ -16,21 +16,6 @@ Inv-loop marks₀ a b more x₀ marks x =
 abbrev μ-loop : tie.MeasureT-loop
 μ-loop marks₀ a b more x₀ marks x = b - x
 
-loop-holds : tie.Need-loop-holds Inv-loop μ-loop
-loop-holds c = (search needs, search needs, search fills)
-
-slice-read-marks : tie.Need-slice-read-marks Inv-loop μ-loop
-slice-read-marks c = search needs
-
-slice-write-marks : tie.Need-slice-write-marks Inv-loop μ-loop
-slice-write-marks c = search needs
-
-add-x : tie.Need-add-x Inv-loop μ-loop
-add-x c = search needs
-
-loop-less : tie.Need-loop-less Inv-loop μ-loop
-loop-less c = search needs
-
 loop-again : tie.Need-loop-again Inv-loop μ-loop
 unfolding painted always
 loop-again c = let s = c .before .before .before in
@@ -41,23 +26,17 @@ loop-again c = let s = c .before .before .before in
           (ap (λ (y : ℕ). bitOr y (s .args .more)) (l .inv .2 .after (l .x) (omega arith))),
     )
 
-same-length : tie.Need-same-length Inv-loop μ-loop
-same-length c = search needs
-
-returns : tie.Need-returns Inv-loop μ-loop
-returns c = search fills
-
 pub paint-spec : {M : Type 1} → statement M
 paint-spec =
     tie.close
     (tie.spec
     Inv-loop
     μ-loop
-    loop-holds
-    slice-read-marks
-    slice-write-marks
-    add-x
-    loop-less
+    (λ c. (search needs, search needs, search fills))
+    (λ c. search needs)
+    (λ c. search needs)
+    (λ c. search needs)
+    (λ c. search needs)
     loop-again
-    same-length
-    returns)
+    (λ c. search needs)
+    (λ c. search fills))

@@ -5,17 +5,11 @@ use borrow.Author.Needs.{needs}
 use Rattle.day_merge.proofs.paint_some.Statement.{statement}
 use Rattle.day_merge.proofs.paint_some.Tie as tie
 
-paint-requires : tie.Need-paint-requires
-paint-requires c κs = search needs
-
-same-length : tie.Need-same-length
-same-length c = search needs
-
-returns : tie.Need-returns
-returns c = search needs
-
-returns-2 : tie.Need-returns-2
-returns-2 c = painted-none _ _ _ _ (omega arith)
-
 pub paint-some-spec : {M : Type 1} → statement M
-paint-some-spec = tie.close (tie.spec paint-requires same-length returns returns-2)
+paint-some-spec =
+    tie.close
+    (tie.spec
+    (λ c κs. search needs)
+    (λ c. search needs)
+    (λ c. search needs)
+    (λ c. painted-none _ _ _ _ (omega arith)))

@@ -23,15 +23,6 @@ abbrev μ-loop : tie.MeasureT-loop
     marks t i j since held =
     stop - t
 
-mul-w : tie.Need-mul-w Inv-loop μ-loop
-mul-w c = search needs
-
-shared-slice-read-w : tie.Need-shared-slice-read-w Inv-loop μ-loop
-shared-slice-read-w c = search needs
-
-wide-requires : tie.Need-wide-requires Inv-loop μ-loop
-wide-requires c κs = search needs
-
 ends-requires : tie.Need-ends-requires Inv-loop μ-loop
 ends-requires c κs = let s = c .before .before .before .before .before .before .before .before .before in
     let q = s .pre .1 .1 in (
@@ -39,24 +30,6 @@ ends-requires c κs = let s = c .before .before .before .before .before .before 
       omega (arith, c .wide .ensures, q .0 .0 .most _ (q .1 .2 .below)),
       q .0 .1,
     )
-
-add-start : tie.Need-add-start Inv-loop μ-loop
-add-start c = search needs
-
-start-requires : tie.Need-start-requires Inv-loop μ-loop
-start-requires c κs = search needs
-
-sub-lesser : tie.Need-sub-lesser Inv-loop μ-loop
-sub-lesser c = search needs
-
-add-lesser : tie.Need-add-lesser Inv-loop μ-loop
-add-lesser c = search needs
-
-lesser-requires : tie.Need-lesser-requires Inv-loop μ-loop
-lesser-requires c κs = search needs
-
-seek-requires : tie.Need-seek-requires Inv-loop μ-loop
-seek-requires c κs = search needs
 
 loop-holds : tie.Need-loop-holds Inv-loop μ-loop
 loop-holds c =
@@ -76,12 +49,6 @@ loop-holds c =
       refl,
       onward-none _ _ _ _ _ _ _ _ _ _ _ _ _ _ _,
     )
-
-sub-end : tie.Need-sub-end Inv-loop μ-loop
-sub-end c = search needs
-
-add-end : tie.Need-add-end Inv-loop μ-loop
-add-end c = search needs
 
 until-requires : tie.Need-until-requires Inv-loop μ-loop
 until-requires c κs =
@@ -136,9 +103,6 @@ next-requires c κs =
     let o : l .t < s .args .period = omega (arith, h, z, a, m) in
     (s .pre .0 .0, (l .inv .2 o, (omega (arith, u .some), u .own)))
 
-sub-next : tie.Need-sub-next Inv-loop μ-loop
-sub-next c = search needs
-
 add-next : tie.Need-add-next Inv-loop μ-loop
 add-next c =
     let s = c .before .before .before .before .before .before .before .before .before .before
@@ -157,9 +121,6 @@ next-requires-2 c κs =
     let h = c .before .before .before .before .before .before .before .loop-test .taken in
     let u = c .before .before .before .before .before .before .until .ensures in
     (s .pre .0 .2, (l .inv .3 h, (omega arith, omega (arith, u .some, u .head, l .inv .3 h .to))))
-
-loop-less : tie.Need-loop-less Inv-loop μ-loop
-loop-less c = search needs
 
 loop-again : tie.Need-loop-again Inv-loop μ-loop
 loop-again c =
@@ -203,9 +164,6 @@ loop-again c =
           .before .judge .ensures) g,
     )
 
-same-length : tie.Need-same-length Inv-loop μ-loop
-same-length c = c .before .loop .inv .6
-
 returns : tie.Need-returns Inv-loop μ-loop
 returns c =
     let s = c .before .before .before .before .before .before .before .before .before .before
@@ -231,27 +189,27 @@ sweep-spec =
     (tie.spec
     Inv-loop
     μ-loop
-    mul-w
-    shared-slice-read-w
-    wide-requires
+    (λ c. search needs)
+    (λ c. search needs)
+    (λ c κs. search needs)
     ends-requires
-    add-start
-    start-requires
-    sub-lesser
-    add-lesser
-    lesser-requires
-    seek-requires
+    (λ c. search needs)
+    (λ c κs. search needs)
+    (λ c. search needs)
+    (λ c. search needs)
+    (λ c κs. search needs)
+    (λ c κs. search needs)
     loop-holds
-    sub-end
-    add-end
+    (λ c. search needs)
+    (λ c. search needs)
     until-requires
     judge-requires
     turn-requires
     next-requires
-    sub-next
+    (λ c. search needs)
     add-next
     next-requires-2
-    loop-less
+    (λ c. search needs)
     loop-again
-    same-length
+    (λ c. c .before .loop .inv .6)
     returns)

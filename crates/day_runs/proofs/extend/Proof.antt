@@ -7,30 +7,12 @@ use borrow.Author.Needs.{needs}
 use Rattle.day_runs.proofs.extend.Statement.{statement}
 use Rattle.day_runs.proofs.extend.Tie as tie
 
-count-find-requires : tie.Need-count-find-requires
-count-find-requires c κs = search needs
-
 returns : tie.Need-returns
 returns c = let s = c .before .before .before .before .before in
     let e : s .args .v ≡ s .args .w = omega (arith, c .if1 .taken) in (
       flat-held (s .pre .0) _ _ e,
       search needs,
     )
-
-add-if2 : tie.Need-add-if2
-add-if2 c = search needs
-
-put-requires : tie.Need-put-requires
-put-requires c κs = search needs
-
-add-result : tie.Need-add-result
-add-result c = search needs
-
-same-length : tie.Need-same-length
-same-length c = search needs
-
-same-length-2 : tie.Need-same-length-2
-same-length-2 c = search needs
 
 returns-2 : tie.Need-returns-2
 returns-2 c =
@@ -42,31 +24,19 @@ returns-2 c =
       search needs,
     )
 
-piece-requires : tie.Need-piece-requires
-piece-requires c κs = search needs
-
-same-length-3 : tie.Need-same-length-3
-same-length-3 c = search needs
-
-same-length-4 : tie.Need-same-length-4
-same-length-4 c = search needs
-
-returns-3 : tie.Need-returns-3
-returns-3 c = search needs
-
 pub extend-spec : {M : Type 1} → statement M
 extend-spec =
     tie.close
     (tie.spec
-    count-find-requires
+    (λ c κs. search needs)
     returns
-    add-if2
-    put-requires
-    add-result
-    same-length
-    same-length-2
+    (λ c. search needs)
+    (λ c κs. search needs)
+    (λ c. search needs)
+    (λ c. search needs)
+    (λ c. search needs)
     returns-2
-    piece-requires
-    same-length-3
-    same-length-4
-    returns-3)
+    (λ c κs. search needs)
+    (λ c. search needs)
+    (λ c. search needs)
+    (λ c. search needs))

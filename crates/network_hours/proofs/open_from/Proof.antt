@@ -1,20 +1,10 @@
 -- `network_hours::open_from` meets its contract.
-use native.Mathlib.Nat.{mod-lt}
-use native.Mathlib.Omega.{arith}
+use native.Mathlib.{Nat.mod-lt, Omega.arith}
 use Rattle.theory_loops.specs.Pick.{picks}
 use Rattle.network_hours.specs.Hours.{openFrom}
 use borrow.Author.Needs.{needs}
 use Rattle.network_hours.proofs.open_from.Statement.{statement}
 use Rattle.network_hours.proofs.open_from.Tie as tie
-
-rem-tick : tie.Need-rem-tick
-rem-tick c = search needs
-
-sub-result : tie.Need-sub-result
-sub-result c = search needs
-
-add-result : tie.Need-add-result
-add-result c = search needs
 
 returns : tie.Need-returns
 unfolding openFrom
@@ -24,15 +14,6 @@ returns-2 : tie.Need-returns-2
 unfolding openFrom
 returns-2 c = search picks
 
-sub-result-2 : tie.Need-sub-result-2
-sub-result-2 c = omega (arith, mod-lt (c .before .before .args .x) (c .before .before .pre .0))
-
-add-result-2 : tie.Need-add-result-2
-add-result-2 c = search needs
-
-add-result-3 : tie.Need-add-result-3
-add-result-3 c = search needs
-
 returns-3 : tie.Need-returns-3
 unfolding openFrom
 returns-3 c = search picks
@@ -41,12 +22,12 @@ pub open-from-spec : {M : Type 1} → statement M
 open-from-spec =
     tie.close
     (tie.spec
-    rem-tick
-    sub-result
-    add-result
+    (λ c. search needs)
+    (λ c. search needs)
+    (λ c. search needs)
     returns
     returns-2
-    sub-result-2
-    add-result-2
-    add-result-3
+    (λ c. omega (arith, mod-lt (c .before .before .args .x) (c .before .before .pre .0)))
+    (λ c. search needs)
+    (λ c. search needs)
     returns-3)

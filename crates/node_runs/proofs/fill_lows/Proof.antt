@@ -1,11 +1,9 @@
 -- `node_runs::fill_lows` meets its contract.
 use Prim.Native.Nat.{_-_, _≤_}
-use mathlib.Core.Path.{_≡_}
+use mathlib.Core.{Path._≡_, Path._≡_, Path.refl, Path._∙_}
 use native.Mathlib.Omega.{arith}
-use lib.ListN.{length}
+use lib.{ListN.length, ListN.length, ListN.length-set}
 use Rattle.node_runs.specs.Ready.{Lows, lows-none, lows-more}
-use mathlib.Core.Path.{_≡_, refl, _∙_}
-use lib.ListN.{length, length-set}
 use borrow.Author.Needs.{needs}
 use Rattle.node_runs.proofs.fill_lows.Statement.{statement}
 use Rattle.node_runs.proofs.fill_lows.Tie as tie
@@ -16,21 +14,6 @@ Inv-loop plan l firsts i lows₀ nodes u₀ lows u =
 
 abbrev μ-loop : tie.MeasureT-loop
 μ-loop plan l firsts i lows₀ nodes u₀ lows u = nodes - u
-
-loop-holds : tie.Need-loop-holds Inv-loop μ-loop
-loop-holds c = (search needs, refl, lows-none _ _)
-
-low-value-requires : tie.Need-low-value-requires Inv-loop μ-loop
-low-value-requires c κs = search needs
-
-element-write-lows : tie.Need-element-write-lows Inv-loop μ-loop
-element-write-lows c = search needs
-
-add-u : tie.Need-add-u Inv-loop μ-loop
-add-u c = search needs
-
-loop-less : tie.Need-loop-less Inv-loop μ-loop
-loop-less c = search needs
 
 loop-again : tie.Need-loop-again Inv-loop μ-loop
 loop-again c = let s = c .before .before .before .before in
@@ -51,10 +34,10 @@ fill-lows-spec =
     (tie.spec
     Inv-loop
     μ-loop
-    loop-holds
-    low-value-requires
-    element-write-lows
-    add-u
-    loop-less
+    (λ c. (search needs, refl, lows-none _ _))
+    (λ c κs. search needs)
+    (λ c. search needs)
+    (λ c. search needs)
+    (λ c. search needs)
     loop-again
     returns)

@@ -1,166 +1,132 @@
--- `node_runs::judge_arc` meets its contract: an arc that is passed adds nothing.
-use mathlib.Core.Path.{sym, _∙_}
-use native.Mathlib.Omega.{arith}
-use borrow.Author.Tests.{ltb-true}
-use Rattle.plan_values.specs.Formed.{profile-in}
-use Rattle.plan_values.specs.Starts.{product-fits, number-fits}
+-- `node_runs::judge_arc` meets its contract.
+use mathlib.Core.Path.{refl, _∙_}
 use Rattle.plan_tests.specs.Giving.{head-in}
-use Rattle.node_runs.specs.Adds.{met-never, met-far}
-use Rattle.node_runs.specs.Finding.{counted-none}
-use Rattle.node_runs.specs.Ready.{floor-here}
-use Rattle.arc_runs.specs.Brief.{brief-floor}
-use borrow.Author.Needs.{needs}
+use Rattle.node_runs.specs.Adds.{met-merged}
+use Rattle.node_runs.specs.Finding.{counted-none, arc-fits, head-fits, met-finds}
+use Rattle.node_runs.specs.Ready.{grid-here, arc-space, head-space, listed, few, period-fits}
 use Rattle.node_runs.proofs.judge_arc.Statement.{statement}
 use Rattle.node_runs.proofs.judge_arc.Tie as tie
 
-head-requires : tie.Need-head-requires
-head-requires c κs = search needs
+-- places that later ones go back to: the entry, where the arc is not passed, and where runs are filled
+abbrev start : tie.Else1 → tie.Start
+start c = c .before .before .before .before .before .before .before .before .before .before .before .before
 
-mul-point-count : tie.Need-mul-point-count
-mul-point-count c =
-    let s =
-    c .before .before .before .before .before .before .before .before .before .before .before .before in
-    let w = s .pre .0 in
-    product-fits (w .check .formed) (w .number)
-    (head-in w (s .pre .1 .1 .0 .0) (c .before .before .head .ensures .0))
+abbrev unpassed : tie.After-fill-runs → tie.Else1
+unpassed c = c .before .before .before .before .before
 
-add-point-count : tie.Need-add-point-count
-add-point-count c =
-    let s =
-    c .before .before .before .before .before .before .before .before .before .before .before .before in
-    let w = s .pre .0 in
-    number-fits (w .check .formed) (w .number)
-    (head-in w (s .pre .1 .1 .0 .0) (c .before .before .head .ensures .0))
+abbrev filled : tie.After-fill-profile → tie.After-fill-runs
+filled c = c .before .before .before .before .before .before .before .before .before .before
 
-point-count-requires : tie.Need-point-count-requires
-point-count-requires c κs =
-    let s =
-    c .before .before .before .before .before .before .before .before .before .before .before .before in
-    let w = s .pre .0 in
-    let h = head-in w (s .pre .1 .1 .0 .0) (c .before .before .head .ensures .0) in
-    (w .check .formed .laid, profile-in (w .check .formed) _ _ (w .number) h)
+abbrev merging : tie.After-merge → tie.After-fill-profile
+merging c = c .before .before .before .before .before .before .before .before .before .before
 
-returns : tie.Need-returns
-returns c =
-    let s =
-    c .before .before .before .before .before .before .before .before .before .before .before .before .before
-    .before in (
-      met-never (s .pre .0) _ _ _ (s .pre .1 .1 .0 .1) (c .before .before .before .before .head .ensures .0)
-          (s .pre .1 .1 .1 .0 .0 .some) _
-          (sym (c .before .point-count .ensures .0) ∙ c .if1 .taken),
-      counted-none _ _,
+look-requires : tie.Need-look-requires
+look-requires c κs = let s = c .before .before .before .before .before .before .before .before .before .pre in
+    let w = s .0 in
+    (w .check, (s .1 .0, ((s .1 .1 .0 .0, w .number, w .aimed .flag), s .1 .1 .0 .1 .topped)))
+
+fill-runs-requires : tie.Need-fill-runs-requires
+fill-runs-requires c κs =
+    let e = c .before .before .before .before in
+    let s = start e .pre in
+    let w = s .0 in
+    let r = s .1 .1 .1 .0 in
+    let k = e .before .before .look .ensures .met (e .if1 .left) in (
+      w .check .town,
+      (
+        (s .1 .1 .0 .0, w .first _ (s .1 .1 .0 .0)),
+        (k .brief, ((arc-space (w .check) r, r .arc-v), arc-fits w _ _ (s .1 .1 .1 .1))),
+      ),
     )
 
-element-copy-out-brief : tie.Need-element-copy-out-brief
-element-copy-out-brief c = let s = c .before .before .before .before .before .before .before .before .before
-    .before .before .before .before .before in
-    omega (arith, s .pre .1 .1 .0 .0, s .pre .0 .check .town .small .arcs-most)
-
-element-copy-out-is-far : tie.Need-element-copy-out-is-far
-element-copy-out-is-far c = let s = c .before .before .before .before .before .before .before .before .before
-    .before .before .before .before .before .before in
-    let w = s .pre .0 in
-    omega (
-      arith,
-      head-in w (s .pre .1 .1 .0 .0) (c .before .before .before .before .before .head .ensures .0),
-      w .check .formed .small .nodes-most,
+fill-profile-requires : tie.Need-fill-profile-requires
+fill-profile-requires c κs =
+    let a = c .before .before .before .before .before .before .before .before .before in
+    let e = unpassed a in
+    let f = a .fill-runs in
+    let s = start e .pre in
+    let w = s .0 in
+    let k = e .before .before .look .ensures .met (e .if1 .left) in (
+      w .check .formed,
+      (
+        w .started,
+        (
+          (w .number, head-in (w .check) (s .1 .1 .0 .0) (k .head), k .some),
+          (
+            head-space (w .check) (s .1 .1 .1 .0) (f .kept .1 .1 .1 .1 .1 .1 .0),
+            head-fits w _ _ _ (k .head) (f .ensures .3) (s .1 .1 .1 .1),
+          ),
+        ),
+      ),
     )
 
-least-requires : tie.Need-least-requires
-least-requires c κs = search needs
-
-is-far-requires : tie.Need-is-far-requires
-is-far-requires c κs = search needs
-
-returns-2 : tie.Need-returns-2
-returns-2 c = let s = c .before .before .before .before .before .before .before .before .before .before
-    .before .before .before .before .before .before .before .before .before in
-    let w = s .pre .0 in
-    let a = s .pre .1 .1 .0 .0 in
-    let o = s .pre .1 .1 .1 .0 in
-    let h = c .before .before .before .before .before .before .before .before .before .head .ensures .0 in
-    let k = c .before .before .before .before .before .before .point-count .ensures .0 in
-    let f =
-    s .pre .1 .0 .1 .at _ (head-in w a h) .floor
-    (omega (arith, k, c .before .before .before .before .before .if1 .left)) in (
-      met-far w _ _ _ (s .pre .1 .1 .0 .1) h (o .0 .some)
-          (omega (arith, k, c .before .before .before .before .before .if1 .left)) _ _ _ _
-          (ltb-true _ _ (sym (c .before .is-far .ensures) ∙ c .if2 .taken)) (o .1)
-          (brief-floor (s .pre .1 .0 .0 .at _ a) (c .before .before .least .ensures))
-          (floor-here w f),
-      counted-none _ _,
-    )
-
-same-bits-requires : tie.Need-same-bits-requires
-same-bits-requires c κs = let s = c .before .before .before .before .before .before .before .before .before
-    .before .before .before .before .before .before .before .before .before .before in
-    let w = s .pre .0 in
-    (w .check .formed .laid, (omega (arith, s .pre .1 .1 .0 .0, w .check .arcs), w .aimed .flag))
-
-meet-requires : tie.Need-meet-requires
-meet-requires c κs = let s = c .before .before .before .before .before .before .before .before .before .before
-    .before .before .before .before .before .before .before .before .before .before .before .before .before
-    .before .before .before in
-    let o = s .pre .1 .1 .1 in
-    let a = s .pre .1 .1 .0 .0 in
-    let k = c .before .before .before .before .before .before .before .before .before .before .before .before
-    .before .point-count .ensures .0 in (
-      s .pre .0,
+merge-requires : tie.Need-merge-requires
+merge-requires c κs =
+    let b = c .before .before .before .before .before .before .before .before .before in
+    let a = filled b in
+    let s = start (unpassed a) .pre in
+    let w = s .0 .check in
+    let o = s .1 .1 .0 .1 in
+    let r = s .1 .1 .1 .0 in
+    let f = a .fill-runs in
+    let p = b .fill-profile in
+    let g = f .ensures .0 .grid in
+    let h = grid-here w (p .ensures .0 .grid) in (
+      (
+        listed (o .runs .grid) refl (o .in-s),
+        listed g (f .kept .1 .1 .1 .1 .1 .0) (r .arc-s),
+        listed h (p .kept .1 .1 .1 .1 .1 .0) (r .head-s),
+      ),
       (
         (
-          a,
-          s .pre .1 .1 .0 .1,
-          c .before .before .before .before .before .before .before .before .before .before .before .before
-              .before .before .before .before .head .ensures .0,
-          omega (
-            arith,
-            k,
-            c .before .before .before .before .before .before .before .before .before .before
-                .before .before .if1 .left,
-          ),
-          s .pre .1 .0 .0 .at _ a,
+          few (o .runs .grid) refl (o .in-v),
+          few g (f .kept .1 .1 .1 .1 .1 .1 .1 .0) (r .arc-v),
+          few h (p .kept .1 .1 .1 .1 .1 .1 .0 ∙ f .kept .1 .1 .1 .1 .1 .1 .0) (r .head-v),
         ),
-        ((o .0 .0, c .before .before .before .before .before .before .same-bits .ensures), o .1),
+        (f .ensures .1, (w .town .small .period-some, period-fits w, r .bytes)),
       ),
     )
 
 same-length : tie.Need-same-length
-same-length c = search needs
+same-length c = filled (merging (c .before .before)) .fill-runs .kept .1 .1 .1 .1 .1 .0
 
 same-length-2 : tie.Need-same-length-2
-same-length-2 c = search needs
+same-length-2 c = filled (merging (c .before .before)) .fill-runs .kept .1 .1 .1 .1 .1 .1 .1 .0
 
 same-length-3 : tie.Need-same-length-3
-same-length-3 c = search needs
+same-length-3 c = merging (c .before .before) .fill-profile .kept .1 .1 .1 .1 .1 .0
 
 same-length-4 : tie.Need-same-length-4
-same-length-4 c = search needs
+same-length-4 c =
+    let m = merging (c .before .before) in
+    m .fill-profile .kept .1 .1 .1 .1 .1 .1 .0 ∙ filled m .fill-runs .kept .1 .1 .1 .1 .1 .1 .0
 
-same-length-5 : tie.Need-same-length-5
-same-length-5 c = search needs
-
-returns-3 : tie.Need-returns-3
-returns-3 c = search needs
+returns-2 : tie.Need-returns-2
+returns-2 c =
+    let m = merging (c .before .before) in
+    let e = unpassed (filled m) in
+    let s = start e in
+    let w = s .pre .0 in
+    let k = e .before .before .look .ensures .met (e .if1 .left) in
+    let a = filled m .fill-runs .ensures in
+    let h = m .fill-profile .ensures in (
+      met-merged (w .check) (s .args .target) _ _ (k .head) (s .pre .1 .1 .0 .1 .topped .some) (k .some) _ _ _
+          (k .same) (c .before .before .merge .ensures) (s .pre .1 .1 .0 .1 .runs) (a .0) (h .0),
+      met-finds w _ (k .head) (a .2) (a .3) (h .1),
+    )
 
 pub judge-arc-spec : {M : Type 1} → statement M
 judge-arc-spec =
     tie.close
     (tie.spec
-    head-requires
-    mul-point-count
-    add-point-count
-    point-count-requires
-    returns
-    element-copy-out-brief
-    element-copy-out-is-far
-    least-requires
-    is-far-requires
-    returns-2
-    same-bits-requires
-    meet-requires
+    look-requires
+    (λ c. (c .before .before .look .ensures .passed (c .if1 .taken) _, counted-none _ _))
+    fill-runs-requires
+    fill-profile-requires
+    merge-requires
     same-length
     same-length-2
     same-length-3
     same-length-4
-    same-length-5
-    returns-3)
+    (λ c. c .before .before .merge .kept .1 .1 .1 .1 .1 .1 .1 .1 .1 .1 .1 .0)
+    returns-2)

@@ -2,18 +2,11 @@
 use mathlib.Core.Path.{_∙_, ap}
 use Prim.Native.Nat.{ℕ}
 use denote.Ref.{now}
-use Rattle.plan.specs.Plan.{bit, flag}
-use Rattle.plan.specs.PlanDecode.{decodePlan}
+use Rattle.plan.specs.{Plan.bit, Plan.flag, PlanDecode.decodePlan}
 use Rattle.node_runs.specs.Bytes.{same-set, same-unset}
 use borrow.Author.Needs.{needs}
 use Rattle.node_runs.proofs.same_bits.Statement.{statement}
 use Rattle.node_runs.proofs.same_bits.Tie as tie
-
-flag-word-requires : tie.Need-flag-word-requires
-flag-word-requires c κs = search needs
-
-is-set-requires : tie.Need-is-set-requires
-is-set-requires c κs = search needs
 
 returns : tie.Need-returns
 returns c = let a = c .before .before .before .before .args in
@@ -28,4 +21,4 @@ returns-2 c = let a = c .before .before .before .before .args in
     (c .if1 .left)
 
 pub same-bits-spec : {M : Type 1} → statement M
-same-bits-spec = tie.close (tie.spec flag-word-requires is-set-requires returns returns-2)
+same-bits-spec = tie.close (tie.spec (λ c κs. search needs) (λ c κs. search needs) returns returns-2)

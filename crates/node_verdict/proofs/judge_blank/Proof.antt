@@ -6,15 +6,6 @@ use borrow.Author.Needs.{needs}
 use Rattle.node_verdict.proofs.judge_blank.Statement.{statement}
 use Rattle.node_verdict.proofs.judge_blank.Tie as tie
 
-is-ahead-requires : tie.Need-is-ahead-requires
-is-ahead-requires c κs = search needs
-
-fill-requires : tie.Need-fill-requires
-fill-requires c κs = search needs
-
-same-length : tie.Need-same-length
-same-length c = search needs
-
 returns : tie.Need-returns
 returns c = let s = c .before .before .before .before .before .before .before .before .before in
     let w = s .pre .0 in
@@ -31,4 +22,4 @@ returns-2 c = let s = c .before .before .before .before .before in
 
 pub judge-blank-spec : {M : Type 1} → statement M
 judge-blank-spec =
-    tie.close (tie.spec is-ahead-requires fill-requires same-length returns returns-2)
+    tie.close (tie.spec (λ c κs. search needs) (λ c κs. search needs) (λ c. search needs) returns returns-2)

@@ -13,21 +13,6 @@ Inv-loop marks period off₀ x₀ off x = (x ≤ period) × (off ≡ offs marks 
 abbrev μ-loop : tie.MeasureT-loop
 μ-loop marks period off₀ x₀ off x = period - x
 
-loop-holds : tie.Need-loop-holds Inv-loop μ-loop
-loop-holds c = (search needs, offs-none _)
-
-shared-slice-read-off : tie.Need-shared-slice-read-off Inv-loop μ-loop
-shared-slice-read-off c = search needs
-
-add-x : tie.Need-add-x Inv-loop μ-loop
-add-x c = search needs
-
-loop-less : tie.Need-loop-less Inv-loop μ-loop
-loop-less c = search needs
-
-loop-again : tie.Need-loop-again Inv-loop μ-loop
-loop-again c = (search needs, search offs-more)
-
 returns : tie.Need-returns Inv-loop μ-loop
 returns c =
     let e : c .before .loop .x ≡ c .before .before .args .period = omega arith in
@@ -36,4 +21,12 @@ returns c =
 pub off-bits-spec : {M : Type 1} → statement M
 off-bits-spec =
     tie.close
-    (tie.spec Inv-loop μ-loop loop-holds shared-slice-read-off add-x loop-less loop-again returns)
+    (tie.spec
+    Inv-loop
+    μ-loop
+    (λ c. (search needs, offs-none _))
+    (λ c. search needs)
+    (λ c. search needs)
+    (λ c. search needs)
+    (λ c. (search needs, search offs-more))
+    returns)

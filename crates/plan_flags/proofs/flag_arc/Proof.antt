@@ -15,31 +15,10 @@ entry c = c .before .before .before .before
 abbrev unset : tie.After-wide → tie.Else1
 unset c = c .before .before .before .before .before .before .before .before
 
-is-set-requires : tie.Need-is-set-requires
-is-set-requires c κs = search needs
-
-returns : tie.Need-returns
-returns c = (flag-stands _ _ (c .before .is-set .ensures) _ (c .if1 .taken), refl)
-
-tail-requires : tie.Need-tail-requires
-tail-requires c κs = search needs
-
-head-requires : tie.Need-head-requires
-head-requires c κs = search needs
-
-mul-size : tie.Need-mul-size
-mul-size c = search needs
-
 element-copy-out-size : tie.Need-element-copy-out-size
 element-copy-out-size c = let s = entry (c .before .before) in
     let t = s .pre .0 .0 .town in
     omega (arith, head-node t _ _ (s .pre .1 .0 .0) (c .head .ensures .0), t .small .nodes-most)
-
-size-requires : tie.Need-size-requires
-size-requires c κs = search needs
-
-mul-size-2 : tie.Need-mul-size-2
-mul-size-2 c = search needs
 
 element-copy-out-size-2 : tie.Need-element-copy-out-size-2
 element-copy-out-size-2 c = let s = entry (c .before .before .before .before) in
@@ -49,21 +28,6 @@ element-copy-out-size-2 c = let s = entry (c .before .before .before .before) in
       tail-node t _ _ (s .pre .1 .0 .0) (c .before .before .before .tail .ensures .0),
       t .small .nodes-most,
     )
-
-size-requires-2 : tie.Need-size-requires-2
-size-requires-2 c κs = search needs
-
-mul-wide : tie.Need-mul-wide
-mul-wide c = search needs
-
-element-copy-out-wide : tie.Need-element-copy-out-wide
-element-copy-out-wide c = search needs
-
-wide-requires : tie.Need-wide-requires
-wide-requires c κs = search needs
-
-add-if2 : tie.Need-add-if2
-add-if2 c = search needs
 
 returns-2 : tie.Need-returns-2
 returns-2 c =
@@ -82,12 +46,6 @@ returns-2 c =
       flag-left _ _ (unset (c .before) .before .is-set .ensures) none (unset (c .before) .if1 .left) refl,
       refl,
     )
-
-is-start-requires : tie.Need-is-start-requires
-is-start-requires c κs = search needs
-
-alone-requires : tie.Need-alone-requires
-alone-requires c κs = search needs
 
 add-result : tie.Need-add-result
 add-result c =
@@ -118,23 +76,23 @@ pub flag-arc-spec : {M : Type 1} → statement M
 flag-arc-spec =
     tie.close
     (tie.spec
-    is-set-requires
-    returns
-    tail-requires
-    head-requires
-    mul-size
+    (λ c κs. search needs)
+    (λ c. (flag-stands _ _ (c .before .is-set .ensures) _ (c .if1 .taken), refl))
+    (λ c κs. search needs)
+    (λ c κs. search needs)
+    (λ c. search needs)
     element-copy-out-size
-    size-requires
-    mul-size-2
+    (λ c κs. search needs)
+    (λ c. search needs)
     element-copy-out-size-2
-    size-requires-2
-    mul-wide
-    element-copy-out-wide
-    wide-requires
-    add-if2
+    (λ c κs. search needs)
+    (λ c. search needs)
+    (λ c. search needs)
+    (λ c κs. search needs)
+    (λ c. search needs)
     returns-2
-    is-start-requires
-    alone-requires
+    (λ c κs. search needs)
+    (λ c κs. search needs)
     add-result
     returns-3
     returns-4)

@@ -4,8 +4,7 @@ use Prim.Native.Nat.{_-_, _≤_}
 use native.Mathlib.Omega.{arith}
 use lib.ListN.{length}
 use Rattle.theory_loops.specs.Fill.{Filled, fill-none, fill-up, fill-end}
-use Rattle.network.specs.Network.{cell}
-use Rattle.network.specs.Decode.{decode}
+use Rattle.network.specs.{Network.cell, Decode.decode}
 use Rattle.plan_flags.specs.Words.{wordAfter, cell-below, cell-few, word-next, flags-more}
 use borrow.Author.Needs.{needs}
 use Rattle.plan_flags.proofs.flag_border.Statement.{statement}
@@ -23,24 +22,8 @@ Inv-loop file l starts least b low room work row₀ words₀ c a₀ a-end row wo
 abbrev μ-loop : tie.MeasureT-loop
 μ-loop file l starts least b low room work row₀ words₀ c a₀ a-end row words a = a-end - a
 
-cell-requires : tie.Need-cell-requires Inv-loop μ-loop
-cell-requires c κs = search needs
-
 loop-holds : tie.Need-loop-holds Inv-loop μ-loop
-loop-holds c = (
-  search needs,
-  search needs,
-  search needs,
-  c .cell .ensures .0,
-  fill-none _ _ _,
-  refl,
-)
-
-mul-flag-arc : tie.Need-mul-flag-arc Inv-loop μ-loop
-mul-flag-arc c = search needs
-
-element-copy-out-flag-arc : tie.Need-element-copy-out-flag-arc Inv-loop μ-loop
-element-copy-out-flag-arc c = search needs
+loop-holds c = (search needs, search needs, search needs, c .cell .ensures .0, fill-none _ _ _, refl)
 
 flag-arc-requires : tie.Need-flag-arc-requires Inv-loop μ-loop
 flag-arc-requires c κs =
@@ -71,9 +54,6 @@ add-a c =
     let t = c .before .before .before .before .before .before .before .before .pre .0 .0 .town in
     omega (arith, i .1, c .before .before .before .loop-test .taken, t .small .arcs-most)
 
-loop-less : tie.Need-loop-less Inv-loop μ-loop
-loop-less c = search needs
-
 loop-again : tie.Need-loop-again Inv-loop μ-loop
 loop-again c = let i = c .before .before .before .before .loop .inv in (
   search needs,
@@ -100,14 +80,14 @@ flag-border-spec =
     (tie.spec
     Inv-loop
     μ-loop
-    cell-requires
+    (λ c κs. search needs)
     loop-holds
-    mul-flag-arc
-    element-copy-out-flag-arc
+    (λ c. search needs)
+    (λ c. search needs)
     flag-arc-requires
     mul-words
     element-write-words
     add-a
-    loop-less
+    (λ c. search needs)
     loop-again
     returns)

@@ -6,18 +6,6 @@ use borrow.Author.Needs.{needs}
 use Rattle.plan_flags.proofs.inside_word.Statement.{statement}
 use Rattle.plan_flags.proofs.inside_word.Tie as tie
 
-tail-requires : tie.Need-tail-requires
-tail-requires c κs = search needs
-
-head-requires : tie.Need-head-requires
-head-requires c κs = search needs
-
-cell-requires : tie.Need-cell-requires
-cell-requires c κs = (search needs, search town-reads)
-
-cell-requires-2 : tie.Need-cell-requires-2
-cell-requires-2 c κs = (search needs, search town-reads)
-
 returns : tie.Need-returns
 returns c = let s = c .before .before .before .before .before .before in
     word-apart (s .pre .0) (s .pre .1) (c .before .before .before .before .tail .ensures .0)
@@ -41,10 +29,10 @@ pub inside-word-spec : {M : Type 1} → statement M
 inside-word-spec =
     tie.close
     (tie.spec
-    tail-requires
-    head-requires
-    cell-requires
-    cell-requires-2
+    (λ c κs. search needs)
+    (λ c κs. search needs)
+    (λ c κs. (search needs, search town-reads))
+    (λ c κs. (search needs, search town-reads))
     returns
     alone-requires
     returns-2)

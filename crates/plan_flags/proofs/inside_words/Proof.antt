@@ -16,27 +16,6 @@ Inv-loop file l words₀ a₀ a-end words a = (a ≤ a-end) × (a-end ≡ l .arc
 abbrev μ-loop : tie.MeasureT-loop
 μ-loop file l words₀ a₀ a-end words a = a-end - a
 
-loop-holds : tie.Need-loop-holds Inv-loop μ-loop
-loop-holds c = (search needs, search needs, search needs, search fills)
-
-inside-word-requires : tie.Need-inside-word-requires Inv-loop μ-loop
-inside-word-requires c κs = search needs
-
-mul-words : tie.Need-mul-words Inv-loop μ-loop
-mul-words c = search needs
-
-element-write-words : tie.Need-element-write-words Inv-loop μ-loop
-element-write-words c = search needs
-
-add-a : tie.Need-add-a Inv-loop μ-loop
-add-a c = search needs
-
-loop-less : tie.Need-loop-less Inv-loop μ-loop
-loop-less c = search needs
-
-loop-again : tie.Need-loop-again Inv-loop μ-loop
-loop-again c = (search needs, search needs, search needs, search fills)
-
 returns : tie.Need-returns Inv-loop μ-loop
 returns c = let i = c .before .loop .inv in
     let t = c .before .before .before .pre .0 in
@@ -49,11 +28,11 @@ inside-words-spec =
     (tie.spec
     Inv-loop
     μ-loop
-    loop-holds
-    inside-word-requires
-    mul-words
-    element-write-words
-    add-a
-    loop-less
-    loop-again
+    (λ c. (search needs, search needs, search needs, search fills))
+    (λ c κs. search needs)
+    (λ c. search needs)
+    (λ c. search needs)
+    (λ c. search needs)
+    (λ c. search needs)
+    (λ c. (search needs, search needs, search needs, search fills))
     returns)

@@ -4,11 +4,8 @@ use Prim.Native.Nat.{_-_, _*_, _≤_}
 use native.Mathlib.Omega.{arith}
 use Rattle.theory_loops.specs.First.{none-yet, pass}
 use Rattle.theory_loops.specs.First as First
-use Rattle.network.specs.Decode.{decode}
-use Rattle.network.specs.Network.{nodes}
-use Rattle.network.specs.Town.{partitionOf}
-use Rattle.plan.specs.Plan.{pointStart}
-use Rattle.plan.specs.PlanDecode.{decodePlan}
+use Rattle.network.specs.{Decode.decode, Network.nodes, Town.partitionOf}
+use Rattle.plan.specs.{Plan.pointStart, PlanDecode.decodePlan}
 use Rattle.plan_values.specs.Starts.{started-of}
 use Rattle.plan_tests.specs.Finds.{allowed-most}
 use Rattle.node_verdict.specs.Lowest.{tells}
@@ -136,8 +133,8 @@ places-holds c = let i = c .before .before .before .before .before .before .befo
 
 judge-requires : tie.Need-judge-requires Inv-ticks μ-ticks Inv-places μ-places Inv-borders μ-borders
 judge-requires c κs = let s = c .before .before .before .before .before .before .before .before .before
-    .before .before .before .before .before .before .before .before .before .before .before .before .before
-    .before .before .before .before .before .before .before in
+    .before .before .before .before .before .before .before .before .before .before .before .before
+    .before .before .before .before .before .before .before .before in
     let w = s .pre .0 in
     let t = w .check .town in
     let b = c .before .before .before .before .before .before .before .before .before .before .before .before
@@ -183,35 +180,36 @@ add-node : tie.Need-add-node Inv-ticks μ-ticks Inv-places μ-places Inv-borders
 add-node c = omega (
   arith,
   c .before .before .before .before .before .before .before .before .before .before
-      .before .before .before .before .before .before .before .before .before .before .before .before .before
-      .before .before .before .before .places-test .taken,
+      .before .before .before .before .before .before .before .before .before .before .before .before
+      .before .before .before .before .before .places-test .taken,
   c .before .before .before .before .before .before
-      .before .before .before .before .before .before .before .before .before .before .before .before .before
-      .before .before .before .before .before .before .before .before .before .before .before .before .before
-      .before .before .before .before .before .before .before .before .before .before .before .before .before
-      .before .pre .0 .check .town .small .nodes-most,
+      .before .before .before .before .before .before .before .before .before .before .before .before
+      .before .before .before .before .before .before .before .before .before .before .before .before
+      .before .before .before .before .before .before .before .before .before .before .before .before
+      .before .before .before .before .pre .0 .check .town .small .nodes-most,
 )
 
 places-less : tie.Need-places-less Inv-ticks μ-ticks Inv-places μ-places Inv-borders μ-borders
 places-less c = omega (
   arith,
   c .before .before .before .before .before .before .before .before .before
-      .before .before .before .before .before .before .before .before .before .before .before .before .before
-      .before .before .before .before .before .places-test .taken,
+      .before .before .before .before .before .before .before .before .before .before .before .before
+      .before .before .before .before .before .before .places-test .taken,
 )
 
 places-again : tie.Need-places-again Inv-ticks μ-ticks Inv-places μ-places Inv-borders μ-borders
 places-again c = let w = c .before .before .before .before .before .before .before .before .before .before
-    .before .before .before .before .before .before .before .before .before .before .before .before .before
-    .before .before .before .before .before .before .before .before .before .before .before .before .before
-    .before .before .before .before .before .before .before .before .before .before .pre .0 .check in
+    .before .before .before .before .before .before .before .before .before .before .before .before
+    .before .before .before .before .before .before .before .before .before .before .before .before
+    .before .before .before .before .before .before .before .before .before .before .before .before
+    .pre .0 .check in
     let t = w .town in
     let p = c .before .before .before .before .before .before .before .before .before .before .before .before
-    .before .before .before .before .before .before .before .before .before .before .before .before .before
-    .before .before .before .places .inv in
+    .before .before .before .before .before .before .before .before .before .before .before .before
+    .before .before .before .before .places .inv in
     let e = c .before .before .before .before .before .before .before .before .before .before .before .before
-    .before .before .before .before .before .before .before .before .before .before .before .before .before
-    .before .before .before .before .target-at .ensures .0 in
+    .before .before .before .before .before .before .before .before .before .before .before .before
+    .before .before .before .before .before .target-at .ensures .0 in
     let told = rw (e, t .sizes .period) at (c .before .before .before .before .before .before .before .before
     .before .before .before .before .before .before .before .before .judge .ensures) in
     let k = c .before .before .before .before .before .before .before .before .before .before .before .before
@@ -229,9 +227,6 @@ places-again c = let w = c .before .before .before .before .before .before .befo
       p .3,
       row-more _ _ _ (p .4) _ (rw (w .nodes, t .sizes .nodes)) (told .1) (omega arith) (p .2 .high),
     )
-
-ticks-holds : tie.Need-ticks-holds Inv-ticks μ-ticks Inv-places μ-places Inv-borders μ-borders
-ticks-holds c = (search needs, refl, refl, none-yet _)
 
 fails-at-requires : tie.Need-fails-at-requires Inv-ticks μ-ticks Inv-places μ-places Inv-borders μ-borders
 fails-at-requires c κs = let k = c .before .before .before .before .before .before .before .before .before
@@ -255,14 +250,14 @@ add-node-2 : tie.Need-add-node-2 Inv-ticks μ-ticks Inv-places μ-places Inv-bor
 add-node-2 c = omega (
   arith,
   c .before .before .before .before .ticks .inv .2,
-  c .before .before .before .before .before .before .before .before .before .before .before .before .before
-      .before .before .before .before .before .before .before .before .before .before .before .before .before
-      .before .before .before .before .before .before .places-test .taken,
-  c .before .before .before .before .before .before .before .before .before .before .before .before .before
-      .before .before .before .before .before .before .before .before .before .before .before .before .before
-      .before .before .before .before .before .before .before .before .before .before .before .before .before
-      .before .before .before .before .before .before .before .before .before .before .before .before .pre .0
-      .check .town .small .nodes-most,
+  c .before .before .before .before .before .before .before .before .before .before .before .before
+      .before .before .before .before .before .before .before .before .before .before .before .before
+      .before .before .before .before .before .before .before .before .places-test .taken,
+  c .before .before .before .before .before .before .before .before .before .before .before .before
+      .before .before .before .before .before .before .before .before .before .before .before .before
+      .before .before .before .before .before .before .before .before .before .before .before .before
+      .before .before .before .before .before .before .before .before .before .before .before .before
+      .before .before .before .pre .0 .check .town .small .nodes-most,
 )
 
 places-less-2 : tie.Need-places-less-2 Inv-ticks μ-ticks Inv-places μ-places Inv-borders μ-borders
@@ -270,38 +265,38 @@ places-less-2 c = omega (
   arith,
   c .before .before .before .before .ticks .inv .2,
   c .before .before .before
-      .before .before .before .before .before .before .before .before .before .before .before .before .before
-      .before .before .before .before .before .before .before .before .before .before .before .before .before
-      .before .before .before .places-test .taken,
+      .before .before .before .before .before .before .before .before .before .before .before .before
+      .before .before .before .before .before .before .before .before .before .before .before .before
+      .before .before .before .before .before .places-test .taken,
 )
 
 places-again-2 : tie.Need-places-again-2 Inv-ticks μ-ticks Inv-places μ-places Inv-borders μ-borders
 places-again-2 c = let w = c .before .before .before .before .before .before .before .before .before .before
-    .before .before .before .before .before .before .before .before .before .before .before .before .before
-    .before .before .before .before .before .before .before .before .before .before .before .before .before
-    .before .before .before .before .before .before .before .before .before .before .before .before .before
-    .before .before .pre .0 .check in
+    .before .before .before .before .before .before .before .before .before .before .before .before
+    .before .before .before .before .before .before .before .before .before .before .before .before
+    .before .before .before .before .before .before .before .before .before .before .before .before
+    .before .before .before .before .before .pre .0 .check in
     let t = w .town in
     let b = c .before .before .before .before .before .before .before .before .before .before .before .before
-    .before .before .before .before .before .before .before .before .before .before .before .before .before
-    .before .before .before .before .before .before .before .before .before .before .before .before .before
-    .before .before .before .borders .inv in
+    .before .before .before .before .before .before .before .before .before .before .before .before
+    .before .before .before .before .before .before .before .before .before .before .before .before
+    .before .before .before .before .before .borders .inv in
     let h = c .before .before .before .before .before .before .before .before .before .before .before .before
-    .before .before .before .before .before .before .before .before .before .before .before .before .before
-    .before .before .before .before .before .before .before .before .before .before .before .before .before
-    .before .before .borders-test .taken in
+    .before .before .before .before .before .before .before .before .before .before .before .before
+    .before .before .before .before .before .before .before .before .before .before .before .before
+    .before .before .before .before .borders-test .taken in
     let p = c .before .before .before .before .before .before .before .before .before .before .before .before
-    .before .before .before .before .before .before .before .before .before .before .before .before .before
-    .before .before .before .before .before .before .before .before .places .inv in
+    .before .before .before .before .before .before .before .before .before .before .before .before
+    .before .before .before .before .before .before .before .before .before .places .inv in
     let n = c .before .before .before .before .before .before .before .before .before .before .before .before
-    .before .before .before .before .before .before .before .before .before .before .before .before .before
-    .before .before .before .before .before .before .before .places-test .taken in
+    .before .before .before .before .before .before .before .before .before .before .before .before
+    .before .before .before .before .before .before .before .before .places-test .taken in
     let e = c .before .before .before .before .before .before .before .before .before .before .before .before
-    .before .before .before .before .before .before .before .before .before .before .before .before .before
-    .before .before .before .before .before .before .before .before .before .target-at .ensures .0 in
+    .before .before .before .before .before .before .before .before .before .before .before .before
+    .before .before .before .before .before .before .before .before .before .before .target-at .ensures .0 in
     let told = rw (e, t .sizes .period) at (c .before .before .before .before .before .before .before .before
-    .before .before .before .before .before .before .before .before .before .before .before .before .before
-    .judge .ensures) in
+    .before .before .before .before .before .before .before .before .before .before .before .before
+    .before .judge .ensures) in
     let l = c .before .before .before .before .before .if1 .left in
     let stands = stands-lower (p .2) (told .0) l (c .before .before .before .before .ticks .inv .3) (omega
     (arith, h, w .borders))
@@ -333,15 +328,12 @@ add-tick c = omega (
   arith,
   c .before .before .before .ticks-test .taken,
   c .before .before .before .before
-      .before .before .before .before .before .before .before .before .before .before .before .before .before
-      .before .before .before .before .before .before .before .before .before .before .before .before .before
-      .before .before .before .before .before .before .before .before .before .before .before .before .before
-      .before .before .before .before .before .before .before .before .pre .0 .check .town .small
-      .period-most,
+      .before .before .before .before .before .before .before .before .before .before .before .before
+      .before .before .before .before .before .before .before .before .before .before .before .before
+      .before .before .before .before .before .before .before .before .before .before .before .before
+      .before .before .before .before .before .before .before .before .before .before .before
+      .pre .0 .check .town .small .period-most,
 )
-
-ticks-less : tie.Need-ticks-less Inv-ticks μ-ticks Inv-places μ-places Inv-borders μ-borders
-ticks-less c = omega (arith, c .before .before .before .ticks-test .taken)
 
 ticks-again : tie.Need-ticks-again Inv-ticks μ-ticks Inv-places μ-places Inv-borders μ-borders
 ticks-again c = let i = c .before .before .before .before .ticks .inv in (
@@ -355,14 +347,14 @@ add-node-3 : tie.Need-add-node-3 Inv-ticks μ-ticks Inv-places μ-places Inv-bor
 add-node-3 c = omega (
   arith,
   c .before .ticks .inv .2,
-  c .before .before .before .before .before .before .before .before .before .before .before .before .before
-      .before .before .before .before .before .before .before .before .before .before .before .before .before
-      .before .before .before .places-test .taken,
-  c .before .before .before .before .before .before .before .before .before .before .before .before .before
-      .before .before .before .before .before .before .before .before .before .before .before .before .before
-      .before .before .before .before .before .before .before .before .before .before .before .before .before
-      .before .before .before .before .before .before .before .before .before .pre .0 .check .town .small
-      .nodes-most,
+  c .before .before .before .before .before .before .before .before .before .before .before .before
+      .before .before .before .before .before .before .before .before .before .before .before .before
+      .before .before .before .before .before .places-test .taken,
+  c .before .before .before .before .before .before .before .before .before .before .before .before
+      .before .before .before .before .before .before .before .before .before .before .before .before
+      .before .before .before .before .before .before .before .before .before .before .before .before
+      .before .before .before .before .before .before .before .before .before .before .before .before
+      .pre .0 .check .town .small .nodes-most,
 )
 
 places-less-3 : tie.Need-places-less-3 Inv-ticks μ-ticks Inv-places μ-places Inv-borders μ-borders
@@ -370,16 +362,17 @@ places-less-3 c = omega (
   arith,
   c .before .ticks .inv .2,
   c .before .before .before .before .before .before
-      .before .before .before .before .before .before .before .before .before .before .before .before .before
-      .before .before .before .before .before .before .before .before .before .before .places-test .taken,
+      .before .before .before .before .before .before .before .before .before .before .before .before
+      .before .before .before .before .before .before .before .before .before .before .before
+      .places-test .taken,
 )
 
 places-again-3 : tie.Need-places-again-3 Inv-ticks μ-ticks Inv-places μ-places Inv-borders μ-borders
 places-again-3 c = let t = c .before .before .before .before .before .before .before .before .before .before
-    .before .before .before .before .before .before .before .before .before .before .before .before .before
-    .before .before .before .before .before .before .before .before .before .before .before .before .before
-    .before .before .before .before .before .before .before .before .before .before .before .before .pre .0
-    .check .town in
+    .before .before .before .before .before .before .before .before .before .before .before .before
+    .before .before .before .before .before .before .before .before .before .before .before .before
+    .before .before .before .before .before .before .before .before .before .before .before .before
+    .before .before .pre .0 .check .town in
     let told = rw (
       c .before .before .before .before .before .before .before .before .before .before .before
           .before .before .before .before .before .before .before .before .before .before .before .before
@@ -387,8 +380,8 @@ places-again-3 c = let t = c .before .before .before .before .before .before .be
           .before .before .before .before .before .before .before .target-at .ensures .0,
       t .sizes .period,
     ) at (c
-    .before .before .before .before .before .before .before .before .before .before .before .before .before
-    .before .before .before .before .before .judge .ensures) in
+    .before .before .before .before .before .before .before .before .before .before .before .before
+    .before .before .before .before .before .before .judge .ensures) in
     absurd (some-tick (c .before .before .before .before .before .before .before .before .before .before
     .before .before .before .before .before .before .before .before .before .before .before .before
     .before .before .before .before .before .before .before .before .places .inv .2) (told .0) (c .before
@@ -432,27 +425,6 @@ borders-again c = let s = c .before .before .before .before .before .before .bef
       tally-more _ _ (λ a m. t .sound .arc a m .tail-node) (b .4) (rw e at (p .4)) (p .3) (b .3 .high),
     )
 
-same-length : tie.Need-same-length Inv-ticks μ-ticks Inv-places μ-places Inv-borders μ-borders
-same-length c = search needs
-
-same-length-2 : tie.Need-same-length-2 Inv-ticks μ-ticks Inv-places μ-places Inv-borders μ-borders
-same-length-2 c = search needs
-
-same-length-3 : tie.Need-same-length-3 Inv-ticks μ-ticks Inv-places μ-places Inv-borders μ-borders
-same-length-3 c = search needs
-
-same-length-4 : tie.Need-same-length-4 Inv-ticks μ-ticks Inv-places μ-places Inv-borders μ-borders
-same-length-4 c = search needs
-
-same-length-5 : tie.Need-same-length-5 Inv-ticks μ-ticks Inv-places μ-places Inv-borders μ-borders
-same-length-5 c = search needs
-
-same-length-6 : tie.Need-same-length-6 Inv-ticks μ-ticks Inv-places μ-places Inv-borders μ-borders
-same-length-6 c = search needs
-
-same-length-7 : tie.Need-same-length-7 Inv-ticks μ-ticks Inv-places μ-places Inv-borders μ-borders
-same-length-7 c = search needs
-
 returns : tie.Need-returns Inv-ticks μ-ticks Inv-places μ-places Inv-borders μ-borders
 returns c = let i = c .before .borders .inv in
     let e : c .before .borders .i ≡ c .before .before .before .before .before .before .before .before .before
@@ -464,8 +436,8 @@ same-length-8 c = omega (
   arith,
   c .before .before .before .places .inv .1 .own-s,
   c .before .before .before
-      .before .before .before .before .before .before .before .before .before .before .before .before .before
-      .before .before .before .before .before .pre .1 .1 .0 .own-s,
+      .before .before .before .before .before .before .before .before .before .before .before .before
+      .before .before .before .before .before .before .pre .1 .1 .0 .own-s,
 )
 
 same-length-9 : tie.Need-same-length-9 Inv-ticks μ-ticks Inv-places μ-places Inv-borders μ-borders
@@ -473,8 +445,8 @@ same-length-9 c = omega (
   arith,
   c .before .before .before .places .inv .1 .own-v,
   c .before .before .before
-      .before .before .before .before .before .before .before .before .before .before .before .before .before
-      .before .before .before .before .before .pre .1 .1 .0 .own-v,
+      .before .before .before .before .before .before .before .before .before .before .before .before
+      .before .before .before .before .before .before .pre .1 .1 .0 .own-v,
 )
 
 same-length-10 : tie.Need-same-length-10 Inv-ticks μ-ticks Inv-places μ-places Inv-borders μ-borders
@@ -482,8 +454,8 @@ same-length-10 c = omega (
   arith,
   c .before .before .before .places .inv .1 .arc-s,
   c .before .before .before
-      .before .before .before .before .before .before .before .before .before .before .before .before .before
-      .before .before .before .before .before .pre .1 .1 .0 .arc-s,
+      .before .before .before .before .before .before .before .before .before .before .before .before
+      .before .before .before .before .before .before .pre .1 .1 .0 .arc-s,
 )
 
 same-length-11 : tie.Need-same-length-11 Inv-ticks μ-ticks Inv-places μ-places Inv-borders μ-borders
@@ -491,8 +463,8 @@ same-length-11 c = omega (
   arith,
   c .before .before .before .places .inv .1 .arc-v,
   c .before .before .before
-      .before .before .before .before .before .before .before .before .before .before .before .before .before
-      .before .before .before .before .before .pre .1 .1 .0 .arc-v,
+      .before .before .before .before .before .before .before .before .before .before .before .before
+      .before .before .before .before .before .before .pre .1 .1 .0 .arc-v,
 )
 
 same-length-12 : tie.Need-same-length-12 Inv-ticks μ-ticks Inv-places μ-places Inv-borders μ-borders
@@ -500,8 +472,8 @@ same-length-12 c = omega (
   arith,
   c .before .before .before .places .inv .1 .head-s,
   c .before .before .before
-      .before .before .before .before .before .before .before .before .before .before .before .before .before
-      .before .before .before .before .before .pre .1 .1 .0 .head-s,
+      .before .before .before .before .before .before .before .before .before .before .before .before
+      .before .before .before .before .before .before .pre .1 .1 .0 .head-s,
 )
 
 same-length-13 : tie.Need-same-length-13 Inv-ticks μ-ticks Inv-places μ-places Inv-borders μ-borders
@@ -509,8 +481,8 @@ same-length-13 c = omega (
   arith,
   c .before .before .before .places .inv .1 .head-v,
   c .before .before .before
-      .before .before .before .before .before .before .before .before .before .before .before .before .before
-      .before .before .before .before .before .pre .1 .1 .0 .head-v,
+      .before .before .before .before .before .before .before .before .before .before .before .before
+      .before .before .before .before .before .before .pre .1 .1 .0 .head-v,
 )
 
 same-length-14 : tie.Need-same-length-14 Inv-ticks μ-ticks Inv-places μ-places Inv-borders μ-borders
@@ -518,8 +490,8 @@ same-length-14 c = omega (
   arith,
   c .before .before .before .places .inv .1 .bytes,
   c .before .before .before
-      .before .before .before .before .before .before .before .before .before .before .before .before .before
-      .before .before .before .before .before .pre .1 .1 .0 .bytes,
+      .before .before .before .before .before .before .before .before .before .before .before .before
+      .before .before .before .before .before .before .pre .1 .1 .0 .bytes,
 )
 
 returns-2 : tie.Need-returns-2 Inv-ticks μ-ticks Inv-places μ-places Inv-borders μ-borders
@@ -561,13 +533,13 @@ first-failing-spec =
     add-node
     places-less
     places-again
-    ticks-holds
+    (λ c. (search needs, refl, refl, none-yet _))
     fails-at-requires
     add-node-2
     places-less-2
     places-again-2
     add-tick
-    ticks-less
+    (λ c. omega (arith, c .before .before .before .ticks-test .taken))
     ticks-again
     add-node-3
     places-less-3
@@ -575,13 +547,13 @@ first-failing-spec =
     add-i
     borders-less
     borders-again
-    same-length
-    same-length-2
-    same-length-3
-    same-length-4
-    same-length-5
-    same-length-6
-    same-length-7
+    (λ c. search needs)
+    (λ c. search needs)
+    (λ c. search needs)
+    (λ c. search needs)
+    (λ c. search needs)
+    (λ c. search needs)
+    (λ c. search needs)
     returns
     same-length-8
     same-length-9

@@ -4,8 +4,7 @@ use mathlib.Core.Path.{_≡_, refl, _∙_}
 use Prim.Native.Nat.{_+_, _-_, _≤_, _<_}
 use native.Mathlib.Omega.{arith}
 use denote.Ref.{now}
-use lib.ListN.{length, length-set}
-use lib.Seq.{getD-set-same}
+use lib.{ListN.length, ListN.length-set, Seq.getD-set-same}
 use Rattle.theory_travel.specs.Table.{entryAt, entry-start}
 use Rattle.plan.specs.PlanDecode.{decodePlan, pointTick, pointTravel}
 use Rattle.day_runs.specs.Filling.{Space, Filling, space-on, filling-start, room-next, room-last}
@@ -78,18 +77,9 @@ travel-told c =
     travel-read (start (c .before .before .before) .pre .0) (inside (c .before .before .before))
     (stands (c .before .before)) (c .field322 .ensures)
 
-sub-last : tie.Need-sub-last Inv-loop μ-loop
-sub-last c = search needs
-
-point-at-requires : tie.Need-point-at-requires Inv-loop μ-loop
-point-at-requires c κs = let s = c .before .before .before in point-near (s .pre .0) (first s)
-
 field32-requires : tie.Need-field32-requires Inv-loop μ-loop
 field32-requires c κs = let s = c .before .before .before .before in
     travel-there (s .pre .0) (first s) (c .point-at .ensures)
-
-slice-write-starts : tie.Need-slice-write-starts Inv-loop μ-loop
-slice-write-starts c = search needs
 
 loop-holds : tie.Need-loop-holds Inv-loop μ-loop
 loop-holds c = let s = c .before .before .before .before .before in
@@ -107,9 +97,6 @@ loop-holds c = let s = c .before .before .before .before .before in
 
 next-requires : tie.Need-next-requires Inv-loop μ-loop
 next-requires c κs = point-may (start c .pre .0) _ (c .before .loop .k) (here c) (c .before .loop .inv .6)
-
-field16-requires : tie.Need-field16-requires Inv-loop μ-loop
-field16-requires c κs = tick-there (start (c .before) .pre .0) (inside (c .before)) (stands c)
 
 field32-requires-2 : tie.Need-field32-requires-2 Inv-loop μ-loop
 field32-requires-2 c κs =
@@ -129,9 +116,6 @@ extend-requires c κs = let d = c .before .before .before .before .before .befor
 add-k : tie.Need-add-k Inv-loop μ-loop
 add-k c = let d = c .before .before .before .before .before .before .before .before .before .before .before in
     omega (arith, d .loop-test .taken, start d .fits .count)
-
-loop-less : tie.Need-loop-less Inv-loop μ-loop
-loop-less c = search needs
 
 loop-again : tie.Need-loop-again Inv-loop μ-loop
 unfolding entryAt
@@ -170,9 +154,6 @@ same-length c = let d = c .before .before .before .before .before .before .befor
     c .before .before .before .before .finish .ensures .0 .long-s ∙ d .before .loop .inv .1
     ∙ length-set (d .before .before .before .before .before .before .before .args .starts .now) 0 0
 
-same-length-2 : tie.Need-same-length-2 Inv-loop μ-loop
-same-length-2 c = search needs
-
 returns : tie.Need-returns Inv-loop μ-loop
 returns c = let d = c .before .before .before .before .before .before .before .before in
     let s = d .before .before .before .before .before .before .before in
@@ -191,19 +172,19 @@ fill-points-spec =
     (tie.spec
     Inv-loop
     μ-loop
-    sub-last
-    point-at-requires
+    (λ c. search needs)
+    (λ c κs. let s = c .before .before .before in point-near (s .pre .0) (first s))
     field32-requires
-    slice-write-starts
+    (λ c. search needs)
     loop-holds
     next-requires
-    field16-requires
+    (λ c κs. tick-there (start (c .before) .pre .0) (inside (c .before)) (stands c))
     field32-requires-2
     extend-requires
     add-k
-    loop-less
+    (λ c. search needs)
     loop-again
     finish-requires
     same-length
-    same-length-2
+    (λ c. search needs)
     returns)

@@ -1,29 +1,9 @@
 -- `profile_runs::greatest_value` meets its contract: the points are read where the table says.
-use Rattle.plan_values.specs.Starts.{starting}
-use Rattle.plan_values.specs.Formed.{profile-in}
-use Rattle.plan_values.specs.Starts.{start-read}
+use Rattle.plan_values.specs.{Starts.starting, Formed.profile-in, Starts.start-read}
 use Rattle.profile_runs.specs.Numbers.{points-day, points-in, ceiling-number}
 use borrow.Author.Needs.{needs}
 use Rattle.profile_runs.proofs.greatest_value.Statement.{statement}
 use Rattle.profile_runs.proofs.greatest_value.Tie as tie
-
-mul-wide : tie.Need-mul-wide
-mul-wide c = search needs
-
-element-copy-out-wide : tie.Need-element-copy-out-wide
-element-copy-out-wide c = search needs
-
-wide-requires : tie.Need-wide-requires
-wide-requires c κs = search needs
-
-mul-point-count : tie.Need-mul-point-count
-mul-point-count c = search starting
-
-add-point-count : tie.Need-add-point-count
-add-point-count c = search starting
-
-point-count-requires : tie.Need-point-count-requires
-point-count-requires c κs = search (starting, needs)
 
 greatest-point-requires : tie.Need-greatest-point-requires
 greatest-point-requires c κs = let s = c .before .before .before .before .before in
@@ -48,11 +28,11 @@ pub greatest-value-spec : {M : Type 1} → statement M
 greatest-value-spec =
     tie.close
     (tie.spec
-    mul-wide
-    element-copy-out-wide
-    wide-requires
-    mul-point-count
-    add-point-count
-    point-count-requires
+    (λ c. search needs)
+    (λ c. search needs)
+    (λ c κs. search needs)
+    (λ c. search starting)
+    (λ c. search starting)
+    (λ c κs. search (starting, needs))
     greatest-point-requires
     returns)

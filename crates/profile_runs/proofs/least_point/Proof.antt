@@ -4,11 +4,10 @@ use mathlib.Core.Path.{_≡_}
 use Prim.Native.Nat.{_+_, _-_, _≤_, _<_}
 use native.Mathlib.Omega.{arith}
 use Rattle.theory_travel.specs.Table.{entryAt, entry-start}
-use Rattle.plan.specs.PlanDecode.{decodePlan}
+use Rattle.plan.specs.{PlanDecode.decodePlan, PlanWalk.travel-there, PlanWalk.travel-read}
 use Rattle.day_runs.specs.Bounds.{Least, least-one, least-more}
 use Rattle.file_blocks.specs.Walk.{walk-first}
 use Rattle.plan.specs.PlanWalk.{pointAt, point-may, point-on, point-near}
-use Rattle.plan.specs.PlanWalk.{travel-there, travel-read}
 use borrow.Author.Needs.{needs}
 use Rattle.profile_runs.proofs.least_point.Statement.{statement}
 use Rattle.profile_runs.proofs.least_point.Tie as tie
@@ -45,12 +44,6 @@ stands : (c : tie.After-next Inv-loop μ-loop)
 stands c = let d = c .before in
     point-on (start d .pre .0) _ (d .before .loop .k) (here d) (d .before .loop .inv .2) (c .next .ensures)
 
-sub-last : tie.Need-sub-last Inv-loop μ-loop
-sub-last c = search needs
-
-point-at-requires : tie.Need-point-at-requires Inv-loop μ-loop
-point-at-requires c κs = point-near (c .before .pre .0) (first (c .before))
-
 field32-requires : tie.Need-field32-requires Inv-loop μ-loop
 field32-requires c κs = let s = c .before .before in
     travel-there (s .pre .0) (first s) (c .point-at .ensures)
@@ -65,18 +58,6 @@ loop-holds c = let s = c .before .before .before in
 
 next-requires : tie.Need-next-requires Inv-loop μ-loop
 next-requires c κs = point-may (start c .pre .0) _ (c .before .loop .k) (here c) (c .before .loop .inv .2)
-
-field32-requires-2 : tie.Need-field32-requires-2 Inv-loop μ-loop
-field32-requires-2 c κs = travel-there (start (c .before) .pre .0) (inside (c .before)) (stands c)
-
-lesser-requires : tie.Need-lesser-requires Inv-loop μ-loop
-lesser-requires c κs = search needs
-
-add-k : tie.Need-add-k Inv-loop μ-loop
-add-k c = search needs
-
-loop-less : tie.Need-loop-less Inv-loop μ-loop
-loop-less c = search needs
 
 loop-again : tie.Need-loop-again Inv-loop μ-loop
 unfolding entryAt
@@ -99,14 +80,14 @@ least-point-spec =
     (tie.spec
     Inv-loop
     μ-loop
-    sub-last
-    point-at-requires
+    (λ c. search needs)
+    (λ c κs. point-near (c .before .pre .0) (first (c .before)))
     field32-requires
     loop-holds
     next-requires
-    field32-requires-2
-    lesser-requires
-    add-k
-    loop-less
+    (λ c κs. travel-there (start (c .before) .pre .0) (inside (c .before)) (stands c))
+    (λ c κs. search needs)
+    (λ c. search needs)
+    (λ c. search needs)
     loop-again
     returns)

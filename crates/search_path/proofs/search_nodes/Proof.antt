@@ -5,12 +5,6 @@ use borrow.Author.Needs.{needs}
 use Rattle.search_path.proofs.search_nodes.Statement.{statement}
 use Rattle.search_path.proofs.search_nodes.Tie as tie
 
-reach-requires : tie.Need-reach-requires
-reach-requires c κs = search needs
-
-cast-target : tie.Need-cast-target
-cast-target c = search needs
-
 tell-requires : tie.Need-tell-requires
 tell-requires c κs =
     let r = c .before .before .before .before .before .before in
@@ -24,12 +18,6 @@ trim-requires c κs =
     let s = r .before .before .before .before .before .before .before .pre in
     let n = s .1 .1 in
     tellable (s .0) (n .0) (n .1) (n .2) (r .reach .ensures .0) .inside
-
-same-length : tie.Need-same-length
-same-length c = search needs
-
-same-length-2 : tie.Need-same-length-2
-same-length-2 c = search needs
 
 returns : tie.Need-returns
 returns c =
@@ -45,10 +33,10 @@ pub search-nodes-spec : {M : Type 1} → statement M
 search-nodes-spec =
     tie.close
     (tie.spec
-    reach-requires
-    cast-target
+    (λ c κs. search needs)
+    (λ c. search needs)
     tell-requires
     trim-requires
-    same-length
-    same-length-2
+    (λ c. search needs)
+    (λ c. search needs)
     returns)

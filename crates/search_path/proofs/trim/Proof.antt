@@ -15,36 +15,6 @@ Inv-loop labels₀ target limit v₀ v-end labels v =
 abbrev μ-loop : tie.MeasureT-loop
 μ-loop labels₀ target limit v₀ v-end labels v = v-end - v
 
-mul-limit : tie.Need-mul-limit Inv-loop μ-loop
-mul-limit c = search needs
-
-slice-read-limit : tie.Need-slice-read-limit Inv-loop μ-loop
-slice-read-limit c = search needs
-
-loop-holds : tie.Need-loop-holds Inv-loop μ-loop
-loop-holds c = (search needs, search needs, search fills)
-
-mul-shown-label : tie.Need-mul-shown-label Inv-loop μ-loop
-mul-shown-label c = search needs
-
-slice-read-shown-label : tie.Need-slice-read-shown-label Inv-loop μ-loop
-slice-read-shown-label c = search needs
-
-shown-label-requires : tie.Need-shown-label-requires Inv-loop μ-loop
-shown-label-requires c κs = search needs
-
-mul-labels : tie.Need-mul-labels Inv-loop μ-loop
-mul-labels c = search needs
-
-slice-write-labels : tie.Need-slice-write-labels Inv-loop μ-loop
-slice-write-labels c = search needs
-
-add-v : tie.Need-add-v Inv-loop μ-loop
-add-v c = search needs
-
-loop-less : tie.Need-loop-less Inv-loop μ-loop
-loop-less c = search needs
-
 loop-again : tie.Need-loop-again Inv-loop μ-loop
 loop-again c =
     let k = c .before .before .before in
@@ -54,28 +24,22 @@ loop-again c =
       trim-more _ _ _ _ _ _ (k .loop .inv .2) (s .pre) (search needs) refl (c .shown-label .ensures),
     )
 
-same-length : tie.Need-same-length Inv-loop μ-loop
-same-length c = search needs
-
-returns : tie.Need-returns Inv-loop μ-loop
-returns c = search (fills, needs)
-
 pub trim-spec : {M : Type 1} → statement M
 trim-spec =
     tie.close
     (tie.spec
     Inv-loop
     μ-loop
-    mul-limit
-    slice-read-limit
-    loop-holds
-    mul-shown-label
-    slice-read-shown-label
-    shown-label-requires
-    mul-labels
-    slice-write-labels
-    add-v
-    loop-less
+    (λ c. search needs)
+    (λ c. search needs)
+    (λ c. (search needs, search needs, search fills))
+    (λ c. search needs)
+    (λ c. search needs)
+    (λ c κs. search needs)
+    (λ c. search needs)
+    (λ c. search needs)
+    (λ c. search needs)
+    (λ c. search needs)
     loop-again
-    same-length
-    returns)
+    (λ c. search needs)
+    (λ c. search (fills, needs)))

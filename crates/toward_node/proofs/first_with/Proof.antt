@@ -11,24 +11,6 @@ Inv-loop near nodes most v₀ v = (v ≤ nodes) × Unmet v most near
 abbrev μ-loop : tie.MeasureT-loop
 μ-loop near nodes most v₀ v = nodes - v
 
-loop-holds : tie.Need-loop-holds Inv-loop μ-loop
-loop-holds c = (search needs, search unmet-none)
-
-mul-if1 : tie.Need-mul-if1 Inv-loop μ-loop
-mul-if1 c = search needs
-
-element-copy-out-if1 : tie.Need-element-copy-out-if1 Inv-loop μ-loop
-element-copy-out-if1 c = search needs
-
-returns : tie.Need-returns Inv-loop μ-loop
-returns c = (c .before .before .loop-test .taken, c .if1 .taken)
-
-add-v : tie.Need-add-v Inv-loop μ-loop
-add-v c = search needs
-
-loop-less : tie.Need-loop-less Inv-loop μ-loop
-loop-less c = search needs
-
 loop-again : tie.Need-loop-again Inv-loop μ-loop
 loop-again c = (search needs, unmet-more _ _ _ (c .before .before .before .loop .inv .1) (c .if1 .left))
 
@@ -43,11 +25,11 @@ first-with-spec =
     (tie.spec
     Inv-loop
     μ-loop
-    loop-holds
-    mul-if1
-    element-copy-out-if1
-    returns
-    add-v
-    loop-less
+    (λ c. (search needs, search unmet-none))
+    (λ c. search needs)
+    (λ c. search needs)
+    (λ c. (c .before .before .loop-test .taken, c .if1 .taken))
+    (λ c. search needs)
+    (λ c. search needs)
     loop-again
     returns-2)

@@ -5,12 +5,6 @@ use borrow.Author.Needs.{needs}
 use Rattle.toward_node.proofs.least_travels.Statement.{statement}
 use Rattle.toward_node.proofs.least_travels.Tie as tie
 
-work-out-requires : tie.Need-work-out-requires
-work-out-requires c κs = search needs
-
-same-length : tie.Need-same-length
-same-length c = search needs
-
 returns : tie.Need-returns
 returns c =
     let s = c .before .before .before .before .before .before .before .before .before in
@@ -21,4 +15,4 @@ returns c =
     )
 
 pub least-travels-spec : {M : Type 1} → statement M
-least-travels-spec = tie.close (tie.spec work-out-requires same-length returns)
+least-travels-spec = tie.close (tie.spec (λ c κs. search needs) (λ c. search needs) returns)

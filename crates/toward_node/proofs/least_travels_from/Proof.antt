@@ -5,12 +5,6 @@ use borrow.Author.Needs.{needs}
 use Rattle.toward_node.proofs.least_travels_from.Statement.{statement}
 use Rattle.toward_node.proofs.least_travels_from.Tie as tie
 
-work-out-requires : tie.Need-work-out-requires
-work-out-requires c κs = search needs
-
-same-length : tie.Need-same-length
-same-length c = search needs
-
 returns : tie.Need-returns
 returns c =
     let s = c .before .before .before .before .before .before .before .before .before in
@@ -18,4 +12,4 @@ returns c =
     (c .before .before .work-out .ensures .0)
 
 pub least-travels-from-spec : {M : Type 1} → statement M
-least-travels-from-spec = tie.close (tie.spec work-out-requires same-length returns)
+least-travels-from-spec = tie.close (tie.spec (λ c κs. search needs) (λ c. search needs) returns)

@@ -2,21 +2,13 @@
 use mathlib.Core.Path.{refl, sym, _∙_}
 use Prim.Native.Nat.{_<_}
 use native.Mathlib.Omega.{arith}
-use borrow.Author.Tests.{leb-true, eqb-true, eqb-false}
+use borrow.Author.{Tests.leb-true, Tests.eqb-true, Tests.eqb-false, Needs.needs}
 use Rattle.search_chains.specs.Town.{tail-node, head-node}
-use Rattle.toward_list.specs.Heights.{held-capped, heights-known}
-use Rattle.toward_list.specs.Seen.{seen-size, seen-known}
+use Rattle.toward_list.specs.{Heights.held-capped, Heights.heights-known, Seen.seen-size, Seen.seen-known}
 use Rattle.toward_node.specs.Turn.{stepped-skip, tail-quiet, tail-lower, tail-numbers}
 use Rattle.toward_node.specs.Turn.{least-near, near-first}
-use borrow.Author.Needs.{needs}
 use Rattle.toward_node.proofs.lower_tail.Statement.{statement}
 use Rattle.toward_node.proofs.lower_tail.Tie as tie
-
-tail-requires : tie.Need-tail-requires
-tail-requires c κs = search needs
-
-mul-top : tie.Need-mul-top
-mul-top c = search needs
 
 element-copy-out-top : tie.Need-element-copy-out-top
 element-copy-out-top c =
@@ -26,15 +18,6 @@ element-copy-out-top c =
       tail-node (s .pre .0 .0 .town) _ _ (s .pre .1 .0) (c .tail .ensures .0),
       s .pre .0 .0 .town .small .nodes-most,
     )
-
-mul-is-idle : tie.Need-mul-is-idle
-mul-is-idle c = search needs
-
-element-copy-out-is-idle : tie.Need-element-copy-out-is-idle
-element-copy-out-is-idle c = search needs
-
-is-idle-requires : tie.Need-is-idle-requires
-is-idle-requires c κs = search needs
 
 returns : tie.Need-returns
 returns c =
@@ -62,9 +45,6 @@ lower-row-requires c κs =
       ),
     )
 
-same-length : tie.Need-same-length
-same-length c = search needs
-
 returns-2 : tie.Need-returns-2
 returns-2 c =
     let s = c .before .before .before .before .before .before .before .before .before .before .before
@@ -73,12 +53,6 @@ returns-2 c =
     .before .before .before .before .before .before .tail .ensures .0)
     (c .before .before .before .lower-row .ensures) (λ t. eqb-true _ _ t) (λ t. eqb-false _ _ t)
     (c .if2 .taken)
-
-mul-nearness-after : tie.Need-mul-nearness-after
-mul-nearness-after c = search needs
-
-element-copy-out-nearness-after : tie.Need-element-copy-out-nearness-after
-element-copy-out-nearness-after c = search needs
 
 nearness-after-requires : tie.Need-nearness-after-requires
 nearness-after-requires c κs =
@@ -101,9 +75,6 @@ nearness-after-requires c κs =
         tail-numbers p h o k e r,
       ),
     )
-
-mul-near : tie.Need-mul-near
-mul-near c = search needs
 
 element-write-near : tie.Need-element-write-near
 element-write-near c =
@@ -131,12 +102,6 @@ highest-requires c κs =
       ),
     )
 
-sub-room : tie.Need-sub-room
-sub-room c = search needs
-
-mul-room : tie.Need-mul-room
-mul-room c = search needs
-
 element-write-room : tie.Need-element-write-room
 element-write-room c =
     let s = c .before .before .before .before .before .before .before .before .before .before .before
@@ -147,9 +112,6 @@ element-write-room c =
           .before .before .before .before .before .before .before .before .tail .ensures .0),
       s .pre .0 .0 .town .small .nodes-most,
     )
-
-same-length-2 : tie.Need-same-length-2
-same-length-2 c = search needs
 
 returns-3 : tie.Need-returns-3
 returns-3 c =
@@ -167,24 +129,24 @@ pub lower-tail-spec : {M : Type 1} → statement M
 lower-tail-spec =
     tie.close
     (tie.spec
-    tail-requires
-    mul-top
+    (λ c κs. search needs)
+    (λ c. search needs)
     element-copy-out-top
-    mul-is-idle
-    element-copy-out-is-idle
-    is-idle-requires
+    (λ c. search needs)
+    (λ c. search needs)
+    (λ c κs. search needs)
     returns
     lower-row-requires
-    same-length
+    (λ c. search needs)
     returns-2
-    mul-nearness-after
-    element-copy-out-nearness-after
+    (λ c. search needs)
+    (λ c. search needs)
     nearness-after-requires
-    mul-near
+    (λ c. search needs)
     element-write-near
     highest-requires
-    sub-room
-    mul-room
+    (λ c. search needs)
+    (λ c. search needs)
     element-write-room
-    same-length-2
+    (λ c. search needs)
     returns-3)

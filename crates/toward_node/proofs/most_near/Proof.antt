@@ -11,24 +11,6 @@ Inv-loop near nodes most₀ v₀ most v = (v ≤ nodes) × Most v most near
 abbrev μ-loop : tie.MeasureT-loop
 μ-loop near nodes most₀ v₀ most v = nodes - v
 
-loop-holds : tie.Need-loop-holds Inv-loop μ-loop
-loop-holds c = (search needs, search most-none)
-
-mul-greater : tie.Need-mul-greater Inv-loop μ-loop
-mul-greater c = search needs
-
-element-copy-out-greater : tie.Need-element-copy-out-greater Inv-loop μ-loop
-element-copy-out-greater c = search needs
-
-greater-requires : tie.Need-greater-requires Inv-loop μ-loop
-greater-requires c κs = search needs
-
-add-v : tie.Need-add-v Inv-loop μ-loop
-add-v c = search needs
-
-loop-less : tie.Need-loop-less Inv-loop μ-loop
-loop-less c = search needs
-
 loop-again : tie.Need-loop-again Inv-loop μ-loop
 loop-again c =
     (search needs, most-more _ _ _ _ (c .before .before .before .loop .inv .1) (c .greater .ensures))
@@ -42,11 +24,11 @@ most-near-spec =
     (tie.spec
     Inv-loop
     μ-loop
-    loop-holds
-    mul-greater
-    element-copy-out-greater
-    greater-requires
-    add-v
-    loop-less
+    (λ c. (search needs, search most-none))
+    (λ c. search needs)
+    (λ c. search needs)
+    (λ c κs. search needs)
+    (λ c. search needs)
+    (λ c. search needs)
     loop-again
     returns)

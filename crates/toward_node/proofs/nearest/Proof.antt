@@ -5,15 +5,6 @@ use borrow.Author.Needs.{needs}
 use Rattle.toward_node.proofs.nearest.Statement.{statement}
 use Rattle.toward_node.proofs.nearest.Tie as tie
 
-most-near-requires : tie.Need-most-near-requires
-most-near-requires c κs = search needs
-
-returns : tie.Need-returns
-returns c = found-none _ _ _ _ (c .before .most-near .ensures) (c .if1 .taken)
-
-first-with-requires : tie.Need-first-with-requires
-first-with-requires c κs = search needs
-
 returns-2 : tie.Need-returns-2
 returns-2 c =
     found-most _ _ _ _ _ (c .first-with .ensures .0) (c .first-with .ensures .1) (omega (
@@ -23,4 +14,10 @@ returns-2 c =
     ))
 
 pub nearest-spec : {M : Type 1} → statement M
-nearest-spec = tie.close (tie.spec most-near-requires returns first-with-requires returns-2)
+nearest-spec =
+    tie.close
+    (tie.spec
+    (λ c κs. search needs)
+    (λ c. found-none _ _ _ _ (c .before .most-near .ensures) (c .if1 .taken))
+    (λ c κs. search needs)
+    returns-2)

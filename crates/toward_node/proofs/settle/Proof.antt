@@ -23,33 +23,6 @@ copy-row-requires c κs =
     let s = c .before .before .before .before in
     (s .pre .0 .0 .primed .town .small, (s .pre .1 .0, seen-size _ (s .pre .1 .1), s .pre .1 .4))
 
-mul-reach : tie.Need-mul-reach Inv-loop μ-loop
-mul-reach c = search needs
-
-element-copy-out-reach : tie.Need-element-copy-out-reach Inv-loop μ-loop
-element-copy-out-reach c = search needs
-
-mul-near : tie.Need-mul-near Inv-loop μ-loop
-mul-near c = search needs
-
-element-write-near : tie.Need-element-write-near Inv-loop μ-loop
-element-write-near c = search needs
-
-mul-low : tie.Need-mul-low Inv-loop μ-loop
-mul-low c = search needs
-
-element-write-low : tie.Need-element-write-low Inv-loop μ-loop
-element-write-low c = search needs
-
-mul-wide : tie.Need-mul-wide Inv-loop μ-loop
-mul-wide c = search needs
-
-element-copy-out-wide : tie.Need-element-copy-out-wide Inv-loop μ-loop
-element-copy-out-wide c = search needs
-
-wide-requires : tie.Need-wide-requires Inv-loop μ-loop
-wide-requires c κs = search needs
-
 loop-holds : tie.Need-loop-holds Inv-loop μ-loop
 loop-holds c =
     let s = c .before .before .before .before .before .before .before .before in
@@ -80,9 +53,6 @@ element-copy-out-wide-2 c =
           .before .before .before .before .before .before
           .before .pre .0 .0 .primed .town .small .arcs-most,
     )
-
-wide-requires-2 : tie.Need-wide-requires-2 Inv-loop μ-loop
-wide-requires-2 c κs = search needs
 
 loop-less : tie.Need-loop-less Inv-loop μ-loop
 loop-less c =
@@ -120,20 +90,20 @@ settle-spec =
     Inv-loop
     μ-loop
     copy-row-requires
-    mul-reach
-    element-copy-out-reach
-    mul-near
-    element-write-near
-    mul-low
-    element-write-low
-    mul-wide
-    element-copy-out-wide
-    wide-requires
+    (λ c. search needs)
+    (λ c. search needs)
+    (λ c. search needs)
+    (λ c. search needs)
+    (λ c. search needs)
+    (λ c. search needs)
+    (λ c. search needs)
+    (λ c. search needs)
+    (λ c κs. search needs)
     loop-holds
     lower-tail-requires
     mul-wide-2
     element-copy-out-wide-2
-    wide-requires-2
+    (λ c κs. search needs)
     loop-less
     loop-again
     same-length

@@ -19,21 +19,6 @@ abbrev μ-loop : tie.MeasureT-loop
 μ-loop file l starts into next least b goal work₀ hs₀ low₀ room₀ near₀ bar₀ v₀ work hs low room near bar v =
     left l (seen (l .period) room work) near
 
-fill-row-requires : tie.Need-fill-row-requires Inv-loop μ-loop
-fill-row-requires c κs = search needs
-
-mul-near : tie.Need-mul-near Inv-loop μ-loop
-mul-near c = search needs
-
-array-write-near : tie.Need-array-write-near Inv-loop μ-loop
-array-write-near c = search needs
-
-mul-room : tie.Need-mul-room Inv-loop μ-loop
-mul-room c = search needs
-
-element-write-room : tie.Need-element-write-room Inv-loop μ-loop
-element-write-room c = search needs
-
 bar-of-requires : tie.Need-bar-of-requires Inv-loop μ-loop
 bar-of-requires c κs = c .before .before .before .before .before .before .before .pre .0 .0 .primed .town
     .small .nodes-most
@@ -60,17 +45,15 @@ settle-requires c κs =
 
 bar-of-requires-2 : tie.Need-bar-of-requires-2 Inv-loop μ-loop
 bar-of-requires-2 c κs =
-    c .before .before .before .before .before .before .before .before .before .before .before .before .before
-    .before .before .before .before .before .before .before .pre .0 .0 .primed .town .small .nodes-most
+    c .before .before .before .before .before .before .before .before .before .before .before .before
+    .before .before .before .before .before .before .before .before
+    .pre .0 .0 .primed .town .small .nodes-most
 
 nearest-requires : tie.Need-nearest-requires Inv-loop μ-loop
 nearest-requires c κs =
-    c .before .before .before .before .before .before .before .before .before .before .before .before .before
-    .before .before .before .before .before .before .before .before .before .pre .0 .0 .primed .town .small
-    .nodes-most
-
-loop-less : tie.Need-loop-less Inv-loop μ-loop
-loop-less c = c .before .before .before .before .before .before .settle .ensures .0 .lighter
+    c .before .before .before .before .before .before .before .before .before .before .before .before
+    .before .before .before .before .before .before .before .before .before .before
+    .pre .0 .0 .primed .town .small .nodes-most
 
 loop-again : tie.Need-loop-again Inv-loop μ-loop
 loop-again c =
@@ -85,8 +68,8 @@ loop-again c =
 
 show-wanted-requires : tie.Need-show-wanted-requires Inv-loop μ-loop
 show-wanted-requires c κs = (
-  c .before .before .before .before .before .before .before .before .before .before .before .before .before
-      .pre .0 .0 .primed .town .small,
+  c .before .before .before .before .before .before .before .before .before .before .before .before
+      .before .pre .0 .0 .primed .town .small,
   seen-size _ (c .before .before .before .before .loop .inv .0 .heights),
 )
 
@@ -116,17 +99,17 @@ work-out-spec =
     (tie.spec
     Inv-loop
     μ-loop
-    fill-row-requires
-    mul-near
-    array-write-near
-    mul-room
-    element-write-room
+    (λ c κs. search needs)
+    (λ c. search needs)
+    (λ c. search needs)
+    (λ c. search needs)
+    (λ c. search needs)
     bar-of-requires
     loop-holds
     settle-requires
     bar-of-requires-2
     nearest-requires
-    loop-less
+    (λ c. c .before .before .before .before .before .before .settle .ensures .0 .lighter)
     loop-again
     show-wanted-requires
     same-length

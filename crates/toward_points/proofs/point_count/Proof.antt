@@ -11,16 +11,10 @@ use borrow.Author.Needs.{needs}
 use Rattle.toward_points.proofs.point_count.Statement.{statement}
 use Rattle.toward_points.proofs.point_count.Tie as tie
 
-sub-last : tie.Need-sub-last
-sub-last c = search needs
-
 returns : tie.Need-returns
 returns c =
     let row = now (c .before .before .args .row) in
     turned-one (entryOf row) (length row) (omega (arith, c .before .before .pre .some))
-
-points-between-requires : tie.Need-points-between-requires
-points-between-requires c κs = search needs
 
 add-result : tie.Need-add-result
 add-result c =
@@ -33,24 +27,6 @@ add-result c =
       count-few (turns (entryOf row) (length row)) (length row - 1),
       s .pre .few,
     )
-
-sub-turn : tie.Need-sub-turn
-sub-turn c = search needs
-
-mul-turn : tie.Need-mul-turn
-mul-turn c = search needs
-
-shared-slice-read-turn : tie.Need-shared-slice-read-turn
-shared-slice-read-turn c = search needs
-
-mul-turn-2 : tie.Need-mul-turn-2
-mul-turn-2 c = search needs
-
-shared-slice-read-turn-2 : tie.Need-shared-slice-read-turn-2
-shared-slice-read-turn-2 c = search needs
-
-shared-slice-read-turn-3 : tie.Need-shared-slice-read-turn-3
-shared-slice-read-turn-3 c = search needs
 
 turn-requires : tie.Need-turn-requires
 turn-requires c κs =
@@ -91,16 +67,16 @@ pub point-count-spec : {M : Type 1} → statement M
 point-count-spec =
     tie.close
     (tie.spec
-    sub-last
+    (λ c. search needs)
     returns
-    points-between-requires
+    (λ c κs. search needs)
     add-result
-    sub-turn
-    mul-turn
-    shared-slice-read-turn
-    mul-turn-2
-    shared-slice-read-turn-2
-    shared-slice-read-turn-3
+    (λ c. search needs)
+    (λ c. search needs)
+    (λ c. search needs)
+    (λ c. search needs)
+    (λ c. search needs)
+    (λ c. search needs)
     turn-requires
     add-result-2
     returns-2)

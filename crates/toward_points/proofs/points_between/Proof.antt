@@ -15,33 +15,6 @@ Inv-loop row a b seen₀ x₀ seen x =
 abbrev μ-loop : tie.MeasureT-loop
 μ-loop row a b seen₀ x₀ seen x = b - x
 
-loop-holds : tie.Need-loop-holds Inv-loop μ-loop
-loop-holds c = (search needs, search needs, search needs, omega arith)
-
-sub-turn : tie.Need-sub-turn Inv-loop μ-loop
-sub-turn c = search needs
-
-mul-turn : tie.Need-mul-turn Inv-loop μ-loop
-mul-turn c = search needs
-
-shared-slice-read-turn : tie.Need-shared-slice-read-turn Inv-loop μ-loop
-shared-slice-read-turn c = search needs
-
-mul-turn-2 : tie.Need-mul-turn-2 Inv-loop μ-loop
-mul-turn-2 c = search needs
-
-shared-slice-read-turn-2 : tie.Need-shared-slice-read-turn-2 Inv-loop μ-loop
-shared-slice-read-turn-2 c = search needs
-
-add-turn : tie.Need-add-turn Inv-loop μ-loop
-add-turn c = search needs
-
-mul-turn-3 : tie.Need-mul-turn-3 Inv-loop μ-loop
-mul-turn-3 c = search needs
-
-shared-slice-read-turn-3 : tie.Need-shared-slice-read-turn-3 Inv-loop μ-loop
-shared-slice-read-turn-3 c = search needs
-
 turn-requires : tie.Need-turn-requires Inv-loop μ-loop
 turn-requires c κs =
     let s = c .before .before .before .before .before .before in
@@ -55,12 +28,6 @@ add-seen c =
     let s = c .before .before .before .before .before .before .before in
     let at = c .before .before .before .before .before .loop in
     omega (arith, differ-few _ _ _ (c .turn .ensures), turned-few _ _ _ _ (at .inv .3), s .pre .0 .few)
-
-add-x : tie.Need-add-x Inv-loop μ-loop
-add-x c = search needs
-
-loop-less : tie.Need-loop-less Inv-loop μ-loop
-loop-less c = search needs
 
 loop-again : tie.Need-loop-again Inv-loop μ-loop
 loop-again c =
@@ -85,18 +52,18 @@ points-between-spec =
     (tie.spec
     Inv-loop
     μ-loop
-    loop-holds
-    sub-turn
-    mul-turn
-    shared-slice-read-turn
-    mul-turn-2
-    shared-slice-read-turn-2
-    add-turn
-    mul-turn-3
-    shared-slice-read-turn-3
+    (λ c. (search needs, search needs, search needs, omega arith))
+    (λ c. search needs)
+    (λ c. search needs)
+    (λ c. search needs)
+    (λ c. search needs)
+    (λ c. search needs)
+    (λ c. search needs)
+    (λ c. search needs)
+    (λ c. search needs)
     turn-requires
     add-seen
-    add-x
-    loop-less
+    (λ c. search needs)
+    (λ c. search needs)
     loop-again
     returns)

@@ -4,18 +4,6 @@ use borrow.Author.Needs.{needs}
 use Rattle.toward_row.proofs.lower_arc.Statement.{statement}
 use Rattle.toward_row.proofs.lower_arc.Tie as tie
 
-mul-wide : tie.Need-mul-wide
-mul-wide c = search needs
-
-element-copy-out-wide : tie.Need-element-copy-out-wide
-element-copy-out-wide c = search needs
-
-wide-requires : tie.Need-wide-requires
-wide-requires c κs = search needs
-
-count-requires : tie.Need-count-requires
-count-requires c κs = search needs
-
 lower-points-requires : tie.Need-lower-points-requires
 lower-points-requires c κs =
     let s = c .before .before .before .before .before .before .before in (
@@ -26,9 +14,6 @@ lower-points-requires c κs =
         (s .pre .1 .1, s .pre .1 .2, s .pre .1 .3),
       ),
     )
-
-same-length : tie.Need-same-length
-same-length c = search needs
 
 returns : tie.Need-returns
 returns c =
@@ -41,10 +26,10 @@ pub lower-arc-spec : {M : Type 1} → statement M
 lower-arc-spec =
     tie.close
     (tie.spec
-    mul-wide
-    element-copy-out-wide
-    wide-requires
-    count-requires
+    (λ c. search needs)
+    (λ c. search needs)
+    (λ c κs. search needs)
+    (λ c κs. search needs)
     lower-points-requires
-    same-length
+    (λ c. search needs)
     returns)

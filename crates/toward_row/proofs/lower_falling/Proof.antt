@@ -2,8 +2,7 @@
 use Prim.Native.Nat.{_+_, _-_, _≤_}
 use native.Mathlib.Omega.{arith}
 use Rattle.theory_travel.specs.Pieces.{lineAt}
-use Rattle.toward_row.specs.Cut.{Cut}
-use Rattle.toward_row.specs.Lower.{entries, lowered, known-on}
+use Rattle.toward_row.specs.{Cut.Cut, Lower.entries, Lower.lowered, Lower.known-on}
 use Rattle.toward_row.specs.Pieces.{FallingAt, fall-run, falls}
 use borrow.Author.Needs.{needs}
 use Rattle.toward_row.proofs.lower_falling.Statement.{statement}
@@ -17,35 +16,11 @@ Inv-loop first hs period row₀ a v b w fall step count₀ parts₀ x₀ j₀ ro
 abbrev μ-loop : tie.MeasureT-loop
 μ-loop first hs period row₀ a v b w fall step count₀ parts₀ x₀ j₀ row count parts x j = fall - j
 
-sub-fall : tie.Need-sub-fall Inv-loop μ-loop
-sub-fall c = search needs
-
-sub-step-down : tie.Need-sub-step-down Inv-loop μ-loop
-sub-step-down c = search needs
-
-cast-step-down : tie.Need-cast-step-down Inv-loop μ-loop
-cast-step-down c = search needs
-
-step-down-requires : tie.Need-step-down-requires Inv-loop μ-loop
-step-down-requires c κs = search needs
-
-loop-holds : tie.Need-loop-holds Inv-loop μ-loop
-loop-holds c = (search needs, search falls, search falls)
-
-add-parts : tie.Need-add-parts Inv-loop μ-loop
-add-parts c = search falls
-
-wholes-requires : tie.Need-wholes-requires Inv-loop μ-loop
-wholes-requires c κs = search needs
-
 add-e : tie.Need-add-e Inv-loop μ-loop
 add-e c =
     let a = c .before .before .before .before .before .before .args in
     let h : a .a + c .wholes .result ≤ a .b = search falls in
     omega arith
-
-sub-lower-span : tie.Need-sub-lower-span Inv-loop μ-loop
-sub-lower-span c = search needs
 
 lower-span-requires : tie.Need-lower-span-requires Inv-loop μ-loop
 lower-span-requires c κs =
@@ -74,12 +49,6 @@ add-count c =
       c .before .before .before .before .before .before .before .before .before .before .pre .0 .short,
     )
 
-add-j : tie.Need-add-j Inv-loop μ-loop
-add-j c = search needs
-
-loop-less : tie.Need-loop-less Inv-loop μ-loop
-loop-less c = search needs
-
 loop-again : tie.Need-loop-again Inv-loop μ-loop
 loop-again c =
     let s = c .before .before .before .before .before .before .before .before .before .before in
@@ -93,31 +62,25 @@ loop-again c =
           (c .before .before .lower-span .ensures),
     )
 
-same-length : tie.Need-same-length Inv-loop μ-loop
-same-length c = search needs
-
-returns : tie.Need-returns Inv-loop μ-loop
-returns c = search falls
-
 pub lower-falling-spec : {M : Type 1} → statement M
 lower-falling-spec =
     tie.close
     (tie.spec
     Inv-loop
     μ-loop
-    sub-fall
-    sub-step-down
-    cast-step-down
-    step-down-requires
-    loop-holds
-    add-parts
-    wholes-requires
+    (λ c. search needs)
+    (λ c. search needs)
+    (λ c. search needs)
+    (λ c κs. search needs)
+    (λ c. (search needs, search falls, search falls))
+    (λ c. search falls)
+    (λ c κs. search needs)
     add-e
-    sub-lower-span
+    (λ c. search needs)
     lower-span-requires
     add-count
-    add-j
-    loop-less
+    (λ c. search needs)
+    (λ c. search needs)
     loop-again
-    same-length
-    returns)
+    (λ c. search needs)
+    (λ c. search falls))

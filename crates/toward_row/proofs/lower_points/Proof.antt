@@ -8,8 +8,7 @@ use denote.Ref.{now}
 use Rattle.theory_travel.specs.Table.{entryAt, valueAt, entry-start}
 use Rattle.theory_travel.specs.Pieces.{tick-first, tick-rises, tick-below}
 use Rattle.network.specs.Decode.{decode}
-use Rattle.toward_row.specs.Cut.{Cut, cut-none}
-use Rattle.toward_row.specs.Lower.{entries, lowered, known-on}
+use Rattle.toward_row.specs.{Cut.Cut, Cut.cut-none, Lower.entries, Lower.lowered, Lower.known-on}
 use Rattle.toward_row.specs.Arcs.{Flat, flat-none, flat-more, flat-lowered, ready-next, ready-last}
 use Rattle.toward_row.specs.Arcs.{arc-next, arc-last}
 use borrow.Author.Needs.{needs}
@@ -27,12 +26,6 @@ Inv-loop first file l from count hs row₀ last begin fallen₀ flat₀ a₀ v�
 abbrev μ-loop : tie.MeasureT-loop
 μ-loop first file l from count hs row₀ last begin fallen₀ flat₀ a₀ v₀ k₀ row fallen flat a v k = last - k
 
-sub-last : tie.Need-sub-last Inv-loop μ-loop
-sub-last c = search needs
-
-travel-requires : tie.Need-travel-requires Inv-loop μ-loop
-travel-requires c κs = search needs
-
 loop-holds : tie.Need-loop-holds Inv-loop μ-loop
 unfolding entryAt
 loop-holds c =
@@ -43,30 +36,6 @@ loop-holds c =
       search flat-none,
       search cut-none,
     )
-
-add-tick : tie.Need-add-tick Inv-loop μ-loop
-add-tick c = search needs
-
-add-tick-2 : tie.Need-add-tick-2 Inv-loop μ-loop
-add-tick-2 c = search needs
-
-tick-requires : tie.Need-tick-requires Inv-loop μ-loop
-tick-requires c κs = search needs
-
-add-travel : tie.Need-add-travel Inv-loop μ-loop
-add-travel c = search needs
-
-add-travel-2 : tie.Need-add-travel-2 Inv-loop μ-loop
-add-travel-2 c = search needs
-
-travel-requires-2 : tie.Need-travel-requires-2 Inv-loop μ-loop
-travel-requires-2 c κs = search needs
-
-add-k : tie.Need-add-k Inv-loop μ-loop
-add-k c = search needs
-
-loop-less : tie.Need-loop-less Inv-loop μ-loop
-loop-less c = search needs
 
 loop-again : tie.Need-loop-again Inv-loop μ-loop
 unfolding entryAt
@@ -167,12 +136,6 @@ add-fallen-2 c =
       s .pre .1 .0 .short,
     )
 
-add-k-2 : tie.Need-add-k-2 Inv-loop μ-loop
-add-k-2 c = search needs
-
-loop-less-2 : tie.Need-loop-less-2 Inv-loop μ-loop
-loop-less-2 c = search needs
-
 loop-again-2 : tie.Need-loop-again-2 Inv-loop μ-loop
 unfolding entryAt
 loop-again-2 c =
@@ -270,9 +233,6 @@ add-result c =
       s .pre .1 .0 .short,
     )
 
-same-length : tie.Need-same-length Inv-loop μ-loop
-same-length c = search needs
-
 returns : tie.Need-returns Inv-loop μ-loop
 unfolding entryAt
 returns c =
@@ -297,28 +257,28 @@ lower-points-spec =
     (tie.spec
     Inv-loop
     μ-loop
-    sub-last
-    travel-requires
+    (λ c. search needs)
+    (λ c κs. search needs)
     loop-holds
-    add-tick
-    add-tick-2
-    tick-requires
-    add-travel
-    add-travel-2
-    travel-requires-2
-    add-k
-    loop-less
+    (λ c. search needs)
+    (λ c. search needs)
+    (λ c κs. search needs)
+    (λ c. search needs)
+    (λ c. search needs)
+    (λ c κs. search needs)
+    (λ c. search needs)
+    (λ c. search needs)
     loop-again
     lower-span-requires
     add-fallen
     lower-piece-requires
     add-fallen-2
-    add-k-2
-    loop-less-2
+    (λ c. search needs)
+    (λ c. search needs)
     loop-again-2
     lower-span-requires-2
     add-fallen-3
     lower-piece-requires-2
     add-result
-    same-length
+    (λ c. search needs)
     returns)

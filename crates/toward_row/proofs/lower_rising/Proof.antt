@@ -3,10 +3,9 @@
 use Prim.Native.Nat.{ℕ, _+_, _-_, _≤_, _<_}
 use native.Mathlib.Omega.{arith}
 use Rattle.theory_travel.specs.Pieces.{lineAt}
-use Rattle.toward_row.specs.Cut.{Cut, cut-none}
+use Rattle.toward_row.specs.{Cut.Cut, Cut.cut-none, Pieces.rise-rises}
 use Rattle.toward_row.specs.Lower.{entries, lowered, known-part, known-on}
 use Rattle.toward_row.specs.Pieces.{RisingAt, rise-start, rise-still, rise-fits, rise-within}
-use Rattle.toward_row.specs.Pieces.{rise-rises}
 use Rattle.toward_row.specs.Pieces.{rise-next, rise-run, rise-end}
 use borrow.Author.Needs.{needs}
 use Rattle.toward_row.proofs.lower_rising.Statement.{statement}
@@ -24,36 +23,12 @@ Inv-loop first hs period row₀ a v b w last step begun count₀ parts₀ x₀ j
 abbrev μ-loop : tie.MeasureT-loop
 μ-loop first hs period row₀ a v b w last step begun count₀ parts₀ x₀ j₀ row count parts x j = last - j
 
-sub-last : tie.Need-sub-last Inv-loop μ-loop
-sub-last c = search needs
-
-sub-last-2 : tie.Need-sub-last-2 Inv-loop μ-loop
-sub-last-2 c = search needs
-
-sub-step-up : tie.Need-sub-step-up Inv-loop μ-loop
-sub-step-up c = search needs
-
-cast-step-up : tie.Need-cast-step-up Inv-loop μ-loop
-cast-step-up c = search needs
-
-sub-step-up-2 : tie.Need-sub-step-up-2 Inv-loop μ-loop
-sub-step-up-2 c = search needs
-
-step-up-requires : tie.Need-step-up-requires Inv-loop μ-loop
-step-up-requires c κs = search needs
-
-add-lower-span : tie.Need-add-lower-span Inv-loop μ-loop
-add-lower-span c = search needs
-
 lower-span-requires : tie.Need-lower-span-requires Inv-loop μ-loop
 lower-span-requires c κs =
     let r = c .before .before .before .before .pre .0 in (
       (search needs, omega arith, search needs, search needs, search needs),
       (r .capped, known-part (r .known) (omega (arith, r .apart))),
     )
-
-add-x : tie.Need-add-x Inv-loop μ-loop
-add-x c = search needs
 
 loop-holds : tie.Need-loop-holds Inv-loop μ-loop
 loop-holds c = (
@@ -70,12 +45,6 @@ add-parts c =
     rise-fits (s .pre .0) (s .pre .1) (l .inv .1)
     (c .before .before .before .before .before .before .step-up .ensures) (c .loop-test .taken)
 
-add-e : tie.Need-add-e Inv-loop μ-loop
-add-e c = search needs
-
-wholes-requires : tie.Need-wholes-requires Inv-loop μ-loop
-wholes-requires c κs = search needs
-
 add-e-2 : tie.Need-add-e-2 Inv-loop μ-loop
 add-e-2 c =
     let s = c .before .before .before .before .before .before .before .before .before .before in
@@ -86,12 +55,6 @@ add-e-2 c =
           (c .before .before .before .before .before .before .before .step-up .ensures)
           (c .before .loop-test .taken) (c .wholes .ensures),
     )
-
-add-lower-span-2 : tie.Need-add-lower-span-2 Inv-loop μ-loop
-add-lower-span-2 c = search needs
-
-add-lower-span-3 : tie.Need-add-lower-span-3 Inv-loop μ-loop
-add-lower-span-3 c = search needs
 
 lower-span-requires-2 : tie.Need-lower-span-requires-2 Inv-loop μ-loop
 lower-span-requires-2 c κs =
@@ -129,12 +92,6 @@ add-count c =
       s .pre .0 .within,
       s .pre .0 .short,
     )
-
-add-j : tie.Need-add-j Inv-loop μ-loop
-add-j c = search needs
-
-loop-less : tie.Need-loop-less Inv-loop μ-loop
-loop-less c = shrinks _ _ (c .before .before .before .before .before .loop-test .taken)
 
 loop-again : tie.Need-loop-again Inv-loop μ-loop
 loop-again c =
@@ -202,9 +159,6 @@ add-result-2 c =
       s .pre .0 .short,
     )
 
-same-length : tie.Need-same-length Inv-loop μ-loop
-same-length c = search needs
-
 returns : tie.Need-returns Inv-loop μ-loop
 returns c =
     let s = c .before .before .before .before .before .before .before .before .before .before .before .before
@@ -222,29 +176,29 @@ lower-rising-spec =
     (tie.spec
     Inv-loop
     μ-loop
-    sub-last
-    sub-last-2
-    sub-step-up
-    cast-step-up
-    sub-step-up-2
-    step-up-requires
-    add-lower-span
+    (λ c. search needs)
+    (λ c. search needs)
+    (λ c. search needs)
+    (λ c. search needs)
+    (λ c. search needs)
+    (λ c κs. search needs)
+    (λ c. search needs)
     lower-span-requires
-    add-x
+    (λ c. search needs)
     loop-holds
     add-parts
-    add-e
-    wholes-requires
+    (λ c. search needs)
+    (λ c κs. search needs)
     add-e-2
-    add-lower-span-2
-    add-lower-span-3
+    (λ c. search needs)
+    (λ c. search needs)
     lower-span-requires-2
     add-count
-    add-j
-    loop-less
+    (λ c. search needs)
+    (λ c. shrinks _ _ (c .before .before .before .before .before .loop-test .taken))
     loop-again
     lower-span-requires-3
     add-result
     add-result-2
-    same-length
+    (λ c. search needs)
     returns)

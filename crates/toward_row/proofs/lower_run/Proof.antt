@@ -4,18 +4,6 @@ use borrow.Author.Needs.{needs}
 use Rattle.toward_row.proofs.lower_run.Statement.{statement}
 use Rattle.toward_row.proofs.lower_run.Tie as tie
 
-copy-run-requires : tie.Need-copy-run-requires
-copy-run-requires c κs = search needs
-
-sub-result : tie.Need-sub-result
-sub-result c = search needs
-
-cast-result : tie.Need-cast-result
-cast-result c = search needs
-
-same-length : tie.Need-same-length
-same-length c = search needs
-
 returns : tie.Need-returns
 returns c =
     run-copied _ _ _ _ _ (c .before .before .before .before .if1 .taken)
@@ -26,9 +14,6 @@ fold-run-requires c κs =
     let s = c .before .before .before .before in
     (s .pre .0, (s .pre .1 .0, s .pre .1 .1 .numbers (c .before .if1 .left)))
 
-same-length-2 : tie.Need-same-length-2
-same-length-2 c = search needs
-
 returns-2 : tie.Need-returns-2
 returns-2 c = rw (c .before .before .before .before .if1 .left) (c .before .before .fold-run .ensures)
 
@@ -36,11 +21,11 @@ pub lower-run-spec : {M : Type 1} → statement M
 lower-run-spec =
     tie.close
     (tie.spec
-    copy-run-requires
-    sub-result
-    cast-result
-    same-length
+    (λ c κs. search needs)
+    (λ c. search needs)
+    (λ c. search needs)
+    (λ c. search needs)
     returns
     fold-run-requires
-    same-length-2
+    (λ c. search needs)
     returns-2)

@@ -10,22 +10,10 @@ use borrow.Author.Needs.{needs}
 use Rattle.toward_start.proofs.is_start.Statement.{statement}
 use Rattle.toward_start.proofs.is_start.Tie as tie
 
-tail-requires : tie.Need-tail-requires
-tail-requires c κs = search needs
-
-head-requires : tie.Need-head-requires
-head-requires c κs = search needs
-
 row-place-requires : tie.Need-row-place-requires
 row-place-requires c κs =
     let s = c .before .before .before .before in
     (s .pre .0 .town .small, head-node (s .pre .0 .town) _ _ (s .pre .1 .0 .0) (c .head .ensures .0))
-
-mul-if1 : tie.Need-mul-if1
-mul-if1 c = search needs
-
-shared-slice-read-if1 : tie.Need-shared-slice-read-if1
-shared-slice-read-if1 c = search needs
 
 returns : tie.Need-returns
 returns c =
@@ -37,38 +25,19 @@ returns c =
       refl,
     )
 
-add-e : tie.Need-add-e
-add-e c = search needs
-
 raise-row-requires : tie.Need-raise-row-requires
 raise-row-requires c κs =
     let s = c .before .before .before .before .before .before .before .before .before in
     let e = c .before .before .before .before .before .before .tail .ensures .0 in (
       s .pre .0 .town .small,
       (
-        (
-          tail-node (s .pre .0 .town) _ _ (s .pre .1 .0 .0) e,
-          s .pre .1 .0 .2,
-          s .pre .1 .0 .3,
-        ),
+        (tail-node (s .pre .0 .town) _ _ (s .pre .1 .0 .0) e, s .pre .1 .0 .2, s .pre .1 .0 .3),
         tail-row (s .pre .0) (s .pre .1 .1) (s .pre .1 .0 .0) e (c .before .before .before .before .before
             .head .ensures .0)
             _ _ (c .before .before .before .before .row-place .ensures .0) refl (c .before .before .if1
             .left),
       ),
     )
-
-mul-lower-arc : tie.Need-mul-lower-arc
-mul-lower-arc c = search needs
-
-sub-lower-arc : tie.Need-sub-lower-arc
-sub-lower-arc c = search needs
-
-part-lower-arc-start : tie.Need-part-lower-arc-start
-part-lower-arc-start c = search needs
-
-part-lower-arc-end : tie.Need-part-lower-arc-end
-part-lower-arc-end c = search needs
 
 lower-arc-requires : tie.Need-lower-arc-requires
 lower-arc-requires c κs =
@@ -114,17 +83,17 @@ pub is-start-spec : {M : Type 1} → statement M
 is-start-spec =
     tie.close
     (tie.spec
-    tail-requires
-    head-requires
+    (λ c κs. search needs)
+    (λ c κs. search needs)
     row-place-requires
-    mul-if1
-    shared-slice-read-if1
+    (λ c. search needs)
+    (λ c. search needs)
     returns
-    add-e
+    (λ c. search needs)
     raise-row-requires
-    mul-lower-arc
-    sub-lower-arc
-    part-lower-arc-start
-    part-lower-arc-end
+    (λ c. search needs)
+    (λ c. search needs)
+    (λ c. search needs)
+    (λ c. search needs)
     lower-arc-requires
     returns-2)

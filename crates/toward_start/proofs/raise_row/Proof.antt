@@ -14,21 +14,6 @@ Inv-loop u work row₀ p x₀ x-end row x =
 abbrev μ-loop : tie.MeasureT-loop
 μ-loop u work row₀ p x₀ x-end row x = x-end - x
 
-row-place-requires : tie.Need-row-place-requires Inv-loop μ-loop
-row-place-requires c κs = search needs
-
-loop-holds : tie.Need-loop-holds Inv-loop μ-loop
-loop-holds c = (search needs, search fills)
-
-add-row : tie.Need-add-row Inv-loop μ-loop
-add-row c = search needs
-
-mul-row : tie.Need-mul-row Inv-loop μ-loop
-mul-row c = search needs
-
-shared-slice-read-row : tie.Need-shared-slice-read-row Inv-loop μ-loop
-shared-slice-read-row c = search needs
-
 add-row-2 : tie.Need-add-row-2 Inv-loop μ-loop
 add-row-2 c =
     let s = c .before .before .before .before .before in
@@ -38,21 +23,6 @@ add-row-2 c =
       known-at _ _ _ _ _ (s .pre .1 .1) (c .before .before .before .row-place .ensures .0)
           (c .before .loop-test .taken),
     )
-
-mul-row-2 : tie.Need-mul-row-2 Inv-loop μ-loop
-mul-row-2 c = search needs
-
-element-write-row : tie.Need-element-write-row Inv-loop μ-loop
-element-write-row c = search needs
-
-add-x : tie.Need-add-x Inv-loop μ-loop
-add-x c = search needs
-
-loop-less : tie.Need-loop-less Inv-loop μ-loop
-loop-less c = search needs
-
-loop-again : tie.Need-loop-again Inv-loop μ-loop
-loop-again c = (search needs, search (fills, raise-entry))
 
 returns : tie.Need-returns Inv-loop μ-loop
 returns c =
@@ -66,15 +36,15 @@ raise-row-spec =
     (tie.spec
     Inv-loop
     μ-loop
-    row-place-requires
-    loop-holds
-    add-row
-    mul-row
-    shared-slice-read-row
+    (λ c κs. search needs)
+    (λ c. (search needs, search fills))
+    (λ c. search needs)
+    (λ c. search needs)
+    (λ c. search needs)
     add-row-2
-    mul-row-2
-    element-write-row
-    add-x
-    loop-less
-    loop-again
+    (λ c. search needs)
+    (λ c. search needs)
+    (λ c. search needs)
+    (λ c. search needs)
+    (λ c. (search needs, search (fills, raise-entry)))
     returns)

@@ -3,15 +3,9 @@ use borrow.Author.Needs.{needs}
 use Rattle.travel_runs.proofs.step_down.Statement.{statement}
 use Rattle.travel_runs.proofs.step_down.Tie as tie
 
-mul-result : tie.Need-mul-result
-mul-result c = search needs
-
-div-result : tie.Need-div-result
-div-result c = search needs
-
 returns : tie.Need-returns
 unfolding stepDown
 returns c = search needs
 
 pub step-down-spec : {M : Type 1} → statement M
-step-down-spec = tie.close (tie.spec mul-result div-result returns)
+step-down-spec = tie.close (tie.spec (λ c. search needs) (λ c. search needs) returns)

@@ -6,18 +6,6 @@ use borrow.Author.Needs.{needs}
 use Rattle.arc_runs.proofs.brief.brief_of.Statement.{statement}
 use Rattle.arc_runs.proofs.brief.brief_of.Tie as tie
 
-mul-wide : tie.Need-mul-wide
-mul-wide c = search needs
-
-element-copy-out-wide : tie.Need-element-copy-out-wide
-element-copy-out-wide c = search needs
-
-wide-requires : tie.Need-wide-requires
-wide-requires c κs = search needs
-
-count-requires : tie.Need-count-requires
-count-requires c κs = search needs
-
 least-point-requires : tie.Need-least-point-requires
 least-point-requires c κs = let s = c .before .before .before .before in
     let from = c .before .wide .ensures .0 in
@@ -40,9 +28,6 @@ greatest-point-requires c κs = let s = c .before .before .before .before .befor
       ),
     )
 
-between-requires : tie.Need-between-requires
-between-requires c κs = search needs
-
 returns : tie.Need-returns
 returns c = let s = c .before .before .before .before .before .before .before in
     let from = c .before .before .before .before .wide .ensures .0 in
@@ -57,11 +42,11 @@ pub brief-of-spec : {M : Type 1} → statement M
 brief-of-spec =
     tie.close
     (tie.spec
-    mul-wide
-    element-copy-out-wide
-    wide-requires
-    count-requires
+    (λ c. search needs)
+    (λ c. search needs)
+    (λ c κs. search needs)
+    (λ c κs. search needs)
     least-point-requires
     greatest-point-requires
-    between-requires
+    (λ c κs. search needs)
     returns)

@@ -16,22 +16,10 @@ Inv-loop file l points briefs₀ arcs a₀ briefs a =
 abbrev μ-loop : tie.MeasureT-loop
 μ-loop file l points briefs₀ arcs a₀ briefs a = arcs - a
 
-loop-holds : tie.Need-loop-holds Inv-loop μ-loop
-loop-holds c = (search needs, refl, briefs-none _)
-
 brief-of-requires : tie.Need-brief-of-requires Inv-loop μ-loop
 brief-of-requires c κs = let s = c .before .before .before in
     let h : c .before .loop .a < s .args .l .arcs = omega (arith, c .loop-test .taken) in
     (s .pre .0, (h, s .pre .1 .0 .at _ h))
-
-element-write-briefs : tie.Need-element-write-briefs Inv-loop μ-loop
-element-write-briefs c = search needs
-
-add-a : tie.Need-add-a Inv-loop μ-loop
-add-a c = search needs
-
-loop-less : tie.Need-loop-less Inv-loop μ-loop
-loop-less c = search needs
 
 loop-again : tie.Need-loop-again Inv-loop μ-loop
 loop-again c = let s = c .before .before .before .before in
@@ -52,10 +40,10 @@ fill-briefs-spec =
     (tie.spec
     Inv-loop
     μ-loop
-    loop-holds
+    (λ c. (search needs, refl, briefs-none _))
     brief-of-requires
-    element-write-briefs
-    add-a
-    loop-less
+    (λ c. search needs)
+    (λ c. search needs)
+    (λ c. search needs)
     loop-again
     returns)

@@ -3,8 +3,7 @@ use Prim.Native.Nat.{ℕ, _+_, _≤_, _<_}
 use native.Mathlib.Omega.{arith}
 use lib.ListN.{length}
 use denote.Ref.{now}
-use Rattle.arc_runs.specs.Travels.{most-travel}
-use Rattle.arc_runs.specs.Brief.{steady-runs, steady-short}
+use Rattle.arc_runs.specs.{Travels.most-travel, Brief.steady-runs, Brief.steady-short}
 use borrow.Author.Needs.{needs}
 use Rattle.arc_runs.proofs.brief.fill_runs.Statement.{statement}
 use Rattle.arc_runs.proofs.brief.fill_runs.Tie as tie
@@ -21,30 +20,9 @@ fill-arc-requires c κs = let s = c .before .before .before .before .before .bef
     let k = s .pre .1 .1 .1 in
     (s .pre .0, (s .pre .1 .0, (k .0, k .1)))
 
-same-length : tie.Need-same-length
-same-length c = search needs
-
-same-length-2 : tie.Need-same-length-2
-same-length-2 c = search needs
-
-same-length-3 : tie.Need-same-length-3
-same-length-3 c = search needs
-
 returns : tie.Need-returns
 returns c = let e = c .before .before .before .before .before .before .fill-arc .ensures in
     (e .0, e .1, omega (arith, e .2), omega (arith, e .2))
-
-cast-put-steady : tie.Need-cast-put-steady
-cast-put-steady c = search needs
-
-put-steady-requires : tie.Need-put-steady-requires
-put-steady-requires c κs = search needs
-
-same-length-4 : tie.Need-same-length-4
-same-length-4 c = search needs
-
-same-length-5 : tie.Need-same-length-5
-same-length-5 c = search needs
 
 returns-2 : tie.Need-returns-2
 returns-2 c = let s = c .before .before .before .before .before .before .before .before .before .before
@@ -67,12 +45,12 @@ fill-runs-spec =
     tie.close
     (tie.spec
     fill-arc-requires
-    same-length
-    same-length-2
-    same-length-3
+    (λ c. search needs)
+    (λ c. search needs)
+    (λ c. search needs)
     returns
-    cast-put-steady
-    put-steady-requires
-    same-length-4
-    same-length-5
+    (λ c. search needs)
+    (λ c κs. search needs)
+    (λ c. search needs)
+    (λ c. search needs)
     returns-2)

@@ -1,10 +1,7 @@
 -- `c_replies::trip::write_roads` meets its contract.
 use native.Mathlib.Omega.{arith}
-use lib.ListN.{length}
-use Rattle.c_trip.specs.Writing.{roads-none, roads-next, roads-end}
-use Rattle.c_trip.specs.Reply.{roadBytes}
-use lib.Seq.{sets}
-use lib.ListN.{take}
+use lib.{ListN.length, Seq.sets, ListN.take}
+use Rattle.c_trip.specs.{Writing.roads-none, Writing.roads-next, Writing.roads-end, Reply.roadBytes}
 use Prim.Native.Nat.{_-_, _≤_}
 use mathlib.Core.Path.{_≡_}
 use borrow.Author.Needs.{needs}
@@ -18,30 +15,6 @@ Inv-loop roads count answer₀ i₀ answer i =
 abbrev μ-loop : tie.MeasureT-loop
 μ-loop roads count answer₀ i₀ answer i = count - i
 
-loop-holds : tie.Need-loop-holds Inv-loop μ-loop
-loop-holds c = (search needs, search roads-none, search needs)
-
-mul-put16 : tie.Need-mul-put16 Inv-loop μ-loop
-mul-put16 c = search needs
-
-add-put16 : tie.Need-add-put16 Inv-loop μ-loop
-add-put16 c = search needs
-
-mul-put16-2 : tie.Need-mul-put16-2 Inv-loop μ-loop
-mul-put16-2 c = search needs
-
-shared-slice-read-put16 : tie.Need-shared-slice-read-put16 Inv-loop μ-loop
-shared-slice-read-put16 c = search needs
-
-put16-requires : tie.Need-put16-requires Inv-loop μ-loop
-put16-requires c κs = search needs
-
-add-i : tie.Need-add-i Inv-loop μ-loop
-add-i c = search needs
-
-loop-less : tie.Need-loop-less Inv-loop μ-loop
-loop-less c = search needs
-
 loop-again : tie.Need-loop-again Inv-loop μ-loop
 loop-again c = (
   search needs,
@@ -51,26 +24,20 @@ loop-again c = (
   search needs,
 )
 
-same-length : tie.Need-same-length Inv-loop μ-loop
-same-length c = search needs
-
-returns : tie.Need-returns Inv-loop μ-loop
-returns c = search roads-end
-
 pub write-roads-spec : {M : Type 1} → statement M
 write-roads-spec =
     tie.close
     (tie.spec
     Inv-loop
     μ-loop
-    loop-holds
-    mul-put16
-    add-put16
-    mul-put16-2
-    shared-slice-read-put16
-    put16-requires
-    add-i
-    loop-less
+    (λ c. (search needs, search roads-none, search needs))
+    (λ c. search needs)
+    (λ c. search needs)
+    (λ c. search needs)
+    (λ c. search needs)
+    (λ c κs. search needs)
+    (λ c. search needs)
+    (λ c. search needs)
     loop-again
-    same-length
-    returns)
+    (λ c. search needs)
+    (λ c. search roads-end))

@@ -1,38 +1,19 @@
 -- `day_sheet::begin::ask_sheet` meets its contract.
 use Prim.Native.Nat.{_≤_}
-use native.Mathlib.Nat.{mul-le-mul}
-use native.Mathlib.Omega.{arith}
+use native.Mathlib.{Nat.mul-le-mul, Omega.arith}
 use Rattle.theory_loops.specs.Pick.{picks}
 use Rattle.day_arrivals.specs.Sheet.{sheetAsked}
 use borrow.Author.Needs.{needs}
 use Rattle.day_sheet.proofs.begin.ask_sheet.Statement.{statement}
 use Rattle.day_sheet.proofs.begin.ask_sheet.Tie as tie
 
-cast-if1 : tie.Need-cast-if1
-cast-if1 c = search needs
-
-refused-requires : tie.Need-refused-requires
-refused-requires c κs = search needs
-
 returns : tie.Need-returns
 unfolding sheetAsked
 returns c = search picks depth 8
 
-cast-if2 : tie.Need-cast-if2
-cast-if2 c = search needs
-
-refused-requires-2 : tie.Need-refused-requires-2
-refused-requires-2 c κs = search needs
-
 returns-2 : tie.Need-returns-2
 unfolding sheetAsked
 returns-2 c = search picks depth 8
-
-cast-if3 : tie.Need-cast-if3
-cast-if3 c = search needs
-
-cast-if3-2 : tie.Need-cast-if3-2
-cast-if3-2 c = search needs
 
 mul-if3 : tie.Need-mul-if3
 mul-if3 c =
@@ -41,18 +22,9 @@ mul-if3 c =
     let b : h .period ≤ 65535 = omega arith in
     omega (arith, mul-le-mul a b)
 
-refused-requires-3 : tie.Need-refused-requires-3
-refused-requires-3 c κs = search needs
-
 returns-3 : tie.Need-returns-3
 unfolding sheetAsked
 returns-3 c = search picks depth 8
-
-cast-if4 : tie.Need-cast-if4
-cast-if4 c = search needs
-
-refused-requires-4 : tie.Need-refused-requires-4
-refused-requires-4 c κs = search needs
 
 returns-4 : tie.Need-returns-4
 unfolding sheetAsked
@@ -66,18 +38,18 @@ pub ask-sheet-spec : {M : Type 1} → statement M
 ask-sheet-spec =
     tie.close
     (tie.spec
-    cast-if1
-    refused-requires
+    (λ c. search needs)
+    (λ c κs. search needs)
     returns
-    cast-if2
-    refused-requires-2
+    (λ c. search needs)
+    (λ c κs. search needs)
     returns-2
-    cast-if3
-    cast-if3-2
+    (λ c. search needs)
+    (λ c. search needs)
     mul-if3
-    refused-requires-3
+    (λ c κs. search needs)
     returns-3
-    cast-if4
-    refused-requires-4
+    (λ c. search needs)
+    (λ c κs. search needs)
     returns-4
     returns-5)

@@ -1,16 +1,12 @@
 -- `day_sheet::sheet::fill_sheet` meets its contract.
 use mathlib.Core.Path.{refl}
-use native.Mathlib.Nat.{mul-le-mul}
-use native.Mathlib.Omega.{arith}
+use native.Mathlib.{Nat.mul-le-mul, Omega.arith}
 use lib.ListN.{length-take}
 use Rattle.toward_list.specs.Work.{valid-town}
 use Rattle.day_arrivals.specs.Sheeting.{asked-laid, sheet-filled}
 use borrow.Author.Needs.{needs}
 use Rattle.day_sheet.proofs.sheet.fill_sheet.Statement.{statement}
 use Rattle.day_sheet.proofs.sheet.fill_sheet.Tie as tie
-
-layout-requires : tie.Need-layout-requires
-layout-requires c κs = search needs
 
 mul-size : tie.Need-mul-size
 mul-size c =
@@ -43,12 +39,6 @@ zero-requires c κs =
     .before .layout .ensures) .2 in
     omega (arith, room)
 
-same-length : tie.Need-same-length
-same-length c = search needs
-
-same-length-2 : tie.Need-same-length-2
-same-length-2 c = search needs
-
 returns : tie.Need-returns
 returns c =
     let s = c .before .before .before .before .before .before .before .before .before .before .before
@@ -64,12 +54,12 @@ pub fill-sheet-spec : {M : Type 1} → statement M
 fill-sheet-spec =
     tie.close
     (tie.spec
-    layout-requires
+    (λ c κs. search needs)
     mul-size
     slice-relend-prefix-list-day
     slice-aggregate-list-day
     list-day-requires
     zero-requires
-    same-length
-    same-length-2
+    (λ c. search needs)
+    (λ c. search needs)
     returns)

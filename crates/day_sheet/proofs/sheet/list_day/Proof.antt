@@ -6,24 +6,6 @@ use borrow.Author.Needs.{needs}
 use Rattle.day_sheet.proofs.sheet.list_day.Statement.{statement}
 use Rattle.day_sheet.proofs.sheet.list_day.Tie as tie
 
-travels-to-requires : tie.Need-travels-to-requires
-travels-to-requires c κs = search needs
-
-row-place-requires : tie.Need-row-place-requires
-row-place-requires c κs = search needs
-
-mul-if1 : tie.Need-mul-if1
-mul-if1 c = search needs
-
-slice-read-if1 : tie.Need-slice-read-if1
-slice-read-if1 c = search needs
-
-unlisted-requires : tie.Need-unlisted-requires
-unlisted-requires c κs = search needs
-
-same-length : tie.Need-same-length
-same-length c = search needs
-
 returns : tie.Need-returns
 returns c =
     let s = c .before .before .before .before .before .before .before .before .before .before .before in
@@ -42,15 +24,6 @@ put-arrivals-requires c κs =
       s .pre .1 .3,
     )
 
-cast-t13 : tie.Need-cast-t13
-cast-t13 c = search needs
-
-same-length-2 : tie.Need-same-length-2
-same-length-2 c = search needs
-
-same-length-3 : tie.Need-same-length-3
-same-length-3 c = search needs
-
 returns-2 : tie.Need-returns-2
 returns-2 c =
     let s = c .before .before .before .before .before .before .before .before .before .before .before
@@ -65,15 +38,15 @@ pub list-day-spec : {M : Type 1} → statement M
 list-day-spec =
     tie.close
     (tie.spec
-    travels-to-requires
-    row-place-requires
-    mul-if1
-    slice-read-if1
-    unlisted-requires
-    same-length
+    (λ c κs. search needs)
+    (λ c κs. search needs)
+    (λ c. search needs)
+    (λ c. search needs)
+    (λ c κs. search needs)
+    (λ c. search needs)
     returns
     put-arrivals-requires
-    cast-t13
-    same-length-2
-    same-length-3
+    (λ c. search needs)
+    (λ c. search needs)
+    (λ c. search needs)
     returns-2)

@@ -14,37 +14,10 @@ Inv-loop period p work list₀ t₀ list t = (t ≤ period) × Filled 0 t (arriv
 abbrev μ-loop : tie.MeasureT-loop
 μ-loop period p work list₀ t₀ list t = period - t
 
-loop-holds : tie.Need-loop-holds Inv-loop μ-loop
-loop-holds c = (search needs, search fills)
-
-cast-list : tie.Need-cast-list Inv-loop μ-loop
-cast-list c = search needs
-
-add-list : tie.Need-add-list Inv-loop μ-loop
-add-list c = search needs
-
-mul-list : tie.Need-mul-list Inv-loop μ-loop
-mul-list c = search needs
-
-shared-slice-read-list : tie.Need-shared-slice-read-list Inv-loop μ-loop
-shared-slice-read-list c = search needs
-
 add-list-2 : tie.Need-add-list-2 Inv-loop μ-loop
 add-list-2 c =
     let s = c .before .before .before in
     omega (arith, s .pre .0 .early (c .before .before .loop .t) (c .before .loop-test .taken))
-
-mul-list-2 : tie.Need-mul-list-2 Inv-loop μ-loop
-mul-list-2 c = search needs
-
-slice-write-list : tie.Need-slice-write-list Inv-loop μ-loop
-slice-write-list c = search needs
-
-add-t : tie.Need-add-t Inv-loop μ-loop
-add-t c = search needs
-
-loop-less : tie.Need-loop-less Inv-loop μ-loop
-loop-less c = search needs
 
 loop-again : tie.Need-loop-again Inv-loop μ-loop
 loop-again c =
@@ -53,28 +26,22 @@ loop-again c =
       fill-up _ _ 0 (at .t) _ (at .list) (at .inv .1) zero-le (omega arith) (row-entry _ _ (at .t) _ refl),
     )
 
-same-length : tie.Need-same-length Inv-loop μ-loop
-same-length c = search needs
-
-returns : tie.Need-returns Inv-loop μ-loop
-returns c = search fills
-
 pub put-arrivals-spec : {M : Type 1} → statement M
 put-arrivals-spec =
     tie.close
     (tie.spec
     Inv-loop
     μ-loop
-    loop-holds
-    cast-list
-    add-list
-    mul-list
-    shared-slice-read-list
+    (λ c. (search needs, search fills))
+    (λ c. search needs)
+    (λ c. search needs)
+    (λ c. search needs)
+    (λ c. search needs)
     add-list-2
-    mul-list-2
-    slice-write-list
-    add-t
-    loop-less
+    (λ c. search needs)
+    (λ c. search needs)
+    (λ c. search needs)
+    (λ c. search needs)
     loop-again
-    same-length
-    returns)
+    (λ c. search needs)
+    (λ c. search fills))

@@ -5,9 +5,6 @@ use borrow.Author.Needs.{needs}
 use Rattle.day_sheet.proofs.sheet.travels_to.Statement.{statement}
 use Rattle.day_sheet.proofs.sheet.travels_to.Tie as tie
 
-first-points-requires : tie.Need-first-points-requires
-first-points-requires c κs = search needs
-
 chain-requires : tie.Need-chain-requires
 chain-requires c κs =
     let s = c .before .before .before .before .before .before in
@@ -36,19 +33,13 @@ least-travels-from-requires c κs =
       (s .pre .1 .1, s .pre .1 .0, s .pre .1 .2, town .small .period-most),
     )
 
-same-length : tie.Need-same-length
-same-length c = search needs
-
-returns : tie.Need-returns
-returns c = search needs
-
 pub travels-to-spec : {M : Type 1} → statement M
 travels-to-spec =
     tie.close
     (tie.spec
-    first-points-requires
+    (λ c κs. search needs)
     chain-requires
     least-of-arcs-requires
     least-travels-from-requires
-    same-length
-    returns)
+    (λ c. search needs)
+    (λ c. search needs))

@@ -4,9 +4,8 @@ use Prim.Native.Nat.{_+_, _-_, _*_, _≤_}
 use native.Mathlib.Omega.{arith}
 use Rattle.travel_runs.specs.Fixed.{ceiled}
 use Rattle.theory_travel.specs.Pieces.{lineAt}
-use Rattle.day_slopes.specs.Held.{Held, held-room}
+use Rattle.day_slopes.specs.{Held.Held, Held.held-room, Falling.fall-end}
 use Rattle.day_slopes.specs.Falling.{fall-start, fall-fits, fall-below, fall-within, fall-more}
-use Rattle.day_slopes.specs.Falling.{fall-end}
 use borrow.Author.Needs.{needs}
 use Rattle.day_slopes.proofs.slopes.falling.Statement.{statement}
 use Rattle.day_slopes.proofs.slopes.falling.Tie as tie
@@ -18,24 +17,6 @@ Inv-loop starts₀ values₀ n a v b w fall last step parts₀ j₀ starts value
 
 abbrev μ-loop : tie.MeasureT-loop
 μ-loop starts₀ values₀ n a v b w fall last step parts₀ j₀ starts values parts j = last - j
-
-sub-fall : tie.Need-sub-fall Inv-loop μ-loop
-sub-fall c = search needs
-
-cast-fall : tie.Need-cast-fall Inv-loop μ-loop
-cast-fall c = search needs
-
-sub-last : tie.Need-sub-last Inv-loop μ-loop
-sub-last c = search needs
-
-sub-step-down : tie.Need-sub-step-down Inv-loop μ-loop
-sub-step-down c = search needs
-
-cast-step-down : tie.Need-cast-step-down Inv-loop μ-loop
-cast-step-down c = search needs
-
-step-down-requires : tie.Need-step-down-requires Inv-loop μ-loop
-step-down-requires c κs = search needs
 
 loop-holds : tie.Need-loop-holds Inv-loop μ-loop
 loop-holds c =
@@ -53,9 +34,6 @@ add-parts c =
     fall-fits (s .pre .0) _ _ _ (s .pre .1 .0) (s .pre .1 .1) (c .before .before .step-down .ensures) (l .j)
     _ (l .inv .1) (omega (arith, c .loop-test .taken))
 
-wholes-requires : tie.Need-wholes-requires Inv-loop μ-loop
-wholes-requires c κs = search needs
-
 add-e : tie.Need-add-e Inv-loop μ-loop
 add-e c =
     let s = c .before .before .before .before .before .before in
@@ -67,15 +45,6 @@ add-e c =
           (c .before .before .before .step-down .ensures) (l .j + 1) _ _ (omega (arith, l .inv .1))
           (omega (arith, c .before .loop-test .taken)) (c .wholes .ensures),
     )
-
-add-put : tie.Need-add-put Inv-loop μ-loop
-add-put c = search needs
-
-cast-put : tie.Need-cast-put Inv-loop μ-loop
-cast-put c = search needs
-
-sub-put : tie.Need-sub-put Inv-loop μ-loop
-sub-put c = search needs
 
 put-requires : tie.Need-put-requires Inv-loop μ-loop
 put-requires c κs =
@@ -98,16 +67,11 @@ put-requires c κs =
       ),
     )
 
-add-j : tie.Need-add-j Inv-loop μ-loop
-add-j c = search needs
-
-loop-less : tie.Need-loop-less Inv-loop μ-loop
-loop-less c = search needs
-
 loop-again : tie.Need-loop-again Inv-loop μ-loop
 loop-again c =
     let s =
-    c .before .before .before .before .before .before .before .before .before .before .before .before .before
+    c .before .before .before .before .before .before .before .before .before .before .before .before
+    .before
     in
     let l = c .before .before .before .before .before .before .before .before .before .loop in (
       search needs,
@@ -122,12 +86,6 @@ loop-again c =
           (c .before .before .before .before .put .ensures .1),
     )
 
-add-put-2 : tie.Need-add-put-2 Inv-loop μ-loop
-add-put-2 c = search needs
-
-add-put-3 : tie.Need-add-put-3 Inv-loop μ-loop
-add-put-3 c = search needs
-
 put-requires-2 : tie.Need-put-requires-2 Inv-loop μ-loop
 put-requires-2 c κs =
     let s = c .before .before .before .before .before .before .before in
@@ -138,15 +96,6 @@ put-requires-2 c κs =
     (fall-below (s .pre .0) _ _ _ (s .pre .1 .0) (s .pre .1 .1)
     (c .before .before .before .before .step-down .ensures) (l .j) (omega (arith, l .inv .0))) in
     (omega (arith, r .0, t), omega (arith, r .1, t), s .pre .0 .last)
-
-add-result : tie.Need-add-result Inv-loop μ-loop
-add-result c = search needs
-
-same-length : tie.Need-same-length Inv-loop μ-loop
-same-length c = search needs
-
-same-length-2 : tie.Need-same-length-2 Inv-loop μ-loop
-same-length-2 c = search needs
 
 returns : tie.Need-returns Inv-loop μ-loop
 returns c =
@@ -166,27 +115,27 @@ falling-spec =
     (tie.spec
     Inv-loop
     μ-loop
-    sub-fall
-    cast-fall
-    sub-last
-    sub-step-down
-    cast-step-down
-    step-down-requires
+    (λ c. search needs)
+    (λ c. search needs)
+    (λ c. search needs)
+    (λ c. search needs)
+    (λ c. search needs)
+    (λ c κs. search needs)
     loop-holds
     add-parts
-    wholes-requires
+    (λ c κs. search needs)
     add-e
-    add-put
-    cast-put
-    sub-put
+    (λ c. search needs)
+    (λ c. search needs)
+    (λ c. search needs)
     put-requires
-    add-j
-    loop-less
+    (λ c. search needs)
+    (λ c. search needs)
     loop-again
-    add-put-2
-    add-put-3
+    (λ c. search needs)
+    (λ c. search needs)
     put-requires-2
-    add-result
-    same-length
-    same-length-2
+    (λ c. search needs)
+    (λ c. search needs)
+    (λ c. search needs)
     returns)

@@ -3,9 +3,8 @@ use mathlib.Core.Path.{_≡_}
 use Prim.Native.Nat.{_+_, _-_, _*_, _≤_}
 use native.Mathlib.Omega.{arith}
 use Rattle.theory_travel.specs.Pieces.{lineAt}
-use Rattle.day_slopes.specs.Held.{Held, held-room}
+use Rattle.day_slopes.specs.{Held.Held, Held.held-room, Rising.rise-end}
 use Rattle.day_slopes.specs.Rising.{risen, rise-start, rise-fits, rise-below, rise-within, rise-more}
-use Rattle.day_slopes.specs.Rising.{rise-end}
 use borrow.Author.Needs.{needs}
 use Rattle.day_slopes.proofs.slopes.rising.Statement.{statement}
 use Rattle.day_slopes.proofs.slopes.rising.Tie as tie
@@ -18,21 +17,6 @@ Inv-loop starts₀ values₀ n a v b w rise step parts₀ j₀ starts values par
 abbrev μ-loop : tie.MeasureT-loop
 μ-loop starts₀ values₀ n a v b w rise step parts₀ j₀ starts values parts j = rise - j
 
-sub-rise : tie.Need-sub-rise Inv-loop μ-loop
-sub-rise c = search needs
-
-cast-rise : tie.Need-cast-rise Inv-loop μ-loop
-cast-rise c = search needs
-
-sub-step-up : tie.Need-sub-step-up Inv-loop μ-loop
-sub-step-up c = search needs
-
-cast-step-up : tie.Need-cast-step-up Inv-loop μ-loop
-cast-step-up c = search needs
-
-step-up-requires : tie.Need-step-up-requires Inv-loop μ-loop
-step-up-requires c κs = search needs
-
 loop-holds : tie.Need-loop-holds Inv-loop μ-loop
 loop-holds c =
     let s = c .before .before .before in (
@@ -41,12 +25,6 @@ loop-holds c =
       rise-start (s .pre .0) _ _ _ (s .pre .1 .0) (s .pre .1 .1)
           (c .step-up .ensures),
     )
-
-add-e : tie.Need-add-e Inv-loop μ-loop
-add-e c = search needs
-
-wholes-requires : tie.Need-wholes-requires Inv-loop μ-loop
-wholes-requires c κs = search needs
 
 add-e-2 : tie.Need-add-e-2 Inv-loop μ-loop
 add-e-2 c =
@@ -59,15 +37,6 @@ add-e-2 c =
           (c .before .before .before .step-up .ensures) (l .j) _ _ (l .inv .1) (c .before .loop-test .taken)
           (c .wholes .ensures),
     )
-
-add-put : tie.Need-add-put Inv-loop μ-loop
-add-put c = search needs
-
-cast-put : tie.Need-cast-put Inv-loop μ-loop
-cast-put c = search needs
-
-add-put-2 : tie.Need-add-put-2 Inv-loop μ-loop
-add-put-2 c = search needs
 
 put-requires : tie.Need-put-requires Inv-loop μ-loop
 put-requires c κs =
@@ -92,23 +61,19 @@ put-requires c κs =
 add-parts : tie.Need-add-parts Inv-loop μ-loop
 add-parts c =
     let s =
-    c .before .before .before .before .before .before .before .before .before .before .before .before .before
+    c .before .before .before .before .before .before .before .before .before .before .before .before
+    .before
     in
     let l = c .before .before .before .before .before .before .before .before .before .loop in
     rise-fits (s .pre .0) _ _ _ (s .pre .1 .0) (s .pre .1 .1)
     (c .before .before .before .before .before .before .before .before .before .before .step-up .ensures)
     (l .j) _ (l .inv .1) (c .before .before .before .before .before .before .before .before .loop-test .taken)
 
-add-j : tie.Need-add-j Inv-loop μ-loop
-add-j c = search needs
-
-loop-less : tie.Need-loop-less Inv-loop μ-loop
-loop-less c = search needs
-
 loop-again : tie.Need-loop-again Inv-loop μ-loop
 loop-again c =
     let s =
-    c .before .before .before .before .before .before .before .before .before .before .before .before .before
+    c .before .before .before .before .before .before .before .before .before .before .before .before
+    .before
     in
     let l = c .before .before .before .before .before .before .before .before .before .loop in (
       search needs,
@@ -121,15 +86,6 @@ loop-again c =
           (c .before .before .before .before .put .ensures .0)
           (c .before .before .before .before .put .ensures .1),
     )
-
-add-result : tie.Need-add-result Inv-loop μ-loop
-add-result c = search needs
-
-same-length : tie.Need-same-length Inv-loop μ-loop
-same-length c = search needs
-
-same-length-2 : tie.Need-same-length-2 Inv-loop μ-loop
-same-length-2 c = search needs
 
 returns : tie.Need-returns Inv-loop μ-loop
 returns c =
@@ -144,24 +100,24 @@ rising-spec =
     (tie.spec
     Inv-loop
     μ-loop
-    sub-rise
-    cast-rise
-    sub-step-up
-    cast-step-up
-    step-up-requires
+    (λ c. search needs)
+    (λ c. search needs)
+    (λ c. search needs)
+    (λ c. search needs)
+    (λ c κs. search needs)
     loop-holds
-    add-e
-    wholes-requires
+    (λ c. search needs)
+    (λ c κs. search needs)
     add-e-2
-    add-put
-    cast-put
-    add-put-2
+    (λ c. search needs)
+    (λ c. search needs)
+    (λ c. search needs)
     put-requires
     add-parts
-    add-j
-    loop-less
+    (λ c. search needs)
+    (λ c. search needs)
     loop-again
-    add-result
-    same-length
-    same-length-2
+    (λ c. search needs)
+    (λ c. search needs)
+    (λ c. search needs)
     returns)

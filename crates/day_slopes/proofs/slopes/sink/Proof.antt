@@ -1,8 +1,7 @@
 -- `day_runs::slopes::sink` meets its contract.
-use native.Mathlib.Nat.{le-of-lt}
+use native.Mathlib.{Nat.le-of-lt, Omega.arith}
 use mathlib.Core.Path.{_≡_, refl}
 use Prim.Native.Nat.{_+_, _-_, _*_, _≤_, _<_}
-use native.Mathlib.Omega.{arith}
 use Rattle.theory_travel.specs.Pieces.{lineAt}
 use Rattle.day_slopes.specs.Walk.{sink-may, sinking, sink-next, sink-fits, sink-entry, walks}
 use Rattle.day_slopes.specs.Held.{Held, held-room}
@@ -19,24 +18,6 @@ Inv-loop starts₀ values₀ n a v b w start step last parts₀ x₀ starts valu
 abbrev μ-loop : tie.MeasureT-loop
 μ-loop starts₀ values₀ n a v b w start step last parts₀ x₀ starts values parts x = last - x
 
-mul-start : tie.Need-mul-start Inv-loop μ-loop
-mul-start c = search needs
-
-add-start : tie.Need-add-start Inv-loop μ-loop
-add-start c = search needs
-
-sub-step-up : tie.Need-sub-step-up Inv-loop μ-loop
-sub-step-up c = search needs
-
-sub-step-up-2 : tie.Need-sub-step-up-2 Inv-loop μ-loop
-sub-step-up-2 c = search needs
-
-step-up-requires : tie.Need-step-up-requires Inv-loop μ-loop
-step-up-requires c κs = search needs
-
-sub-last : tie.Need-sub-last Inv-loop μ-loop
-sub-last c = search needs
-
 loop-holds : tie.Need-loop-holds Inv-loop μ-loop
 loop-holds c =
     let s = c .before .before .before in (
@@ -45,18 +26,6 @@ loop-holds c =
       search walks,
       steep-start (s .pre .0) _ _ (s .args .v * 4294967296 + 4294967295) 0 refl,
     )
-
-sub-put : tie.Need-sub-put Inv-loop μ-loop
-sub-put c = search needs
-
-add-put : tie.Need-add-put Inv-loop μ-loop
-add-put c = search needs
-
-add-put-2 : tie.Need-add-put-2 Inv-loop μ-loop
-add-put-2 c = search needs
-
-whole-value-requires : tie.Need-whole-value-requires Inv-loop μ-loop
-whole-value-requires c κs = search needs
 
 put-requires : tie.Need-put-requires Inv-loop μ-loop
 put-requires c κs =
@@ -69,7 +38,8 @@ put-requires c κs =
 sub-parts : tie.Need-sub-parts Inv-loop μ-loop
 sub-parts c =
     let s =
-    c .before .before .before .before .before .before .before .before .before .before .before .before .before
+    c .before .before .before .before .before .before .before .before .before .before .before .before
+    .before
     in
     let l = c .before .before .before .before .before .before .before .before .before .loop in
     let t = c .before .before .before .before .before .before .before .before .loop-test .taken in
@@ -80,16 +50,11 @@ sub-parts c =
     (omega arith) (omega arith) in
     sink-fits _ _ (s .args .a) _ (l .x) (s .args .b) (l .inv .0) (omega (arith, t)) m (l .inv .2)
 
-add-x : tie.Need-add-x Inv-loop μ-loop
-add-x c = search needs
-
-loop-less : tie.Need-loop-less Inv-loop μ-loop
-loop-less c = search needs
-
 loop-again : tie.Need-loop-again Inv-loop μ-loop
 loop-again c =
     let s =
-    c .before .before .before .before .before .before .before .before .before .before .before .before .before
+    c .before .before .before .before .before .before .before .before .before .before .before .before
+    .before
     in
     let l = c .before .before .before .before .before .before .before .before .before .loop in
     let t = c .before .before .before .before .before .before .before .before .loop-test .taken in
@@ -111,15 +76,6 @@ loop-again c =
           (c .before .before .before .before .put .ensures .1),
     )
 
-sub-put-2 : tie.Need-sub-put-2 Inv-loop μ-loop
-sub-put-2 c = search needs
-
-add-put-3 : tie.Need-add-put-3 Inv-loop μ-loop
-add-put-3 c = search needs
-
-whole-value-requires-2 : tie.Need-whole-value-requires-2 Inv-loop μ-loop
-whole-value-requires-2 c κs = search needs
-
 put-requires-2 : tie.Need-put-requires-2 Inv-loop μ-loop
 put-requires-2 c κs =
     let s = c .before .before .before .before .before .before .before .before in
@@ -129,22 +85,11 @@ put-requires-2 c κs =
     let r = held-room (s .pre .0) (l .inv .3) (omega (arith, s .pre .0 .apart)) in
     (omega (arith, r .0, t), omega (arith, r .1, t), s .pre .0 .last)
 
-sub-result : tie.Need-sub-result Inv-loop μ-loop
-sub-result c = search needs
-
-add-result : tie.Need-add-result Inv-loop μ-loop
-add-result c = search needs
-
-same-length : tie.Need-same-length Inv-loop μ-loop
-same-length c = search needs
-
-same-length-2 : tie.Need-same-length-2 Inv-loop μ-loop
-same-length-2 c = search needs
-
 returns : tie.Need-returns Inv-loop μ-loop
 returns c =
     let s =
-    c .before .before .before .before .before .before .before .before .before .before .before .before .before
+    c .before .before .before .before .before .before .before .before .before .before .before .before
+    .before
     in
     let l = c .before .before .before .before .before .before .before .before .before .loop in
     let t = c .before .before .before .before .before .before .before .before .loop-test .left in
@@ -165,28 +110,28 @@ sink-spec =
     (tie.spec
     Inv-loop
     μ-loop
-    mul-start
-    add-start
-    sub-step-up
-    sub-step-up-2
-    step-up-requires
-    sub-last
+    (λ c. search needs)
+    (λ c. search needs)
+    (λ c. search needs)
+    (λ c. search needs)
+    (λ c κs. search needs)
+    (λ c. search needs)
     loop-holds
-    sub-put
-    add-put
-    add-put-2
-    whole-value-requires
+    (λ c. search needs)
+    (λ c. search needs)
+    (λ c. search needs)
+    (λ c κs. search needs)
     put-requires
     sub-parts
-    add-x
-    loop-less
+    (λ c. search needs)
+    (λ c. search needs)
     loop-again
-    sub-put-2
-    add-put-3
-    whole-value-requires-2
+    (λ c. search needs)
+    (λ c. search needs)
+    (λ c κs. search needs)
     put-requires-2
-    sub-result
-    add-result
-    same-length
-    same-length-2
+    (λ c. search needs)
+    (λ c. search needs)
+    (λ c. search needs)
+    (λ c. search needs)
     returns)

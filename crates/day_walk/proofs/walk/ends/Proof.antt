@@ -6,9 +6,6 @@ use borrow.Author.Needs.{needs}
 use Rattle.day_walk.proofs.walk.ends.Statement.{statement}
 use Rattle.day_walk.proofs.walk.ends.Tie as tie
 
-add-e : tie.Need-add-e
-add-e c = search needs
-
 returns : tie.Need-returns
 returns c = (
   turned _ _ (c .before .args .period) _ (omega arith) (omega arith) (λ _. refl)
@@ -24,4 +21,4 @@ returns-2 c = (
 )
 
 pub ends-spec : {M : Type 1} → statement M
-ends-spec = tie.close (tie.spec add-e returns returns-2)
+ends-spec = tie.close (tie.spec (λ c. search needs) returns returns-2)

@@ -6,15 +6,6 @@ use borrow.Author.Needs.{needs}
 use Rattle.day_walk.proofs.walk.next.Statement.{statement}
 use Rattle.day_walk.proofs.walk.next.Tie as tie
 
-add-start : tie.Need-add-start
-add-start c = search needs
-
-start-requires : tie.Need-start-requires
-start-requires c κs = search needs
-
-reached-requires : tie.Need-reached-requires
-reached-requires c κs = search needs
-
 add-result : tie.Need-add-result
 add-result c = let s = c .before .before .before in
     let f = starts-few _ _ _ (s .pre .0 .grid) (s .args .i) (omega arith) in
@@ -37,4 +28,11 @@ returns c = let s = c .before .before .before in
     )
 
 pub next-spec : {M : Type 1} → statement M
-next-spec = tie.close (tie.spec add-start start-requires reached-requires add-result returns)
+next-spec =
+    tie.close
+    (tie.spec
+    (λ c. search needs)
+    (λ c κs. search needs)
+    (λ c κs. search needs)
+    add-result
+    returns)

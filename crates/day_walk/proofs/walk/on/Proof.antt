@@ -15,15 +15,6 @@ Inv-loop starts n from e period i₀ i = (i < n) × (getD starts i 0 ≤ e)
 abbrev μ-loop : tie.MeasureT-loop
 μ-loop starts n from e period i₀ i = n - i
 
-add-start : tie.Need-add-start Inv-loop μ-loop
-add-start c = search needs
-
-start-requires : tie.Need-start-requires Inv-loop μ-loop
-start-requires c κs = search needs
-
-reached-requires : tie.Need-reached-requires Inv-loop μ-loop
-reached-requires c κs = search needs
-
 add-i : tie.Need-add-i Inv-loop μ-loop
 add-i c = let s = c .before .before .before in
     let f = starts-few _ _ _ (s .pre .0 .grid) (s .args .from) (omega arith) in
@@ -33,18 +24,6 @@ loop-holds : tie.Need-loop-holds Inv-loop μ-loop
 loop-holds c = let s = c .before .before .before in
     step-on (s .pre .0 .grid) _ _ _ _ (s .pre .1 .0) (s .pre .1 .1) (s .pre .1 .2) (c .before .start .ensures)
     (c .reached .ensures)
-
-add-start-2 : tie.Need-add-start-2 Inv-loop μ-loop
-add-start-2 c = search needs
-
-start-requires-2 : tie.Need-start-requires-2 Inv-loop μ-loop
-start-requires-2 c κs = search needs
-
-add-i-2 : tie.Need-add-i-2 Inv-loop μ-loop
-add-i-2 c = search needs
-
-loop-less : tie.Need-loop-less Inv-loop μ-loop
-loop-less c = search needs
 
 loop-again : tie.Need-loop-again Inv-loop μ-loop
 loop-again c = let s = c .before .before .before .before .before .before in
@@ -66,14 +45,14 @@ on-spec =
     (tie.spec
     Inv-loop
     μ-loop
-    add-start
-    start-requires
-    reached-requires
+    (λ c. search needs)
+    (λ c κs. search needs)
+    (λ c κs. search needs)
     add-i
     loop-holds
-    add-start-2
-    start-requires-2
-    add-i-2
-    loop-less
+    (λ c. search needs)
+    (λ c κs. search needs)
+    (λ c. search needs)
+    (λ c. search needs)
     loop-again
     returns)

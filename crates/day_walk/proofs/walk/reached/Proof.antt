@@ -4,11 +4,5 @@ use borrow.Author.Needs.{needs}
 use Rattle.day_walk.proofs.walk.reached.Statement.{statement}
 use Rattle.day_walk.proofs.walk.reached.Tie as tie
 
-cast-result : tie.Need-cast-result
-cast-result c = search needs
-
-returns : tie.Need-returns
-returns c = reached-is (c .args .a) (c .args .b)
-
 pub reached-spec : {M : Type 1} → statement M
-reached-spec = tie.close (tie.spec cast-result returns)
+reached-spec = tie.close (tie.spec (λ c. search needs) (λ c. reached-is (c .args .a) (c .args .b)))

@@ -1,13 +1,9 @@
 -- `dimacs_line::line::arc_of` meets its contract.
-use borrow.Author.Tests.{not-true, not-false}
+use borrow.Author.{Tests.not-true, Tests.not-false, Needs.needs}
 use Rattle.theory_loops.specs.Pick.{picks}
 use Rattle.dimacs_line.specs.Shape.{arcShape}
-use borrow.Author.Needs.{needs}
 use Rattle.dimacs_line.proofs.line.arc_of.Statement.{statement}
 use Rattle.dimacs_line.proofs.line.arc_of.Tie as tie
-
-is-whole-requires : tie.Need-is-whole-requires
-is-whole-requires c κs = search needs
 
 returns : tie.Need-returns
 unfolding arcShape
@@ -18,4 +14,4 @@ unfolding arcShape
 returns-2 c = search (picks, not-true, not-false) depth 6
 
 pub arc-of-spec : {M : Type 1} → statement M
-arc-of-spec = tie.close (tie.spec is-whole-requires returns returns-2)
+arc-of-spec = tie.close (tie.spec (λ c κs. search needs) returns returns-2)

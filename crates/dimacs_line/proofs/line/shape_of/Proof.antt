@@ -1,43 +1,21 @@
 -- `dimacs_line::line::shape_of` meets its contract.
 use native.Mathlib.Omega.{arith}
 use denote.Ref.{now}
-use borrow.Author.Tests.{not-true, not-false}
+use borrow.Author.{Tests.not-true, Tests.not-false, Needs.needs}
 use Rattle.theory_loops.specs.Pick.{picks}
 use Rattle.dimacs_line.specs.Shape.{shapeOf, starts-long, arc-told, sizes-told, whole-tail}
-use borrow.Author.Needs.{needs}
 use Rattle.dimacs_line.proofs.line.shape_of.Statement.{statement}
 use Rattle.dimacs_line.proofs.line.shape_of.Tie as tie
-
-slice-aggregate-starts-with : tie.Need-slice-aggregate-starts-with
-slice-aggregate-starts-with c = search needs
-
-starts-with-requires : tie.Need-starts-with-requires
-starts-with-requires c κs = search needs
 
 returns : tie.Need-returns
 unfolding shapeOf
 returns c = search (picks, not-true, not-false) depth 8
-
-slice-aggregate-starts-with-2 : tie.Need-slice-aggregate-starts-with-2
-slice-aggregate-starts-with-2 c = search needs
-
-starts-with-requires-2 : tie.Need-starts-with-requires-2
-starts-with-requires-2 c κs = search needs
 
 sub-scan-line : tie.Need-sub-scan-line
 sub-scan-line c = omega (arith, starts-long _ _ _ (c .before .starts-with2 .ensures) (c .if2 .taken))
 
 part-scan-line-start : tie.Need-part-scan-line-start
 part-scan-line-start c = omega (arith, starts-long _ _ _ (c .before .starts-with2 .ensures) (c .if2 .taken))
-
-part-scan-line-end : tie.Need-part-scan-line-end
-part-scan-line-end c = search needs
-
-scan-line-requires : tie.Need-scan-line-requires
-scan-line-requires c κs = search needs
-
-arc-of-requires : tie.Need-arc-of-requires
-arc-of-requires c κs = search needs
 
 returns-2 : tie.Need-returns-2
 returns-2 c =
@@ -47,26 +25,11 @@ returns-2 c =
     (a .before .starts-with2 .ensures) (a .if2 .taken)
     (whole-tail 2 (now (t .before .before .before .before .args .line))) (c .arc-of .ensures)
 
-slice-aggregate-starts-with-3 : tie.Need-slice-aggregate-starts-with-3
-slice-aggregate-starts-with-3 c = search needs
-
-starts-with-requires-3 : tie.Need-starts-with-requires-3
-starts-with-requires-3 c κs = search needs
-
 sub-scan-line-2 : tie.Need-sub-scan-line-2
 sub-scan-line-2 c = omega (arith, starts-long _ _ _ (c .before .starts-with3 .ensures) (c .if3 .taken))
 
 part-scan-line-start-2 : tie.Need-part-scan-line-start-2
 part-scan-line-start-2 c = omega (arith, starts-long _ _ _ (c .before .starts-with3 .ensures) (c .if3 .taken))
-
-part-scan-line-end-2 : tie.Need-part-scan-line-end-2
-part-scan-line-end-2 c = search needs
-
-scan-line-requires-2 : tie.Need-scan-line-requires-2
-scan-line-requires-2 c κs = search needs
-
-sizes-of-requires : tie.Need-sizes-of-requires
-sizes-of-requires c κs = search needs
 
 returns-3 : tie.Need-returns-3
 returns-3 c =
@@ -85,23 +48,23 @@ pub shape-of-spec : {M : Type 1} → statement M
 shape-of-spec =
     tie.close
     (tie.spec
-    slice-aggregate-starts-with
-    starts-with-requires
+    (λ c. search needs)
+    (λ c κs. search needs)
     returns
-    slice-aggregate-starts-with-2
-    starts-with-requires-2
+    (λ c. search needs)
+    (λ c κs. search needs)
     sub-scan-line
     part-scan-line-start
-    part-scan-line-end
-    scan-line-requires
-    arc-of-requires
+    (λ c. search needs)
+    (λ c κs. search needs)
+    (λ c κs. search needs)
     returns-2
-    slice-aggregate-starts-with-3
-    starts-with-requires-3
+    (λ c. search needs)
+    (λ c κs. search needs)
     sub-scan-line-2
     part-scan-line-start-2
-    part-scan-line-end-2
-    scan-line-requires-2
-    sizes-of-requires
+    (λ c. search needs)
+    (λ c κs. search needs)
+    (λ c κs. search needs)
     returns-3
     returns-4)

@@ -4,9 +4,8 @@ use Prim.Native.Nat.{ℕ, _-_, _≤_, _<_}
 use native.Mathlib.Omega.{arith}
 use lib.ListN.{length, getD}
 use denote.Ref.{now}
-use borrow.Author.Count.{below-more}
+use borrow.Author.{Count.below-more, Needs.needs}
 use Rattle.dimacs_line.specs.Shape.{starts-short, starts-differ, starts-alike}
-use borrow.Author.Needs.{needs}
 use Rattle.dimacs_line.proofs.line.starts_with.Statement.{statement}
 use Rattle.dimacs_line.proofs.line.starts_with.Tie as tie
 
@@ -17,30 +16,12 @@ Inv-loop line word long i₀ i =
 abbrev μ-loop : tie.MeasureT-loop
 μ-loop line word long i₀ i = length word - i
 
-returns : tie.Need-returns Inv-loop μ-loop
-returns c = sym (starts-short _ _ (search needs))
-
-loop-holds : tie.Need-loop-holds Inv-loop μ-loop
-loop-holds c = (search needs, λ k l. absurd (omega arith))
-
-shared-slice-read-if2 : tie.Need-shared-slice-read-if2 Inv-loop μ-loop
-shared-slice-read-if2 c = search needs
-
-shared-slice-read-if2-2 : tie.Need-shared-slice-read-if2-2 Inv-loop μ-loop
-shared-slice-read-if2-2 c = search needs
-
 returns-2 : tie.Need-returns-2 Inv-loop μ-loop
 returns-2 c =
     let s = c .before .before .before .before .before .before in
     sym
     (starts-differ (now (s .args .word)) (now (s .args .line)) (c .before .before .before .before .loop .i)
     (search needs) (search needs) (c .if2 .taken))
-
-add-i : tie.Need-add-i Inv-loop μ-loop
-add-i c = search needs
-
-loop-less : tie.Need-loop-less Inv-loop μ-loop
-loop-less c = search needs
 
 loop-again : tie.Need-loop-again Inv-loop μ-loop
 loop-again c = (search needs, below-more _ _ (c .before .before .before .before .loop .inv .1) (search needs))
@@ -54,12 +35,12 @@ starts-with-spec =
     (tie.spec
     Inv-loop
     μ-loop
-    returns
-    loop-holds
-    shared-slice-read-if2
-    shared-slice-read-if2-2
+    (λ c. sym (starts-short _ _ (search needs)))
+    (λ c. (search needs, λ k l. absurd (omega arith)))
+    (λ c. search needs)
+    (λ c. search needs)
     returns-2
-    add-i
-    loop-less
+    (λ c. search needs)
+    (λ c. search needs)
     loop-again
     returns-3)

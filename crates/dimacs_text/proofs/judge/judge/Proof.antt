@@ -4,14 +4,5 @@ use borrow.Author.Needs.{needs}
 use Rattle.dimacs_text.proofs.judge.judge.Statement.{statement}
 use Rattle.dimacs_text.proofs.judge.judge.Tie as tie
 
-read-requires : tie.Need-read-requires
-read-requires c κs = search needs
-
-judged-requires : tie.Need-judged-requires
-judged-requires c κs = search needs
-
-returns : tie.Need-returns
-returns c = search judged-into
-
 pub judge-spec : {M : Type 1} → statement M
-judge-spec = tie.close (tie.spec read-requires judged-requires returns)
+judge-spec = tie.close (tie.spec (λ c κs. search needs) (λ c κs. search needs) (λ c. search judged-into))

@@ -40,27 +40,6 @@ fits : (c : tie.In-loop Inv-loop μ-loop) (m : ℕ)
     → m ≡ entriesIn (start c .args .per) (start c .args .n) (c .before .loop .j) → pairSize * m ≤ entriesSize
 fits c m e = block-fits _ _ _ _ _ (start c .pre .0) _ (below c) m e
 
-blocks-requires : tie.Need-blocks-requires Inv-loop μ-loop
-blocks-requires c κs = (search needs, omega arith)
-
-loop-holds : tie.Need-loop-holds Inv-loop μ-loop
-loop-holds c = (zero-le, search whole-none, search whole-none)
-
-entries-in-requires : tie.Need-entries-in-requires Inv-loop μ-loop
-entries-in-requires c κs = starts c
-
-add-decode-part-pairs : tie.Need-add-decode-part-pairs Inv-loop μ-loop
-add-decode-part-pairs c = search needs
-
-mul-decode-part-pairs : tie.Need-mul-decode-part-pairs Inv-loop μ-loop
-mul-decode-part-pairs c = search needs
-
-add-decode-part-pairs-2 : tie.Need-add-decode-part-pairs-2 Inv-loop μ-loop
-add-decode-part-pairs-2 c = search needs
-
-mul-decode-part-pairs-2 : tie.Need-mul-decode-part-pairs-2 Inv-loop μ-loop
-mul-decode-part-pairs-2 c = omega (arith, starts (c .before .before .before))
-
 decode-part-pairs-requires : tie.Need-decode-part-pairs-requires Inv-loop μ-loop
 decode-part-pairs-requires c κs =
     let s = c .before .before .before in
@@ -69,12 +48,6 @@ decode-part-pairs-requires c κs =
       omega (arith, starts s, s .before .loop .inv .1 .long),
       omega (arith, starts s, s .before .loop .inv .2 .long),
     )
-
-add-j : tie.Need-add-j Inv-loop μ-loop
-add-j c = search needs
-
-loop-less : tie.Need-loop-less Inv-loop μ-loop
-loop-less c = search needs
 
 loop-again : tie.Need-loop-again Inv-loop μ-loop
 loop-again c =
@@ -85,12 +58,6 @@ loop-again c =
       whole-more _ _ _ _ _ _ (start s .pre .0) _ _ _ _ _ (s .before .loop .inv .1) (below s) m (part .0),
       whole-more _ _ _ _ _ _ (start s .pre .0) _ _ _ _ _ (s .before .loop .inv .2) (below s) m (part .1),
     )
-
-same-length : tie.Need-same-length Inv-loop μ-loop
-same-length c = search needs
-
-same-length-2 : tie.Need-same-length-2 Inv-loop μ-loop
-same-length-2 c = search needs
 
 returns : tie.Need-returns Inv-loop μ-loop
 returns c =
@@ -105,17 +72,17 @@ decode-pairs-spec =
     (tie.spec
     Inv-loop
     μ-loop
-    blocks-requires
-    loop-holds
-    entries-in-requires
-    add-decode-part-pairs
-    mul-decode-part-pairs
-    add-decode-part-pairs-2
-    mul-decode-part-pairs-2
+    (λ c κs. (search needs, omega arith))
+    (λ c. (zero-le, search whole-none, search whole-none))
+    (λ c κs. starts c)
+    (λ c. search needs)
+    (λ c. search needs)
+    (λ c. search needs)
+    (λ c. omega (arith, starts (c .before .before .before)))
     decode-part-pairs-requires
-    add-j
-    loop-less
+    (λ c. search needs)
+    (λ c. search needs)
     loop-again
-    same-length
-    same-length-2
+    (λ c. search needs)
+    (λ c. search needs)
     returns)

@@ -1,9 +1,8 @@
 -- `file_blocks::place::decode16` meets its contract.
-use native.Mathlib.Nat.{mul-le-mul-right}
+use native.Mathlib.{Nat.mul-le-mul-right, Omega.arith}
 use Rattle.file_blocks.specs.Table.{entry16, whole-more, whole-end, wholes}
 use Rattle.file_blocks.specs.Place.{blocks, entriesIn, block-starts, block-in, block-fits}
 use Rattle.theory_loops.specs.Fill.{Filled}
-use native.Mathlib.Omega.{arith}
 use mathlib.Core.Path.{_≡_}
 use lib.ListN.{length}
 use denote.Ref.{now}
@@ -48,24 +47,6 @@ blocks-requires c κs =
       omega (arith, mul-le-mul-right (c .before .before .args .per) two, c .before .before .pre .0 .fit),
     )
 
-loop-holds : tie.Need-loop-holds Inv-loop μ-loop
-loop-holds c = (zero-le, search wholes)
-
-entries-in-requires : tie.Need-entries-in-requires Inv-loop μ-loop
-entries-in-requires c κs = starts c
-
-add-decode-part16 : tie.Need-add-decode-part16 Inv-loop μ-loop
-add-decode-part16 c = search needs
-
-mul-decode-part16 : tie.Need-mul-decode-part16 Inv-loop μ-loop
-mul-decode-part16 c = search needs
-
-add-decode-part16-2 : tie.Need-add-decode-part16-2 Inv-loop μ-loop
-add-decode-part16-2 c = search needs
-
-mul-decode-part16-2 : tie.Need-mul-decode-part16-2 Inv-loop μ-loop
-mul-decode-part16-2 c = omega (arith, starts (c .before .before))
-
 decode-part16-requires : tie.Need-decode-part16-requires Inv-loop μ-loop
 decode-part16-requires c κs = (
   c .before .before .before .before .before .before .before .pre .1 .0,
@@ -77,12 +58,6 @@ decode-part16-requires c κs = (
   omega (arith, starts (c .before .before), c .before .before .before .loop .inv .1 .long),
 )
 
-add-j : tie.Need-add-j Inv-loop μ-loop
-add-j c = search needs
-
-loop-less : tie.Need-loop-less Inv-loop μ-loop
-loop-less c = search needs
-
 loop-again : tie.Need-loop-again Inv-loop μ-loop
 loop-again c = (
   omega (arith, below (c .before .before .before .before .before)),
@@ -91,9 +66,6 @@ loop-again c = (
       (below (c .before .before .before .before .before))
       (c .before .before .before .before .entries-in .ensures) (c .before .before .decode-part16 .ensures),
 )
-
-same-length : tie.Need-same-length Inv-loop μ-loop
-same-length c = search needs
 
 returns : tie.Need-returns Inv-loop μ-loop
 returns c = whole-end _ _ _ _ _ _ (c .before .before .before .before .before .pre .0) _ _ _
@@ -106,15 +78,15 @@ decode16-spec =
     Inv-loop
     μ-loop
     blocks-requires
-    loop-holds
-    entries-in-requires
-    add-decode-part16
-    mul-decode-part16
-    add-decode-part16-2
-    mul-decode-part16-2
+    (λ c. (zero-le, search wholes))
+    (λ c κs. starts c)
+    (λ c. search needs)
+    (λ c. search needs)
+    (λ c. search needs)
+    (λ c. omega (arith, starts (c .before .before)))
     decode-part16-requires
-    add-j
-    loop-less
+    (λ c. search needs)
+    (λ c. search needs)
     loop-again
-    same-length
+    (λ c. search needs)
     returns)

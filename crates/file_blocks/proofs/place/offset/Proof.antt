@@ -20,33 +20,6 @@ small c =
       offset-in (a .from) (a .per) (a .size) (c .pre .0) (c .pre .1) (a .i),
     )
 
-mul-more : tie.Need-mul-more
-mul-more c = search needs
-
-sub-more : tie.Need-sub-more
-sub-more c = search needs
-
-mul-result : tie.Need-mul-result
-mul-result c = search needs
-
-add-result : tie.Need-add-result
-add-result c = search needs
-
-mul-result-2 : tie.Need-mul-result-2
-mul-result-2 c = omega (arith, small c)
-
-add-result-2 : tie.Need-add-result-2
-add-result-2 c = omega (arith, small c)
-
-div-result : tie.Need-div-result
-div-result c = search needs
-
-mul-result-3 : tie.Need-mul-result-3
-mul-result-3 c = omega (arith, small c)
-
-add-result-3 : tie.Need-add-result-3
-add-result-3 c = omega (arith, small c)
-
 returns : tie.Need-returns
 returns c =
     let a = c .args in
@@ -56,13 +29,13 @@ pub offset-spec : {M : Type 1} → statement M
 offset-spec =
     tie.close
     (tie.spec
-    mul-more
-    sub-more
-    mul-result
-    add-result
-    mul-result-2
-    add-result-2
-    div-result
-    mul-result-3
-    add-result-3
+    (λ c. search needs)
+    (λ c. search needs)
+    (λ c. search needs)
+    (λ c. search needs)
+    (λ c. omega (arith, small c))
+    (λ c. omega (arith, small c))
+    (λ c. search needs)
+    (λ c. omega (arith, small c))
+    (λ c. omega (arith, small c))
     returns)

@@ -13,37 +13,16 @@ Inv-loop out₀ blocks b₀ out b = (b ≤ blocks) × (length out ≡ length out
 abbrev μ-loop : tie.MeasureT-loop
 μ-loop out₀ blocks b₀ out b = blocks - b
 
-loop-holds : tie.Need-loop-holds Inv-loop μ-loop
-loop-holds c = (search needs, search needs, search sealed-none)
-
-write-check-requires : tie.Need-write-check-requires Inv-loop μ-loop
-write-check-requires c κs = search needs
-
-add-b : tie.Need-add-b Inv-loop μ-loop
-add-b c = search needs
-
-loop-less : tie.Need-loop-less Inv-loop μ-loop
-loop-less c = search needs
-
-loop-again : tie.Need-loop-again Inv-loop μ-loop
-loop-again c = (search needs, search needs, search sealed-more)
-
-same-length : tie.Need-same-length Inv-loop μ-loop
-same-length c = search needs
-
-returns : tie.Need-returns Inv-loop μ-loop
-returns c = search sealed-end
-
 pub write-checks-spec : {M : Type 1} → statement M
 write-checks-spec =
     tie.close
     (tie.spec
     Inv-loop
     μ-loop
-    loop-holds
-    write-check-requires
-    add-b
-    loop-less
-    loop-again
-    same-length
-    returns)
+    (λ c. (search needs, search needs, search sealed-none))
+    (λ c κs. search needs)
+    (λ c. search needs)
+    (λ c. search needs)
+    (λ c. (search needs, search needs, search sealed-more))
+    (λ c. search needs)
+    (λ c. search sealed-end))

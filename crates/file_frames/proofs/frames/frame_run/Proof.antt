@@ -14,49 +14,19 @@ Inv-loop out₀ from kind per n j₀ j-end out j =
 abbrev μ-loop : tie.MeasureT-loop
 μ-loop out₀ from kind per n j₀ j-end out j = j-end - j
 
-blocks-requires : tie.Need-blocks-requires Inv-loop μ-loop
-blocks-requires c κs = search needs
-
-loop-holds : tie.Need-loop-holds Inv-loop μ-loop
-loop-holds c = (search needs, search needs, search frame-start)
-
-entries-in-requires : tie.Need-entries-in-requires Inv-loop μ-loop
-entries-in-requires c κs = search frame-starts
-
-add-write-frame : tie.Need-add-write-frame Inv-loop μ-loop
-add-write-frame c = search needs
-
-write-frame-requires : tie.Need-write-frame-requires Inv-loop μ-loop
-write-frame-requires c κs = search needs
-
-add-j : tie.Need-add-j Inv-loop μ-loop
-add-j c = search needs
-
-loop-less : tie.Need-loop-less Inv-loop μ-loop
-loop-less c = search needs
-
-loop-again : tie.Need-loop-again Inv-loop μ-loop
-loop-again c = (search needs, search needs, search frame-more)
-
-same-length : tie.Need-same-length Inv-loop μ-loop
-same-length c = search needs
-
-returns : tie.Need-returns Inv-loop μ-loop
-returns c = search frame-end
-
 pub frame-run-spec : {M : Type 1} → statement M
 frame-run-spec =
     tie.close
     (tie.spec
     Inv-loop
     μ-loop
-    blocks-requires
-    loop-holds
-    entries-in-requires
-    add-write-frame
-    write-frame-requires
-    add-j
-    loop-less
-    loop-again
-    same-length
-    returns)
+    (λ c κs. search needs)
+    (λ c. (search needs, search needs, search frame-start))
+    (λ c κs. search frame-starts)
+    (λ c. search needs)
+    (λ c κs. search needs)
+    (λ c. search needs)
+    (λ c. search needs)
+    (λ c. (search needs, search needs, search frame-more))
+    (λ c. search needs)
+    (λ c. search frame-end))

@@ -5,11 +5,5 @@ use Rattle.network.proofs.read.tail.Statement.{statement}
 use Rattle.network.proofs.read.tail.Tie as tie
 use Rattle.network.proofs.read.tail.Reads as reads
 
-field16-requires : tie.Need-field16-requires
-field16-requires c κs = (search reads, search needs)
-
-returns : tie.Need-returns
-returns c = (search reads, search needs)
-
 pub tail-spec : {M : Type 1} → statement M
-tail-spec = tie.close (tie.spec field16-requires returns)
+tail-spec = tie.close (tie.spec (λ c κs. (search reads, search needs)) (λ c. (search reads, search needs)))

@@ -1,9 +1,8 @@
 -- `network_encode::encode::encode_network` meets its contract.
-use Rattle.network_encode.specs.Written.{file-more, file-whole}
+use Rattle.network_encode.specs.{Written.file-more, Written.file-whole, Encode.bodyBy}
 use Prim.Native.Nat.{_-_, _*_, _≤_}
 use Rattle.theory_loops.specs.Fill.{Filled, fill-none}
-use Rattle.file_blocks.specs.Bytes.{fileByte}
-use Rattle.network_encode.specs.Encode.{bodyBy}
+use Rattle.file_write.specs.Bytes.{fileByte}
 use Rattle.network.specs.Tables.{tables, networkOf}
 use borrow.Author.Needs.{needs}
 use Rattle.network_encode.proofs.encode.encode_network.Statement.{statement}
@@ -18,37 +17,16 @@ Inv-loop out₀ h l cells opens closes tails heads counts ticks travels b₀ b-e
 abbrev μ-loop : tie.MeasureT-loop
 μ-loop out₀ h l cells opens closes tails heads counts ticks travels b₀ b-end out b = l .blocks - b
 
-loop-holds : tie.Need-loop-holds Inv-loop μ-loop
-loop-holds c = (search needs, fill-none _ _ _)
-
-write-block-requires : tie.Need-write-block-requires Inv-loop μ-loop
-write-block-requires c κs = search needs
-
-add-b : tie.Need-add-b Inv-loop μ-loop
-add-b c = search needs
-
-loop-less : tie.Need-loop-less Inv-loop μ-loop
-loop-less c = search needs
-
-loop-again : tie.Need-loop-again Inv-loop μ-loop
-loop-again c = (search needs, search file-more)
-
-same-length : tie.Need-same-length Inv-loop μ-loop
-same-length c = search needs
-
-returns : tie.Need-returns Inv-loop μ-loop
-returns c = search file-whole
-
 pub encode-network-spec : {M : Type 1} → statement M
 encode-network-spec =
     tie.close
     (tie.spec
     Inv-loop
     μ-loop
-    loop-holds
-    write-block-requires
-    add-b
-    loop-less
-    loop-again
-    same-length
-    returns)
+    (λ c. (search needs, fill-none _ _ _))
+    (λ c κs. search needs)
+    (λ c. search needs)
+    (λ c. search needs)
+    (λ c. (search needs, search file-more))
+    (λ c. search needs)
+    (λ c. search file-whole))

@@ -2,28 +2,11 @@
 use mathlib.Core.Path.{refl}
 use native.Mathlib.Omega.{arith}
 use lib.Dec.{lit<, lit≤}
-use Rattle.network_encode.specs.Encode.{headerByte}
-use Rattle.network_encode.specs.BlockWritten.{block-written}
-use Rattle.network_encode.specs.Written.{header-entry}
+use Rattle.network_encode.specs.{Encode.headerByte, BlockWritten.block-written, Written.header-entry}
 use borrow.Author.Needs.{needs}
 use Rattle.network_encode.proofs.encode.header_block.Statement.{statement}
 use Rattle.network_encode.proofs.encode.header_block.Tie as tie
 use Rattle.file_blocks.specs.Kind.{networkKind, networkSize}
-
-write-head-requires : tie.Need-write-head-requires
-write-head-requires c κs = search needs
-
-put-header-requires : tie.Need-put-header-requires
-put-header-requires c κs = search needs
-
-write-zeros-requires : tie.Need-write-zeros-requires
-write-zeros-requires c κs = search needs
-
-write-check-requires : tie.Need-write-check-requires
-write-check-requires c κs = search needs
-
-same-length : tie.Need-same-length
-same-length c = search needs
 
 returns : tie.Need-returns
 returns c =
@@ -40,9 +23,9 @@ pub header-block-spec : {M : Type 1} → statement M
 header-block-spec =
     tie.close
     (tie.spec
-    write-head-requires
-    put-header-requires
-    write-zeros-requires
-    write-check-requires
-    same-length
+    (λ c κs. search needs)
+    (λ c κs. search needs)
+    (λ c κs. search needs)
+    (λ c κs. search needs)
+    (λ c. search needs)
     returns)

@@ -6,18 +6,6 @@ use borrow.Author.Needs.{needs}
 use Rattle.network_encode.proofs.encode.put_three.Statement.{statement}
 use Rattle.network_encode.proofs.encode.put_three.Tie as tie
 
-put16-requires : tie.Need-put16-requires
-put16-requires c κs = search needs
-
-add-put-two : tie.Need-add-put-two
-add-put-two c = search needs
-
-put-two-requires : tie.Need-put-two-requires
-put-two-requires c κs = search needs
-
-same-length : tie.Need-same-length
-same-length c = search needs
-
 returns : tie.Need-returns
 returns c = let l : c .before .before .before .before .before .before .before .before .before .args .x < 65536
     = omega arith in put-join 2 4 _ _ _ _ _ _ l
@@ -25,4 +13,10 @@ returns c = let l : c .before .before .before .before .before .before .before .b
 
 pub put-three-spec : {M : Type 1} → statement M
 put-three-spec =
-    tie.close (tie.spec put16-requires add-put-two put-two-requires same-length returns)
+    tie.close
+    (tie.spec
+    (λ c κs. search needs)
+    (λ c. search needs)
+    (λ c κs. search needs)
+    (λ c. search needs)
+    returns)

@@ -6,22 +6,17 @@ use borrow.Author.Needs.{needs}
 use Rattle.network_encode.proofs.encode.put_two.Statement.{statement}
 use Rattle.network_encode.proofs.encode.put_two.Tie as tie
 
-put16-requires : tie.Need-put16-requires
-put16-requires c κs = search needs
-
-add-put16 : tie.Need-add-put16
-add-put16 c = search needs
-
-put16-requires-2 : tie.Need-put16-requires-2
-put16-requires-2 c κs = search needs
-
-same-length : tie.Need-same-length
-same-length c = search needs
-
 returns : tie.Need-returns
 returns c = let l : c .before .before .before .before .before .before .before .before .before .args .x < 65536
     = omega arith in put-join 2 2 _ _ _ _ _ _ l
     (c .before .before .before .before .before .before .put16 .ensures) (c .before .before .put162 .ensures)
 
 pub put-two-spec : {M : Type 1} → statement M
-put-two-spec = tie.close (tie.spec put16-requires add-put16 put16-requires-2 same-length returns)
+put-two-spec =
+    tie.close
+    (tie.spec
+    (λ c κs. search needs)
+    (λ c. search needs)
+    (λ c κs. search needs)
+    (λ c. search needs)
+    returns)

@@ -5,15 +5,6 @@ use borrow.Author.Needs.{needs}
 use Rattle.network_open.proofs.open.is_short.Statement.{statement}
 use Rattle.network_open.proofs.open.is_short.Tie as tie
 
-cast-nodes : tie.Need-cast-nodes
-cast-nodes c = search needs
-
-cast-arcs : tie.Need-cast-arcs
-cast-arcs c = search needs
-
-cast-points : tie.Need-cast-points
-cast-points c = search needs
-
 returns : tie.Need-returns
 unfolding tooShortBy
 returns c = search picks depth 12
@@ -50,9 +41,9 @@ pub is-short-spec : {M : Type 1} → statement M
 is-short-spec =
     tie.close
     (tie.spec
-    cast-nodes
-    cast-arcs
-    cast-points
+    (λ c. search needs)
+    (λ c. search needs)
+    (λ c. search needs)
     returns
     returns-2
     returns-3

@@ -14,24 +14,15 @@ mul-long c =
     let pre = start c .pre in
     omega (arith, blocks-few _ _ (pre .within) (pre .is))
 
-unwritten-requires : tie.Need-unwritten-requires
-unwritten-requires c κs = search needs
-
 returns : tie.Need-returns
 returns c =
     let pre = start (c .before .before) .pre in
     room-short _ pre _ _ (c .before .if1 .taken) (c .unwritten .ensures)
 
-encode-network-requires : tie.Need-encode-network-requires
-encode-network-requires c κs = search needs
-
 cast-t18 : tie.Need-cast-t18
 cast-t18 c =
     let pre = start (c .before .before .before .before .before) .pre in
     omega (arith, blocks-few _ _ (pre .within) (pre .is))
-
-same-length : tie.Need-same-length
-same-length c = search needs
 
 returns-2 : tie.Need-returns-2
 returns-2 c =
@@ -44,9 +35,9 @@ write-out-spec =
     tie.close
     (tie.spec
     mul-long
-    unwritten-requires
+    (λ c κs. search needs)
     returns
-    encode-network-requires
+    (λ c κs. search needs)
     cast-t18
-    same-length
+    (λ c. search needs)
     returns-2)

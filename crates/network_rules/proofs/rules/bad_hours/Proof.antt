@@ -13,12 +13,9 @@ returns-2 : tie.Need-returns-2
 unfolding badHours
 returns-2 c = search picks depth 8
 
-is-part-of-day-requires : tie.Need-is-part-of-day-requires
-is-part-of-day-requires c κs = search needs
-
 returns-3 : tie.Need-returns-3
 unfolding badHours
 returns-3 c = search picks depth 8
 
 pub bad-hours-spec : {M : Type 1} → statement M
-bad-hours-spec = tie.close (tie.spec returns returns-2 is-part-of-day-requires returns-3)
+bad-hours-spec = tie.close (tie.spec returns returns-2 (λ c κs. search needs) returns-3)

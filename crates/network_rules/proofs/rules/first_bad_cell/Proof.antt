@@ -2,8 +2,7 @@
 use mathlib.Core.Path.{_≡_}
 use Prim.Native.Nat.{_≤_, _-_}
 use Rattle.theory_loops.specs.First.{first, firsts}
-use Rattle.network.specs.Decode.{decode}
-use Rattle.network.specs.Rules.{badCell}
+use Rattle.network.specs.{Decode.decode, Rules.badCell}
 use borrow.Author.Needs.{needs}
 use Rattle.network_rules.proofs.rules.first_bad_cell.Statement.{statement}
 use Rattle.network_rules.proofs.rules.first_bad_cell.Tie as tie
@@ -14,37 +13,16 @@ Inv-loop file l nodes v₀ v = (v ≤ nodes) × (first v (badCell (decode file))
 abbrev μ-loop : tie.MeasureT-loop
 μ-loop file l nodes v₀ v = nodes - v
 
-loop-holds : tie.Need-loop-holds Inv-loop μ-loop
-loop-holds c = (search needs, search firsts)
-
-is-bad-cell-requires : tie.Need-is-bad-cell-requires Inv-loop μ-loop
-is-bad-cell-requires c κs = search needs
-
-returns : tie.Need-returns Inv-loop μ-loop
-returns c = search firsts
-
-add-v : tie.Need-add-v Inv-loop μ-loop
-add-v c = search needs
-
-loop-less : tie.Need-loop-less Inv-loop μ-loop
-loop-less c = search needs
-
-loop-again : tie.Need-loop-again Inv-loop μ-loop
-loop-again c = (search needs, search firsts)
-
-returns-2 : tie.Need-returns-2 Inv-loop μ-loop
-returns-2 c = search firsts
-
 pub first-bad-cell-spec : {M : Type 1} → statement M
 first-bad-cell-spec =
     tie.close
     (tie.spec
     Inv-loop
     μ-loop
-    loop-holds
-    is-bad-cell-requires
-    returns
-    add-v
-    loop-less
-    loop-again
-    returns-2)
+    (λ c. (search needs, search firsts))
+    (λ c κs. search needs)
+    (λ c. search firsts)
+    (λ c. search needs)
+    (λ c. search needs)
+    (λ c. (search needs, search firsts))
+    (λ c. search firsts))

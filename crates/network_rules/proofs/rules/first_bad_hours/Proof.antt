@@ -2,8 +2,7 @@
 use mathlib.Core.Path.{_≡_}
 use Prim.Native.Nat.{_≤_, _-_}
 use Rattle.theory_loops.specs.First.{first, firsts}
-use Rattle.network.specs.Decode.{decode}
-use Rattle.network.specs.Rules.{badHoursOf}
+use Rattle.network.specs.{Decode.decode, Rules.badHoursOf}
 use Rattle.network_rules.specs.Hours.{hours-none}
 use borrow.Author.Needs.{needs}
 use Rattle.network_rules.proofs.rules.first_bad_hours.Statement.{statement}
@@ -15,41 +14,17 @@ Inv-loop file l nodes v₀ v = (v ≤ nodes) × (first v (badHoursOf (decode fil
 abbrev μ-loop : tie.MeasureT-loop
 μ-loop file l nodes v₀ v = nodes - v
 
-returns : tie.Need-returns Inv-loop μ-loop
-returns c = search hours-none
-
-loop-holds : tie.Need-loop-holds Inv-loop μ-loop
-loop-holds c = (search needs, search firsts)
-
-is-bad-hours-requires : tie.Need-is-bad-hours-requires Inv-loop μ-loop
-is-bad-hours-requires c κs = search needs
-
-returns-2 : tie.Need-returns-2 Inv-loop μ-loop
-returns-2 c = search firsts
-
-add-v : tie.Need-add-v Inv-loop μ-loop
-add-v c = search needs
-
-loop-less : tie.Need-loop-less Inv-loop μ-loop
-loop-less c = search needs
-
-loop-again : tie.Need-loop-again Inv-loop μ-loop
-loop-again c = (search needs, search firsts)
-
-returns-3 : tie.Need-returns-3 Inv-loop μ-loop
-returns-3 c = search firsts
-
 pub first-bad-hours-spec : {M : Type 1} → statement M
 first-bad-hours-spec =
     tie.close
     (tie.spec
     Inv-loop
     μ-loop
-    returns
-    loop-holds
-    is-bad-hours-requires
-    returns-2
-    add-v
-    loop-less
-    loop-again
-    returns-3)
+    (λ c. search hours-none)
+    (λ c. (search needs, search firsts))
+    (λ c κs. search needs)
+    (λ c. search firsts)
+    (λ c. search needs)
+    (λ c. search needs)
+    (λ c. (search needs, search firsts))
+    (λ c. search firsts))

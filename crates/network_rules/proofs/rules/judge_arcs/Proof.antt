@@ -6,24 +6,9 @@ use borrow.Author.Needs.{needs}
 use Rattle.network_rules.proofs.rules.judge_arcs.Statement.{statement}
 use Rattle.network_rules.proofs.rules.judge_arcs.Tie as tie
 
-scan-arcs-requires : tie.Need-scan-arcs-requires
-scan-arcs-requires c κs = search needs
-
-cast-faulty : tie.Need-cast-faulty
-cast-faulty c = omega (arith, laid-small (c .before .before .before .before .pre))
-
-faulty-requires : tie.Need-faulty-requires
-faulty-requires c κs = search needs
-
-returns : tie.Need-returns
-returns c = search (judgings, laid-sizes)
-
 cast-faulty-2 : tie.Need-cast-faulty-2
 cast-faulty-2 c = omega
     (arith, laid-small (c .before .before .before .before .before .before .before .before .pre))
-
-faulty-requires-2 : tie.Need-faulty-requires-2
-faulty-requires-2 c κs = search needs
 
 returns-2 : tie.Need-returns-2
 returns-2 c =
@@ -60,12 +45,12 @@ pub judge-arcs-spec : {M : Type 1} → statement M
 judge-arcs-spec =
     tie.close
     (tie.spec
-    scan-arcs-requires
-    cast-faulty
-    faulty-requires
-    returns
+    (λ c κs. search needs)
+    (λ c. omega (arith, laid-small (c .before .before .before .before .pre)))
+    (λ c κs. search needs)
+    (λ c. search (judgings, laid-sizes))
     cast-faulty-2
-    faulty-requires-2
+    (λ c κs. search needs)
     returns-2
     judge-points-requires
     returns-3)

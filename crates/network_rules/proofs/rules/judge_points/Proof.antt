@@ -6,20 +6,8 @@ use borrow.Author.Needs.{needs}
 use Rattle.network_rules.proofs.rules.judge_points.Statement.{statement}
 use Rattle.network_rules.proofs.rules.judge_points.Tie as tie
 
-is-steady-requires : tie.Need-is-steady-requires
-is-steady-requires c κs = search needs
-
-returns : tie.Need-returns
-returns c = c .before .is-steady .ensures (c .if1 .taken)
-
-scan-points-requires : tie.Need-scan-points-requires
-scan-points-requires c κs = search needs
-
 cast-faulty : tie.Need-cast-faulty
 cast-faulty c = omega (arith, laid-small (c .before .before .before .before .before .before .pre .0))
-
-faulty-requires : tie.Need-faulty-requires
-faulty-requires c κs = search needs
 
 returns-2 : tie.Need-returns-2
 returns-2 c =
@@ -29,9 +17,6 @@ returns-2 c =
 cast-faulty-2 : tie.Need-cast-faulty-2
 cast-faulty-2 c =
     omega (arith, laid-small (c .before .before .before .before .before .before .before .before .pre .0))
-
-faulty-requires-2 : tie.Need-faulty-requires-2
-faulty-requires-2 c κs = search needs
 
 returns-3 : tie.Need-returns-3
 returns-3 c =
@@ -47,13 +32,13 @@ pub judge-points-spec : {M : Type 1} → statement M
 judge-points-spec =
     tie.close
     (tie.spec
-    is-steady-requires
-    returns
-    scan-points-requires
+    (λ c κs. search needs)
+    (λ c. c .before .is-steady .ensures (c .if1 .taken))
+    (λ c κs. search needs)
     cast-faulty
-    faulty-requires
+    (λ c κs. search needs)
     returns-2
     cast-faulty-2
-    faulty-requires-2
+    (λ c κs. search needs)
     returns-3
     returns-4)

@@ -3,10 +3,8 @@
 use mathlib.Core.Path.{_≡_, sym}
 use Prim.Native.Nat.{_-_, _*_, _≤_, min}
 use native.Mathlib.Omega.{arith}
-use Rattle.file_blocks.specs.Kind.{arcPer}
-use Rattle.file_blocks.specs.Place.{blocks}
-use Rattle.network.specs.Limits.{mostArcs}
-use Rattle.network.specs.Decode.{decode, laid-small}
+use Rattle.file_blocks.specs.{Kind.arcPer, Place.blocks}
+use Rattle.network.specs.{Limits.mostArcs, Decode.decode, Decode.laid-small}
 use Rattle.network_rules.specs.ScanArcs.{ArcsPassed, arcs-none, arcs-at, arcs-found}
 use borrow.Author.Needs.{needs}
 use Rattle.network_rules.proofs.rules.scan_arcs.Statement.{statement}
@@ -20,9 +18,6 @@ Inv-loop file l arcs sum₀ j₀ j-end sum j =
 abbrev μ-loop : tie.MeasureT-loop
 μ-loop file l arcs sum₀ j₀ j-end sum j = j-end - j
 
-blocks-requires : tie.Need-blocks-requires Inv-loop μ-loop
-blocks-requires c κs = omega (arith, laid-small (c .before .pre) .arcs-most)
-
 loop-holds : tie.Need-loop-holds Inv-loop μ-loop
 loop-holds c = (
   search needs,
@@ -31,30 +26,15 @@ loop-holds c = (
   arcs-at arcs-none _ (search needs),
 )
 
-entries-in-requires : tie.Need-entries-in-requires Inv-loop μ-loop
-entries-in-requires c κs = search needs
-
 scan-block-requires : tie.Need-scan-block-requires Inv-loop μ-loop
 scan-block-requires c κs =
     let b = c .before .before in
     (b .before .before .before .pre, (search needs, arcs-at (b .loop .inv .3) _ (search needs)))
 
-mul-if1 : tie.Need-mul-if1 Inv-loop μ-loop
-mul-if1 c = search needs
-
-add-if1 : tie.Need-add-if1 Inv-loop μ-loop
-add-if1 c = search needs
-
 returns : tie.Need-returns Inv-loop μ-loop
 returns c =
     let s = c .before .before in
     (arcs-found _ _ _ _ (s .scan-block .ensures) (c .if1 .taken) (search needs), λ h. absurd (search needs))
-
-add-j : tie.Need-add-j Inv-loop μ-loop
-add-j c = search needs
-
-loop-less : tie.Need-loop-less Inv-loop μ-loop
-loop-less c = search needs
 
 loop-again : tie.Need-loop-again Inv-loop μ-loop
 loop-again c =
@@ -77,14 +57,14 @@ scan-arcs-spec =
     (tie.spec
     Inv-loop
     μ-loop
-    blocks-requires
+    (λ c κs. omega (arith, laid-small (c .before .pre) .arcs-most))
     loop-holds
-    entries-in-requires
+    (λ c κs. search needs)
     scan-block-requires
-    mul-if1
-    add-if1
+    (λ c. search needs)
+    (λ c. search needs)
     returns
-    add-j
-    loop-less
+    (λ c. search needs)
+    (λ c. search needs)
     loop-again
     returns-2)

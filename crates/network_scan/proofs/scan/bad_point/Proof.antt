@@ -5,9 +5,6 @@ use borrow.Author.Needs.{needs}
 use Rattle.network_scan.proofs.scan.bad_point.Statement.{statement}
 use Rattle.network_scan.proofs.scan.bad_point.Tie as tie
 
-is-misplaced-requires : tie.Need-is-misplaced-requires
-is-misplaced-requires c κs = search needs
-
 returns : tie.Need-returns
 unfolding badPointBy
 returns c = search picks depth 8
@@ -25,4 +22,4 @@ unfolding badPointBy
 returns-4 c = search picks depth 8
 
 pub bad-point-spec : {M : Type 1} → statement M
-bad-point-spec = tie.close (tie.spec is-misplaced-requires returns returns-2 returns-3 returns-4)
+bad-point-spec = tie.close (tie.spec (λ c κs. search needs) returns returns-2 returns-3 returns-4)

@@ -9,15 +9,9 @@ returns : tie.Need-returns
 unfolding lateAt
 returns c = search picks depth 6
 
-sub-if2 : tie.Need-sub-if2
-sub-if2 c = search needs
-
 returns-2 : tie.Need-returns-2
 unfolding lateAt
 returns-2 c = search picks depth 6
-
-sub-result : tie.Need-sub-result
-sub-result c = search needs
 
 returns-3 : tie.Need-returns-3
 unfolding lateAt
@@ -28,4 +22,12 @@ unfolding lateAt
 returns-4 c = search picks depth 6
 
 pub late-at-spec : {M : Type 1} → statement M
-late-at-spec = tie.close (tie.spec returns sub-if2 returns-2 sub-result returns-3 returns-4)
+late-at-spec =
+    tie.close
+    (tie.spec
+    returns
+    (λ c. search needs)
+    returns-2
+    (λ c. search needs)
+    returns-3
+    returns-4)

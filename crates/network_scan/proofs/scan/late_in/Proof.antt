@@ -9,9 +9,6 @@ returns : tie.Need-returns
 unfolding lateIn
 returns c = search picks depth 6
 
-add-result : tie.Need-add-result
-add-result c = search needs
-
 returns-2 : tie.Need-returns-2
 unfolding lateIn
 returns-2 c = search picks depth 6
@@ -21,4 +18,4 @@ unfolding lateIn
 returns-3 c = search picks depth 6
 
 pub late-in-spec : {M : Type 1} → statement M
-late-in-spec = tie.close (tie.spec returns add-result returns-2 returns-3)
+late-in-spec = tie.close (tie.spec returns (λ c. search needs) returns-2 returns-3)

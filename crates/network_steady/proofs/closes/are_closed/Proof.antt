@@ -3,13 +3,10 @@
 use mathlib.Core.Path.{_≡_}
 use Prim.Native.Nat.{_-_, _*_, _≤_, min}
 use native.Mathlib.Omega.{arith}
-use borrow.Author.Tests.{not-false}
-use Rattle.file_blocks.specs.Kind.{arcPer}
-use Rattle.file_blocks.specs.Place.{blocks}
-use Rattle.network.specs.Limits.{mostArcs}
-use Rattle.network.specs.Decode.{decode, laid-sizes, laid-small}
+use borrow.Author.{Tests.not-false, Needs.needs}
+use Rattle.file_blocks.specs.{Kind.arcPer, Place.blocks}
+use Rattle.network.specs.{Limits.mostArcs, Decode.decode, Decode.laid-sizes, Decode.laid-small}
 use Rattle.network_steady.specs.Closes.{Closing, closing-none, closing-at, closing-end, not-so}
-use borrow.Author.Needs.{needs}
 use Rattle.network_steady.proofs.closes.are_closed.Statement.{statement}
 use Rattle.network_steady.proofs.closes.are_closed.Tie as tie
 
@@ -21,9 +18,6 @@ Inv-loop file l arcs sum₀ j₀ j-end sum j =
 abbrev μ-loop : tie.MeasureT-loop
 μ-loop file l arcs sum₀ j₀ j-end sum j = j-end - j
 
-blocks-requires : tie.Need-blocks-requires Inv-loop μ-loop
-blocks-requires c κs = omega (arith, laid-small (c .before .pre .0) .arcs-most)
-
 loop-holds : tie.Need-loop-holds Inv-loop μ-loop
 loop-holds c =
     let p = c .before .before .pre in (
@@ -33,22 +27,10 @@ loop-holds c =
       closing-at _ _ _ _ _ (closing-none _ _ (p .1) (laid-sizes (p .0)) (laid-small (p .0))) (search needs),
     )
 
-entries-in-requires : tie.Need-entries-in-requires Inv-loop μ-loop
-entries-in-requires c κs = search needs
-
 close-block-requires : tie.Need-close-block-requires Inv-loop μ-loop
 close-block-requires c κs =
     let b = c .before .before in
     (b .before .before .before .pre .0, (search needs, closing-at _ _ _ _ _ (b .loop .inv .3) (search needs)))
-
-returns : tie.Need-returns Inv-loop μ-loop
-returns c = not-so
-
-add-j : tie.Need-add-j Inv-loop μ-loop
-add-j c = search needs
-
-loop-less : tie.Need-loop-less Inv-loop μ-loop
-loop-less c = search needs
 
 loop-again : tie.Need-loop-again Inv-loop μ-loop
 loop-again c = (
@@ -58,21 +40,18 @@ loop-again c = (
   closing-at _ _ _ _ _ (c .before .close-block .ensures (not-false _ (c .if1 .left))) (search needs),
 )
 
-returns-2 : tie.Need-returns-2 Inv-loop μ-loop
-returns-2 c = λ _. closing-end _ _ _ _ (c .before .loop .inv .3) (search needs)
-
 pub are-closed-spec : {M : Type 1} → statement M
 are-closed-spec =
     tie.close
     (tie.spec
     Inv-loop
     μ-loop
-    blocks-requires
+    (λ c κs. omega (arith, laid-small (c .before .pre .0) .arcs-most))
     loop-holds
-    entries-in-requires
+    (λ c κs. search needs)
     close-block-requires
-    returns
-    add-j
-    loop-less
+    (λ c. not-so)
+    (λ c. search needs)
+    (λ c. search needs)
     loop-again
-    returns-2)
+    (λ c. λ _. closing-end _ _ _ _ (c .before .loop .inv .3) (search needs)))

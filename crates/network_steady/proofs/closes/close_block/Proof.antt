@@ -22,12 +22,6 @@ here : (c : tie.After-entry-in Inv-loop μ-loop)
     < c .before .before .before .before .args .l .arcs
 here c = omega arith
 
-loop-holds : tie.Need-loop-holds Inv-loop μ-loop
-loop-holds c = (search needs, closing-at _ _ _ _ _ (c .before .pre .1 .1) (search needs))
-
-entry-in-requires : tie.Need-entry-in-requires Inv-loop μ-loop
-entry-in-requires c κs = search needs
-
 is-closed-requires : tie.Need-is-closed-requires Inv-loop μ-loop
 is-closed-requires c κs =
     let i = c .before .before .loop .inv .1 in
@@ -35,9 +29,6 @@ is-closed-requires c κs =
       c .before .before .before .before .pre .0,
       (closing-room _ _ _ _ _ i (here c) e, closing-some _ _ _ _ _ i (here c) e),
     )
-
-returns : tie.Need-returns Inv-loop μ-loop
-returns c = not-so
 
 add-sum : tie.Need-add-sum Inv-loop μ-loop
 add-sum c =
@@ -47,12 +38,6 @@ add-sum c =
       closing-few _ _ _ _ _ (b .before .before .loop .inv .1) (here b) (b .entry-in .ensures .count),
     )
 
-add-e : tie.Need-add-e Inv-loop μ-loop
-add-e c = search needs
-
-loop-less : tie.Need-loop-less Inv-loop μ-loop
-loop-less c = search needs
-
 loop-again : tie.Need-loop-again Inv-loop μ-loop
 loop-again c =
     let b = c .before .before .before in (
@@ -61,21 +46,18 @@ loop-again c =
           (c .before .before .is-closed .ensures) (c .before .if1 .left) (search needs),
     )
 
-returns-2 : tie.Need-returns-2 Inv-loop μ-loop
-returns-2 c = λ _. closing-at _ _ _ _ _ (c .before .loop .inv .1) (search needs)
-
 pub close-block-spec : {M : Type 1} → statement M
 close-block-spec =
     tie.close
     (tie.spec
     Inv-loop
     μ-loop
-    loop-holds
-    entry-in-requires
+    (λ c. (search needs, closing-at _ _ _ _ _ (c .before .pre .1 .1) (search needs)))
+    (λ c κs. search needs)
     is-closed-requires
-    returns
+    (λ c. not-so)
     add-sum
-    add-e
-    loop-less
+    (λ c. search needs)
+    (λ c. search needs)
     loop-again
-    returns-2)
+    (λ c. λ _. closing-at _ _ _ _ _ (c .before .loop .inv .1) (search needs)))

@@ -6,37 +6,19 @@ use borrow.Author.Needs.{needs}
 use Rattle.network_steady.proofs.closes.is_closed.Statement.{statement}
 use Rattle.network_steady.proofs.closes.is_closed.Tie as tie
 
-point-requires : tie.Need-point-requires
-point-requires c κs = search needs
-
-sub-point : tie.Need-sub-point
-sub-point c = search needs
-
-add-point : tie.Need-add-point
-add-point c = search needs
-
-point-requires-2 : tie.Need-point-requires-2
-point-requires-2 c κs = search needs
-
-cast-is-unclosed : tie.Need-cast-is-unclosed
-cast-is-unclosed c = omega (arith, laid-small (c .before .before .before .before .pre .0))
-
 is-unclosed-requires : tie.Need-is-unclosed-requires
 is-unclosed-requires c κs =
     let p = laid-small (c .before .before .before .before .pre .0) in
     (omega arith, omega arith, omega arith, omega arith)
 
-returns : tie.Need-returns
-returns c = search closed-answer
-
 pub is-closed-spec : {M : Type 1} → statement M
 is-closed-spec =
     tie.close
     (tie.spec
-    point-requires
-    sub-point
-    add-point
-    point-requires-2
-    cast-is-unclosed
+    (λ c κs. search needs)
+    (λ c. search needs)
+    (λ c. search needs)
+    (λ c κs. search needs)
+    (λ c. omega (arith, laid-small (c .before .before .before .before .pre .0)))
     is-unclosed-requires
-    returns)
+    (λ c. search closed-answer))

@@ -21,16 +21,18 @@ returns-4 : tie.Need-returns-4
 unfolding unclosed
 returns-4 c = search picks depth 8
 
-add-result : tie.Need-add-result
-add-result c = search needs
-
-add-result-2 : tie.Need-add-result-2
-add-result-2 c = search needs
-
 returns-5 : tie.Need-returns-5
 unfolding unclosed
 returns-5 c = search picks depth 8
 
 pub is-unclosed-spec : {M : Type 1} → statement M
 is-unclosed-spec =
-    tie.close (tie.spec returns returns-2 returns-3 returns-4 add-result add-result-2 returns-5)
+    tie.close
+    (tie.spec
+    returns
+    returns-2
+    returns-3
+    returns-4
+    (λ c. search needs)
+    (λ c. search needs)
+    returns-5)

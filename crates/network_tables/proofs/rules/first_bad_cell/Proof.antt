@@ -14,37 +14,16 @@ Inv-loop cells cellof v₀ v-end v = (v ≤ length cellof) × (first v (badCellI
 abbrev μ-loop : tie.MeasureT-loop
 μ-loop cells cellof v₀ v-end v = length cellof - v
 
-loop-holds : tie.Need-loop-holds Inv-loop μ-loop
-loop-holds c = (search needs, search firsts)
-
-is-bad-cell-requires : tie.Need-is-bad-cell-requires Inv-loop μ-loop
-is-bad-cell-requires c κs = search needs
-
-returns : tie.Need-returns Inv-loop μ-loop
-returns c = search firsts
-
-add-v : tie.Need-add-v Inv-loop μ-loop
-add-v c = search needs
-
-loop-less : tie.Need-loop-less Inv-loop μ-loop
-loop-less c = search needs
-
-loop-again : tie.Need-loop-again Inv-loop μ-loop
-loop-again c = (search needs, search firsts)
-
-returns-2 : tie.Need-returns-2 Inv-loop μ-loop
-returns-2 c = search firsts
-
 pub first-bad-cell-spec : {M : Type 1} → statement M
 first-bad-cell-spec =
     tie.close
     (tie.spec
     Inv-loop
     μ-loop
-    loop-holds
-    is-bad-cell-requires
-    returns
-    add-v
-    loop-less
-    loop-again
-    returns-2)
+    (λ c. (search needs, search firsts))
+    (λ c κs. search needs)
+    (λ c. search firsts)
+    (λ c. search needs)
+    (λ c. search needs)
+    (λ c. (search needs, search firsts))
+    (λ c. search firsts))

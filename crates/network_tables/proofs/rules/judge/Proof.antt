@@ -4,8 +4,7 @@ use Prim.Native.Nat.{_≤_}
 use native.Mathlib.Omega.{arith}
 use denote.Ref.{now}
 use Rattle.file_refusals.specs.declared.Judged.{Judged}
-use Rattle.network.specs.Network.{Network, start}
-use Rattle.network.specs.Rules.{judgedArcs, judged}
+use Rattle.network.specs.{Network.Network, Network.start, Rules.judgedArcs, Rules.judged}
 use Rattle.network.specs.Tables.{Tables, tables}
 use Rattle.network_rules.specs.Judge.{cell-taken, cells-passed, hours-taken, hours-passed, arc-taken}
 use Rattle.network_rules.specs.Judge.{arcs-passed, sum-taken, sum-passed, counted}
@@ -47,29 +46,11 @@ summed c h =
     let p = cut (cell c) in
     sum-found p (c .scan-arcs .ensures .1 (omega (arith, p .sizes .arcs)))
 
-first-bad-cell-requires : tie.Need-first-bad-cell-requires
-first-bad-cell-requires c κs = search needs
-
-cast-faulty : tie.Need-cast-faulty
-cast-faulty c = search needs
-
-faulty-requires : tie.Need-faulty-requires
-faulty-requires c κs = search needs
-
 returns : tie.Need-returns
 returns c =
     let p = cut (c .before .before .before) in
     cell-taken (p .sizes) _ _ (cell-found p (c .before .before .before .first-bad-cell .ensures))
     (c .before .if1 .taken) (c .faulty .ensures)
-
-first-bad-hours-requires : tie.Need-first-bad-hours-requires
-first-bad-hours-requires c κs = search needs
-
-cast-faulty-2 : tie.Need-cast-faulty-2
-cast-faulty-2 c = search needs
-
-faulty-requires-2 : tie.Need-faulty-requires-2
-faulty-requires-2 c κs = search needs
 
 returns-2 : tie.Need-returns-2
 returns-2 c =
@@ -80,15 +61,6 @@ returns-2 c =
     (hours-taken (p .sizes) _ _ (hours-found p (hours .first-bad-hours .ensures)) (c .before .if2 .taken)
     (c .faulty2 .ensures))
 
-scan-arcs-requires : tie.Need-scan-arcs-requires
-scan-arcs-requires c κs = search needs
-
-cast-faulty-3 : tie.Need-cast-faulty-3
-cast-faulty-3 c = omega (arith, cut (cell (c .before .before)) .small)
-
-faulty-requires-3 : tie.Need-faulty-requires-3
-faulty-requires-3 c κs = search needs
-
 returns-3 : tie.Need-returns-3
 returns-3 c =
     let arcs = c .before .before .before in
@@ -98,9 +70,6 @@ returns-3 c =
 
 cast-faulty-4 : tie.Need-cast-faulty-4
 cast-faulty-4 c = omega (arith, cut (cell (c .before .before .before .before .before .before)) .small)
-
-faulty-requires-4 : tie.Need-faulty-requires-4
-faulty-requires-4 c κs = search needs
 
 returns-4 : tie.Need-returns-4
 returns-4 c =
@@ -137,20 +106,20 @@ pub judge-spec : {M : Type 1} → statement M
 judge-spec =
     tie.close
     (tie.spec
-    first-bad-cell-requires
-    cast-faulty
-    faulty-requires
+    (λ c κs. search needs)
+    (λ c. search needs)
+    (λ c κs. search needs)
     returns
-    first-bad-hours-requires
-    cast-faulty-2
-    faulty-requires-2
+    (λ c κs. search needs)
+    (λ c. search needs)
+    (λ c κs. search needs)
     returns-2
-    scan-arcs-requires
-    cast-faulty-3
-    faulty-requires-3
+    (λ c κs. search needs)
+    (λ c. omega (arith, cut (cell (c .before .before)) .small))
+    (λ c κs. search needs)
     returns-3
     cast-faulty-4
-    faulty-requires-4
+    (λ c κs. search needs)
     returns-4
     judge-points-requires
     returns-5)

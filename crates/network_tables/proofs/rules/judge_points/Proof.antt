@@ -5,31 +5,10 @@ use borrow.Author.Needs.{needs}
 use Rattle.network_tables.proofs.rules.judge_points.Statement.{statement}
 use Rattle.network_tables.proofs.rules.judge_points.Tie as tie
 
-is-steady-requires : tie.Need-is-steady-requires
-is-steady-requires c κs = search needs
-
-returns : tie.Need-returns
-returns c = sym (c .before .is-steady .ensures (c .if1 .taken))
-
-scan-points-requires : tie.Need-scan-points-requires
-scan-points-requires c κs = search needs
-
-cast-faulty : tie.Need-cast-faulty
-cast-faulty c = search needs
-
-faulty-requires : tie.Need-faulty-requires
-faulty-requires c κs = search needs
-
 returns-2 : tie.Need-returns-2
 returns-2 c =
     point-taken refl _ _ (c .before .before .scan-points .ensures) (c .before .if2 .taken)
     (c .faulty .ensures)
-
-cast-faulty-2 : tie.Need-cast-faulty-2
-cast-faulty-2 c = search needs
-
-faulty-requires-2 : tie.Need-faulty-requires-2
-faulty-requires-2 c κs = search needs
 
 returns-3 : tie.Need-returns-3
 returns-3 c =
@@ -45,13 +24,13 @@ pub judge-points-spec : {M : Type 1} → statement M
 judge-points-spec =
     tie.close
     (tie.spec
-    is-steady-requires
-    returns
-    scan-points-requires
-    cast-faulty
-    faulty-requires
+    (λ c κs. search needs)
+    (λ c. sym (c .before .is-steady .ensures (c .if1 .taken)))
+    (λ c κs. search needs)
+    (λ c. search needs)
+    (λ c κs. search needs)
     returns-2
-    cast-faulty-2
-    faulty-requires-2
+    (λ c. search needs)
+    (λ c κs. search needs)
     returns-3
     returns-4)

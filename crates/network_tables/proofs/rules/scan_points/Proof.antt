@@ -21,9 +21,6 @@ loop-holds c =
     let pre = c .before .before .before .pre in
     all-start _ _ _ _ (pre .0) refl refl refl (pre .1 .0 .1)
 
-entry-requires : tie.Need-entry-requires Inv-loop μ-loop
-entry-requires c κs = search needs
-
 find-faults-requires : tie.Need-find-faults-requires Inv-loop μ-loop
 find-faults-requires c κs =
     let s = c .before .before .loop .inv in
@@ -40,30 +37,12 @@ add-t14 c = omega (
       (c .before .before .before .loop-test .taken) (c .before .before .entry .ensures .0),
 )
 
-returns : tie.Need-returns Inv-loop μ-loop
-returns c = search alls
-
-late-in-requires : tie.Need-late-in-requires Inv-loop μ-loop
-late-in-requires c κs = search alls
-
 add-from : tie.Need-add-from Inv-loop μ-loop
 add-from c = omega (
   arith,
   all-few _ _ _ _ _ _ _ _ (c .before .before .before .before .before .loop .inv)
       (c .before .before .before .before .loop-test .taken) (c .before .before .before .entry .ensures .0),
 )
-
-add-a : tie.Need-add-a Inv-loop μ-loop
-add-a c = search needs
-
-loop-less : tie.Need-loop-less Inv-loop μ-loop
-loop-less c = search needs
-
-loop-again : tie.Need-loop-again Inv-loop μ-loop
-loop-again c = search alls
-
-returns-2 : tie.Need-returns-2 Inv-loop μ-loop
-returns-2 c = search alls
 
 pub scan-points-spec : {M : Type 1} → statement M
 scan-points-spec =
@@ -72,13 +51,13 @@ scan-points-spec =
     Inv-loop
     μ-loop
     loop-holds
-    entry-requires
+    (λ c κs. search needs)
     find-faults-requires
     add-t14
-    returns
-    late-in-requires
+    (λ c. search alls)
+    (λ c κs. search alls)
     add-from
-    add-a
-    loop-less
-    loop-again
-    returns-2)
+    (λ c. search needs)
+    (λ c. search needs)
+    (λ c. search alls)
+    (λ c. search alls))

@@ -1,12 +1,10 @@
 -- `network_tables::steady::are_closed` meets its contract.
 use native.Mathlib.Omega.{arith}
-use borrow.Author.Tests.{not-false}
+use borrow.Author.{Tests.not-false, Needs.needs}
 use Rattle.network_tables.specs.Steady.{closing-some, closing-room, closing-more}
 use Prim.Native.Nat.{_-_, _≤_}
 use lib.ListN.{length}
-use Rattle.network_tables.specs.Cut.{bare}
-use Rattle.network_tables.specs.Steady.{Closing, closings}
-use borrow.Author.Needs.{needs}
+use Rattle.network_tables.specs.{Cut.bare, Steady.Closing, Steady.closings}
 use Rattle.network_tables.proofs.steady.are_closed.Statement.{statement}
 use Rattle.network_tables.proofs.steady.are_closed.Tie as tie
 
@@ -17,12 +15,6 @@ Inv-loop period counts ticks travels from₀ a₀ a-end from a =
 abbrev μ-loop : tie.MeasureT-loop
 μ-loop period counts ticks travels from₀ a₀ a-end from a = length counts - a
 
-loop-holds : tie.Need-loop-holds Inv-loop μ-loop
-loop-holds c = (search needs, search closings)
-
-entry-requires : tie.Need-entry-requires Inv-loop μ-loop
-entry-requires c κs = search needs
-
 is-closed-at-requires : tie.Need-is-closed-at-requires Inv-loop μ-loop
 is-closed-at-requires c κs =
     let s = c .before .before .loop .inv .1 in
@@ -32,21 +24,12 @@ is-closed-at-requires c κs =
       (omega (arith, closing-some _ _ _ _ s l (c .entry .ensures .0)), search needs),
     )
 
-returns : tie.Need-returns Inv-loop μ-loop
-returns c = search closings
-
 add-from : tie.Need-add-from Inv-loop μ-loop
 add-from c = omega (
   arith,
   closing-room _ _ _ _ (c .before .before .before .before .loop .inv .1)
       (c .before .before .before .loop-test .taken) (c .before .before .entry .ensures .0),
 )
-
-add-a : tie.Need-add-a Inv-loop μ-loop
-add-a c = search needs
-
-loop-less : tie.Need-loop-less Inv-loop μ-loop
-loop-less c = search needs
 
 loop-again : tie.Need-loop-again Inv-loop μ-loop
 loop-again c = (
@@ -56,21 +39,18 @@ loop-again c = (
       (c .before .is-closed-at .ensures (not-false _ (c .if1 .left))),
 )
 
-returns-2 : tie.Need-returns-2 Inv-loop μ-loop
-returns-2 c = λ _. search closings
-
 pub are-closed-spec : {M : Type 1} → statement M
 are-closed-spec =
     tie.close
     (tie.spec
     Inv-loop
     μ-loop
-    loop-holds
-    entry-requires
+    (λ c. (search needs, search closings))
+    (λ c κs. search needs)
     is-closed-at-requires
-    returns
+    (λ c. search closings)
     add-from
-    add-a
-    loop-less
+    (λ c. search needs)
+    (λ c. search needs)
     loop-again
-    returns-2)
+    (λ c. λ _. search closings))

@@ -4,9 +4,6 @@ use borrow.Author.Needs.{needs}
 use Rattle.network_tables.proofs.steady.count_on.Statement.{statement}
 use Rattle.network_tables.proofs.steady.count_on.Tie as tie
 
-add-result : tie.Need-add-result
-add-result c = search needs
-
 returns : tie.Need-returns
 unfolding countOn
 returns c = rw (c .if1 .taken)
@@ -16,4 +13,4 @@ unfolding countOn
 returns-2 c = rw (c .if1 .left)
 
 pub count-on-spec : {M : Type 1} → statement M
-count-on-spec = tie.close (tie.spec add-result returns returns-2)
+count-on-spec = tie.close (tie.spec (λ c. search needs) returns returns-2)

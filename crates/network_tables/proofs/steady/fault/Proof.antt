@@ -5,36 +5,6 @@ use borrow.Author.Needs.{needs}
 use Rattle.network_tables.proofs.steady.fault.Statement.{statement}
 use Rattle.network_tables.proofs.steady.fault.Tie as tie
 
-less-one-requires : tie.Need-less-one-requires
-less-one-requires c κs = search needs
-
-less-one-requires-2 : tie.Need-less-one-requires-2
-less-one-requires-2 c κs = search needs
-
-minus-requires : tie.Need-minus-requires
-minus-requires c κs = search needs
-
-plus-requires : tie.Need-plus-requires
-plus-requires c κs = search needs
-
-plus-requires-2 : tie.Need-plus-requires-2
-plus-requires-2 c κs = search needs
-
-minus-requires-2 : tie.Need-minus-requires-2
-minus-requires-2 c κs = search needs
-
-plus-requires-3 : tie.Need-plus-requires-3
-plus-requires-3 c κs = search needs
-
-sub-minus : tie.Need-sub-minus
-sub-minus c = search needs
-
-minus-requires-3 : tie.Need-minus-requires-3
-minus-requires-3 c κs = search needs
-
-plus-requires-4 : tie.Need-plus-requires-4
-plus-requires-4 c κs = search needs
-
 returns : tie.Need-returns
 returns c = λ z.
     let sum = c .before .before in
@@ -52,14 +22,14 @@ pub fault-spec : {M : Type 1} → statement M
 fault-spec =
     tie.close
     (tie.spec
-    less-one-requires
-    less-one-requires-2
-    minus-requires
-    plus-requires
-    plus-requires-2
-    minus-requires-2
-    plus-requires-3
-    sub-minus
-    minus-requires-3
-    plus-requires-4
+    (λ c κs. search needs)
+    (λ c κs. search needs)
+    (λ c κs. search needs)
+    (λ c κs. search needs)
+    (λ c κs. search needs)
+    (λ c κs. search needs)
+    (λ c κs. search needs)
+    (λ c. search needs)
+    (λ c κs. search needs)
+    (λ c κs. search needs)
     returns)

@@ -1,17 +1,11 @@
 -- `network_validate::validate::first_bad_form` meets its contract.
 use native.Mathlib.Omega.{arith}
-use Rattle.file_blocks.specs.Form.{run-taken, run-passed, run-last}
+use Rattle.file_forms.specs.Form.{run-taken, run-passed, run-last}
 use Rattle.network.specs.Decode.{laid-small}
 use Rattle.network.specs.Validate.{forms, nodes-end, arcs-end, points-end, unformed-told}
 use borrow.Author.Needs.{needs}
 use Rattle.network_validate.proofs.validate.first_bad_form.Statement.{statement}
 use Rattle.network_validate.proofs.validate.first_bad_form.Tie as tie
-
-first-bad-nodes-requires : tie.Need-first-bad-nodes-requires
-first-bad-nodes-requires c κs = search needs
-
-returns : tie.Need-returns
-returns c = search forms
 
 first-unformed-requires : tie.Need-first-unformed-requires
 first-unformed-requires c κs =
@@ -44,8 +38,8 @@ pub first-bad-form-spec : {M : Type 1} → statement M
 first-bad-form-spec =
     tie.close
     (tie.spec
-    first-bad-nodes-requires
-    returns
+    (λ c κs. search needs)
+    (λ c. search forms)
     first-unformed-requires
     returns-2
     first-unformed-requires-2

@@ -5,15 +5,6 @@ use borrow.Author.Needs.{needs}
 use Rattle.network_validate.proofs.validate.first_bad_nodes.Statement.{statement}
 use Rattle.network_validate.proofs.validate.first_bad_nodes.Tie as tie
 
-node-kind-requires : tie.Need-node-kind-requires
-node-kind-requires c κs = search needs
-
-node-per-requires : tie.Need-node-per-requires
-node-per-requires c κs = search needs
-
-node-size-requires : tie.Need-node-size-requires
-node-size-requires c κs = search needs
-
 first-unformed-requires : tie.Need-first-unformed-requires
 first-unformed-requires c κs = (
   search nodes-stored-by,
@@ -31,8 +22,8 @@ pub first-bad-nodes-spec : {M : Type 1} → statement M
 first-bad-nodes-spec =
     tie.close
     (tie.spec
-    node-kind-requires
-    node-per-requires
-    node-size-requires
+    (λ c κs. search needs)
+    (λ c κs. search needs)
+    (λ c κs. search needs)
     first-unformed-requires
     returns)

@@ -1,5 +1,5 @@
 -- `network_validate::validate::validate` meets its contract.
-use Rattle.file_blocks.specs.Form.{length-fine}
+use Rattle.file_forms.specs.Form.{length-fine}
 use native.Mathlib.Omega.{arith}
 use Rattle.network.specs.Validate.{validated}
 use Rattle.theory_loops.specs.Pick.{picks}
@@ -7,18 +7,9 @@ use borrow.Author.Needs.{needs}
 use Rattle.network_validate.proofs.validate.validate.Statement.{statement}
 use Rattle.network_validate.proofs.validate.validate.Tie as tie
 
-is-bad-length-requires : tie.Need-is-bad-length-requires
-is-bad-length-requires c κs = search needs
-
-refused-requires : tie.Need-refused-requires
-refused-requires c κs = search needs
-
 returns : tie.Need-returns
 unfolding validated
 returns c = search picks
-
-first-bad-sum-requires : tie.Need-first-bad-sum-requires
-first-bad-sum-requires c κs = search needs
 
 cast-refused : tie.Need-cast-refused
 cast-refused c = omega (
@@ -26,9 +17,6 @@ cast-refused c = omega (
   length-fine _ _ _ (c .before .before .before .is-bad-length .ensures)
       (c .before .before .if1 .left),
 )
-
-refused-requires-2 : tie.Need-refused-requires-2
-refused-requires-2 c κs = search needs
 
 returns-2 : tie.Need-returns-2
 unfolding validated
@@ -50,12 +38,12 @@ pub validate-spec : {M : Type 1} → statement M
 validate-spec =
     tie.close
     (tie.spec
-    is-bad-length-requires
-    refused-requires
+    (λ c κs. search needs)
+    (λ c κs. search needs)
     returns
-    first-bad-sum-requires
+    (λ c κs. search needs)
     cast-refused
-    refused-requires-2
+    (λ c κs. search needs)
     returns-2
     validate-first-requires
     returns-3)

@@ -5,18 +5,9 @@ use borrow.Author.Needs.{needs}
 use Rattle.network_validate.proofs.validate.validate_first.Statement.{statement}
 use Rattle.network_validate.proofs.validate.validate_first.Tie as tie
 
-is-formed-requires : tie.Need-is-formed-requires
-is-formed-requires c κs = search needs
-
-validate-header-requires : tie.Need-validate-header-requires
-validate-header-requires c κs = search needs
-
 returns : tie.Need-returns
 unfolding validatedFirst
 returns c = search picks
-
-refused-requires : tie.Need-refused-requires
-refused-requires c κs = search needs
 
 returns-2 : tie.Need-returns-2
 unfolding validatedFirst
@@ -25,4 +16,4 @@ returns-2 c = search picks
 pub validate-first-spec : {M : Type 1} → statement M
 validate-first-spec =
     tie.close
-    (tie.spec is-formed-requires validate-header-requires returns refused-requires returns-2)
+    (tie.spec (λ c κs. search needs) (λ c κs. search needs) returns (λ c κs. search needs) returns-2)

@@ -1,14 +1,11 @@
 -- `plan::borders::count_borders` meets its contract: the marked nodes passed are counted. The two arms of the
 -- branch meet, so each is taken by itself.
-use mathlib.Core.Logic.{⊎-elim}
-use mathlib.Core.Path.{_≡_}
+use mathlib.Core.{Logic.⊎-elim, Path._≡_}
 use Prim.Native.Nat.{_≤_, _-_}
 use native.Mathlib.Omega.{arith}
 use borrow.Author.Needs.{needs}
-use Rattle.network.specs.Limits.{mostNodes}
-use Rattle.network.specs.Network.{nodes, arcs}
+use Rattle.network.specs.{Limits.mostNodes, Network.nodes, Network.arcs, Town.partitionOf}
 use Rattle.network.specs.Decode.{decode, laid-sizes, laid-small}
-use Rattle.network.specs.Town.{partitionOf}
 use Rattle.plan.specs.Marks.{
   Marked,
   mark-none,
@@ -34,9 +31,6 @@ Inv-loop network marks count₀ v₀ v-end count v =
 abbrev μ-loop : tie.MeasureT-loop
 μ-loop network marks count₀ v₀ v-end count v = v-end - v
 
-mark-heads-requires : tie.Need-mark-heads-requires Inv-loop μ-loop
-mark-heads-requires c κs = (search needs, (search needs, mark-none _))
-
 loop-holds : tie.Need-loop-holds Inv-loop μ-loop
 loop-holds c = let s = c .before .before .before .pre .0 in (
   search needs,
@@ -45,18 +39,6 @@ loop-holds c = let s = c .before .before .before .pre .0 in (
   search needs,
   count-none _,
 )
-
-array-read-if1 : tie.Need-array-read-if1 Inv-loop μ-loop
-array-read-if1 c = search needs
-
-add-count : tie.Need-add-count Inv-loop μ-loop
-add-count c = omega (arith, c .before .before .loop .inv .4 .few)
-
-add-v : tie.Need-add-v Inv-loop μ-loop
-add-v c = search needs
-
-loop-less : tie.Need-loop-less Inv-loop μ-loop
-loop-less c = search needs
 
 loop-again : tie.Need-loop-again Inv-loop μ-loop
 loop-again c =
@@ -81,11 +63,11 @@ count-borders-spec =
     (tie.spec
     Inv-loop
     μ-loop
-    mark-heads-requires
+    (λ c κs. (search needs, (search needs, mark-none _)))
     loop-holds
-    array-read-if1
-    add-count
-    add-v
-    loop-less
+    (λ c. search needs)
+    (λ c. omega (arith, c .before .before .loop .inv .4 .few))
+    (λ c. search needs)
+    (λ c. search needs)
     loop-again
     returns)

@@ -1,16 +1,13 @@
 -- `plan::borders::list_borders` meets its contract: the marked nodes passed are listed. The two arms of the
 -- branch meet, so each is taken by itself.
-use mathlib.Core.Logic.{⊎-elim}
-use mathlib.Core.Path.{_≡_}
+use mathlib.Core.{Logic.⊎-elim, Path._≡_}
 use Prim.Native.Nat.{_≤_, _-_}
 use native.Mathlib.Omega.{arith}
 use lib.ListN.{length}
 use borrow.Author.Needs.{needs}
 use Rattle.theory_loops.specs.Select.{Chosen, chooses, choose-yes, choose-no, choose-end}
-use Rattle.network.specs.Limits.{mostNodes}
-use Rattle.network.specs.Network.{nodes, arcs}
+use Rattle.network.specs.{Limits.mostNodes, Network.nodes, Network.arcs, Town.partitionOf}
 use Rattle.network.specs.Decode.{decode, laid-sizes, laid-small}
-use Rattle.network.specs.Town.{partitionOf}
 use Rattle.plan.specs.Border.{isBorder}
 use Rattle.plan.specs.Marks.{Marked, mark-none, border-yes, border-no, borders-listed}
 use Rattle.plan.proofs.borders.list_borders.Statement.{statement}
@@ -28,9 +25,6 @@ Inv-loop network out₀ marks count₀ v₀ v-end out count v =
 abbrev μ-loop : tie.MeasureT-loop
 μ-loop network out₀ marks count₀ v₀ v-end out count v = v-end - v
 
-mark-heads-requires : tie.Need-mark-heads-requires Inv-loop μ-loop
-mark-heads-requires c κs = (search needs, (search needs, mark-none _))
-
 loop-holds : tie.Need-loop-holds Inv-loop μ-loop
 loop-holds c = let s = c .before .before .before .pre .0 in (
   search needs,
@@ -40,27 +34,6 @@ loop-holds c = let s = c .before .before .before .pre .0 in (
   c .before .before .before .pre .1 .1,
   search chooses,
 )
-
-array-read-if1 : tie.Need-array-read-if1 Inv-loop μ-loop
-array-read-if1 c = search needs
-
-cast-out : tie.Need-cast-out Inv-loop μ-loop
-cast-out c = search needs
-
-mul-out : tie.Need-mul-out Inv-loop μ-loop
-mul-out c = search needs
-
-element-write-out : tie.Need-element-write-out Inv-loop μ-loop
-element-write-out c = search needs
-
-add-count : tie.Need-add-count Inv-loop μ-loop
-add-count c = search needs
-
-add-v : tie.Need-add-v Inv-loop μ-loop
-add-v c = search needs
-
-loop-less : tie.Need-loop-less Inv-loop μ-loop
-loop-less c = search needs
 
 loop-again : tie.Need-loop-again Inv-loop μ-loop
 loop-again c =
@@ -89,14 +62,14 @@ list-borders-spec =
     (tie.spec
     Inv-loop
     μ-loop
-    mark-heads-requires
+    (λ c κs. (search needs, (search needs, mark-none _)))
     loop-holds
-    array-read-if1
-    cast-out
-    mul-out
-    element-write-out
-    add-count
-    add-v
-    loop-less
+    (λ c. search needs)
+    (λ c. search needs)
+    (λ c. search needs)
+    (λ c. search needs)
+    (λ c. search needs)
+    (λ c. search needs)
+    (λ c. search needs)
     loop-again
     returns)

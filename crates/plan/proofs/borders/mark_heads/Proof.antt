@@ -13,21 +13,6 @@ Inv-loop network l marks₀ a₀ a-end marks a = (a ≤ a-end) × (a-end ≡ l .
 abbrev μ-loop : tie.MeasureT-loop
 μ-loop network l marks₀ a₀ a-end marks a = a-end - a
 
-loop-holds : tie.Need-loop-holds Inv-loop μ-loop
-loop-holds c = (search needs, search needs, search needs)
-
-mark-head-requires : tie.Need-mark-head-requires Inv-loop μ-loop
-mark-head-requires c κs = search needs
-
-add-a : tie.Need-add-a Inv-loop μ-loop
-add-a c = search needs
-
-loop-less : tie.Need-loop-less Inv-loop μ-loop
-loop-less c = search needs
-
-loop-again : tie.Need-loop-again Inv-loop μ-loop
-loop-again c = (search needs, search needs, search needs)
-
 returns : tie.Need-returns Inv-loop μ-loop
 returns c = let i = c .before .loop .inv in let q = laid-sizes (c .before .before .before .pre .0) in
     mark-end _ _ _ _ (i .2) (i .0) (c .loop-test .left) (i .1 ∙ q .arcs)
@@ -35,4 +20,12 @@ returns c = let i = c .before .loop .inv in let q = laid-sizes (c .before .befor
 pub mark-heads-spec : {M : Type 1} → statement M
 mark-heads-spec =
     tie.close
-    (tie.spec Inv-loop μ-loop loop-holds mark-head-requires add-a loop-less loop-again returns)
+    (tie.spec
+    Inv-loop
+    μ-loop
+    (λ c. (search needs, search needs, search needs))
+    (λ c κs. search needs)
+    (λ c. search needs)
+    (λ c. search needs)
+    (λ c. (search needs, search needs, search needs))
+    returns)

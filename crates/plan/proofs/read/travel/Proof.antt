@@ -8,9 +8,6 @@ offset-requires : tie.Need-offset-requires
 offset-requires c κs = let e = point-in (c .before .pre .0) (c .before .pre .1) in
     (e .pos, e .fit, e .near)
 
-add-le32 : tie.Need-add-le32
-add-le32 c = omega (arith, point-in (c .before .before .pre .0) (c .before .before .pre .1))
-
 le32-requires : tie.Need-le32-requires
 le32-requires c κs = omega (arith, point-in (c .before .before .pre .0) (c .before .before .pre .1))
 
@@ -20,4 +17,10 @@ returns c =
     (rw (c .before .offset .ensures) at (c .le32 .ensures))
 
 pub travel-spec : {M : Type 1} → statement M
-travel-spec = tie.close (tie.spec offset-requires add-le32 le32-requires returns)
+travel-spec =
+    tie.close
+    (tie.spec
+    offset-requires
+    (λ c. omega (arith, point-in (c .before .before .pre .0) (c .before .before .pre .1)))
+    le32-requires
+    returns)

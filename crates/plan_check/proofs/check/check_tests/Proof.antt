@@ -1,35 +1,16 @@
 -- `plan_check::check::check_tests` meets its contract: 20 is tried first, and the tables that are filled then
 -- are those that the other tests ask for.
 use Rattle.search_chains.specs.Town.{fresh-tables}
-use Rattle.plan_check.specs.Ladder.{checks, equipped-of}
+use Rattle.plan_check.specs.{Ladder.checks, Ladder.equipped-of, Finds.finds-none}
 use mathlib.Core.Path.{_∙_}
-use Rattle.plan_check.specs.Finds.{finds-none}
 use borrow.Author.Needs.{needs}
 use Rattle.plan_check.proofs.check.check_tests.Statement.{statement}
 use Rattle.plan_check.proofs.check.check_tests.Tie as tie
-
-first-unflagged-requires : tie.Need-first-unflagged-requires
-first-unflagged-requires c κs = search needs
-
-cast-refuse : tie.Need-cast-refuse
-cast-refuse c = search needs
-
-refuse-requires : tie.Need-refuse-requires
-refuse-requires c κs = search needs
-
-refused-requires : tie.Need-refused-requires
-refused-requires c κs = search needs
 
 returns : tie.Need-returns
 returns c =
     let r = c .refused .ensures in
     (r .0 ∙ search checks, finds-none _ _ _ (r .0) (r .1))
-
-first-points-requires : tie.Need-first-points-requires
-first-points-requires c κs = search needs
-
-chain-requires : tie.Need-chain-requires
-chain-requires c κs = (search needs, search fresh-tables)
 
 check-triples-requires : tie.Need-check-triples-requires
 check-triples-requires c κs =
@@ -38,19 +19,16 @@ check-triples-requires c κs =
     (c .before .before .before .before .before .before .first-points .ensures)
     (c .before .before .before .chain .ensures) (far .before .before .before .pre .1)
 
-returns-2 : tie.Need-returns-2
-returns-2 c = search checks
-
 pub check-tests-spec : {M : Type 1} → statement M
 check-tests-spec =
     tie.close
     (tie.spec
-    first-unflagged-requires
-    cast-refuse
-    refuse-requires
-    refused-requires
+    (λ c κs. search needs)
+    (λ c. search needs)
+    (λ c κs. search needs)
+    (λ c κs. search needs)
     returns
-    first-points-requires
-    chain-requires
+    (λ c κs. search needs)
+    (λ c κs. (search needs, search fresh-tables))
     check-triples-requires
-    returns-2)
+    (λ c. search checks))

@@ -6,9 +6,6 @@ use borrow.Author.Needs.{needs}
 use Rattle.plan_check.proofs.check.check_triples.Statement.{statement}
 use Rattle.plan_check.proofs.check.check_triples.Tie as tie
 
-judge-borders-requires : tie.Need-judge-borders-requires
-judge-borders-requires c κs = search needs
-
 verdict-of-requires : tie.Need-verdict-of-requires
 verdict-of-requires c κs =
     let w = c .before .before .before .before .pre .check in
@@ -29,4 +26,4 @@ returns c =
     )
 
 pub check-triples-spec : {M : Type 1} → statement M
-check-triples-spec = tie.close (tie.spec judge-borders-requires verdict-of-requires returns)
+check-triples-spec = tie.close (tie.spec (λ c κs. search needs) verdict-of-requires returns)

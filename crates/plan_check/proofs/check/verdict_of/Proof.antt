@@ -5,9 +5,6 @@ use borrow.Author.Needs.{needs}
 use Rattle.plan_check.proofs.check.verdict_of.Statement.{statement}
 use Rattle.plan_check.proofs.check.verdict_of.Tie as tie
 
-cast-t3 : tie.Need-cast-t3
-cast-t3 c = omega (arith, c .before .before .before .pre (c .before .if1 .taken) .0)
-
 cast-t4 : tie.Need-cast-t4
 cast-t4 c = omega (arith, c .before .before .before .before .pre (c .before .before .if1 .taken) .1)
 
@@ -18,11 +15,12 @@ cast-t5 c = omega (
       .taken) .2,
 )
 
-returns : tie.Need-returns
-returns c = verdict-refused _ (c .before .before .before .if1 .taken)
-
-returns-2 : tie.Need-returns-2
-returns-2 c = verdict-accepted _ (c .if1 .left)
-
 pub verdict-of-spec : {M : Type 1} → statement M
-verdict-of-spec = tie.close (tie.spec cast-t3 cast-t4 cast-t5 returns returns-2)
+verdict-of-spec =
+    tie.close
+    (tie.spec
+    (λ c. omega (arith, c .before .before .before .pre (c .before .if1 .taken) .0))
+    cast-t4
+    cast-t5
+    (λ c. verdict-refused _ (c .before .before .before .if1 .taken))
+    (λ c. verdict-accepted _ (c .if1 .left)))

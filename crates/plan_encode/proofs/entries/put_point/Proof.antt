@@ -6,9 +6,6 @@ use borrow.Author.Needs.{needs}
 use Rattle.plan_encode.proofs.entries.put_point.Statement.{statement}
 use Rattle.plan_encode.proofs.entries.put_point.Tie as tie
 
-offset-requires : tie.Need-offset-requires
-offset-requires c κs = search needs
-
 put16-requires : tie.Need-put16-requires
 put16-requires c κs = omega
     (arith, point-fits (c .before .before .before .pre .0) (c .before .before .before .pre .1))
@@ -23,9 +20,6 @@ put32-requires c κs =
     let pre = c .before .before .before .before .before .before .before .pre in
     omega (arith, point-fits (pre .0) (pre .1))
 
-same-length : tie.Need-same-length
-same-length c = search needs
-
 returns : tie.Need-returns
 returns c =
     let far = c .before .before .before .before .before .before .before .before in
@@ -36,4 +30,4 @@ returns c =
 pub put-point-spec : {M : Type 1} → statement M
 put-point-spec =
     tie.close
-    (tie.spec offset-requires put16-requires add-put32 put32-requires same-length returns)
+    (tie.spec (λ c κs. search needs) put16-requires add-put32 put32-requires (λ c. search needs) returns)

@@ -6,9 +6,6 @@ use borrow.Author.Needs.{needs}
 use Rattle.plan_encode.proofs.frames.write_frames.Statement.{statement}
 use Rattle.plan_encode.proofs.frames.write_frames.Tie as tie
 
-frame-run-requires : tie.Need-frame-run-requires
-frame-run-requires c κs = header-room (c .before .before .pre) (omega arith)
-
 frame-run-requires-2 : tie.Need-frame-run-requires-2
 frame-run-requires-2 c κs =
     let pre = c .before .before .before .before .before .before .pre in
@@ -30,20 +27,14 @@ put-header-requires c κs =
     let pre = far .before .before .before .before .before .before .before .before .pre in
     (pre .within, (pre .number-fits, omega (arith, laid-by pre)))
 
-same-length : tie.Need-same-length
-same-length c = search needs
-
-returns : tie.Need-returns
-returns c = search framed
-
 pub write-frames-spec : {M : Type 1} → statement M
 write-frames-spec =
     tie.close
     (tie.spec
-    frame-run-requires
+    (λ c κs. header-room (c .before .before .pre) (omega arith))
     frame-run-requires-2
     frame-run-requires-3
     frame-run-requires-4
     put-header-requires
-    same-length
-    returns)
+    (λ c. search needs)
+    (λ c. search framed))

@@ -4,8 +4,7 @@ use native.Mathlib.Omega.{arith}
 use denote.Ref.{now}
 use Rattle.network.specs.Decode.{decode}
 use Rattle.plan_make.specs.Making.{borders-fit, header-within, header-made, points-few, file-few}
-use Rattle.plan_make.specs.Making.{file-long}
-use Rattle.plan_make.specs.Making.{made-short, made-whole}
+use Rattle.plan_make.specs.{Making.file-long, Making.made-short, Making.made-whole}
 use borrow.Author.Needs.{needs}
 use Rattle.plan_make.proofs.make.make_counted.Statement.{statement}
 use Rattle.plan_make.proofs.make.make_counted.Tie as tie
@@ -28,9 +27,6 @@ mul-long c =
       file-few (c .before .layout .ensures)
           (header-within (s .pre .0 .0) (s .pre .1 .1 .0) (s .pre .1 .1 .1) (s .pre .1 .1 .2)),
     )
-
-unwritten-requires : tie.Need-unwritten-requires
-unwritten-requires c κs = search needs
 
 returns : tie.Need-returns
 returns c =
@@ -70,12 +66,6 @@ cast-t24 c =
           (header-within (s .pre .0 .0) (s .pre .1 .1 .0) (s .pre .1 .1 .1) (s .pre .1 .1 .2)),
     )
 
-same-length : tie.Need-same-length
-same-length c = search needs
-
-same-length-2 : tie.Need-same-length-2
-same-length-2 c = search needs
-
 returns-2 : tie.Need-returns-2
 returns-2 c =
     let s = c .before .before .before .before .before .before .before .before .before .before .before
@@ -95,10 +85,10 @@ make-counted-spec =
     cast-t16
     layout-requires
     mul-long
-    unwritten-requires
+    (λ c κs. search needs)
     returns
     write-plan-requires
     cast-t24
-    same-length
-    same-length-2
+    (λ c. search needs)
+    (λ c. search needs)
     returns-2)

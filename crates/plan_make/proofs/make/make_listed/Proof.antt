@@ -52,16 +52,11 @@ count-points-requires c κs =
       (borders .0, s .pre .1),
     )
 
-unwritten-requires : tie.Need-unwritten-requires
-unwritten-requires c κs = search needs
-
-same-length : tie.Need-same-length
-same-length c = search needs
-
 returns : tie.Need-returns
 returns c =
     let s = c .before .before .before .before .before .before .before .before .before .before .before
-    .before .before .before .before .before .before .before .before .before .before .before .before .before in
+    .before .before .before .before .before .before .before .before .before .before .before .before
+    .before in
     into-many (decode (now (s .args .file))) (now (s .args .out)) _
     (counted-over (decode (now (s .args .file))) (c .before .before .before .before .count-points .ensures)
     (c .before .if1 .taken)) (c .unwritten .ensures)
@@ -69,8 +64,8 @@ returns c =
 make-counted-requires : tie.Need-make-counted-requires
 make-counted-requires c κs =
     let s = c .before .before .before .before .before .before .before .before .before .before .before
-    .before .before .before .before .before .before .before .before .before .before .before .before .before
-    .before .before .before .before .before .before in
+    .before .before .before .before .before .before .before .before .before .before .before .before
+    .before .before .before .before .before .before .before in
     let borders = c .before .before .before .before .before .before .before .before .before .before .before
     .before .before .before .before .before .before .list-borders .ensures in (
       (s .pre .0 .0, s .pre .0 .1),
@@ -94,15 +89,6 @@ make-counted-requires c κs =
       ),
     )
 
-same-length-2 : tie.Need-same-length-2
-same-length-2 c = search needs
-
-same-length-3 : tie.Need-same-length-3
-same-length-3 c = search needs
-
-returns-2 : tie.Need-returns-2
-returns-2 c = search needs
-
 pub make-listed-spec : {M : Type 1} → statement M
 make-listed-spec =
     tie.close
@@ -112,10 +98,10 @@ make-listed-spec =
     least-of-arcs-requires
     list-borders-requires
     count-points-requires
-    unwritten-requires
-    same-length
+    (λ c κs. search needs)
+    (λ c. search needs)
     returns
     make-counted-requires
-    same-length-2
-    same-length-3
-    returns-2)
+    (λ c. search needs)
+    (λ c. search needs)
+    (λ c. search needs))

@@ -8,12 +8,6 @@ use borrow.Author.Needs.{needs}
 use Rattle.plan_make.proofs.make.write_plan.Statement.{statement}
 use Rattle.plan_make.proofs.make.write_plan.Tie as tie
 
-write-frames-requires : tie.Need-write-frames-requires
-write-frames-requires c κs = search needs
-
-inside-words-requires : tie.Need-inside-words-requires
-inside-words-requires c κs = search needs
-
 put-borders-requires : tie.Need-put-borders-requires
 put-borders-requires c κs =
     let s = c .before .before .before .before .before .before .before .before .before .before .before
@@ -24,11 +18,7 @@ put-borders-requires c κs =
       s .pre .0,
       (
         (held-by (s .pre .1 .0) n (s .pre .1 .1), room),
-        (
-          s .pre .1 .2,
-          c .before .before .before
-              .inside-words .ensures,
-        ),
+        (s .pre .1 .2, c .before .before .before .inside-words .ensures),
       ),
     )
 
@@ -49,33 +39,27 @@ write-checks-requires c κs =
     (c .before .before .before .before .before .before .before .before .before .before .put-borders
     .ensures) (c .before .before .before .put-flags .ensures)
 
-same-length : tie.Need-same-length
-same-length c = search needs
-
-same-length-2 : tie.Need-same-length-2
-same-length-2 c = search needs
-
 returns : tie.Need-returns
 returns c =
     let s = c .before .before .before .before .before .before .before .before .before .before .before
-    .before .before .before .before .before .before .before .before .before .before .before .before .before
-    .before .before in
+    .before .before .before .before .before .before .before .before .before .before .before .before
+    .before .before .before in
     plan-made (decode (now (s .args .file))) _ _ _ _ _ _ (s .pre .1 .0) (s .pre .1 .1)
     (c .before .before .before .before .before .before .before .before .before .before .before .before
     .before .before .before .before .before .before .before .before .before .write-frames .ensures) (c
-    .before .before .before .before .before .before .before .before .before .before .before .before .before
-    .put-borders .ensures) (c .before .before .before .before .before .before .put-flags .ensures)
+    .before .before .before .before .before .before .before .before .before .before .before .before
+    .before .put-borders .ensures) (c .before .before .before .before .before .before .put-flags .ensures)
     (c .before .before .write-checks .ensures)
 
 pub write-plan-spec : {M : Type 1} → statement M
 write-plan-spec =
     tie.close
     (tie.spec
-    write-frames-requires
-    inside-words-requires
+    (λ c κs. search needs)
+    (λ c κs. search needs)
     put-borders-requires
     put-flags-requires
     write-checks-requires
-    same-length
-    same-length-2
+    (λ c. search needs)
+    (λ c. search needs)
     returns)

@@ -7,12 +7,6 @@ use borrow.Author.Needs.{needs}
 use Rattle.plan_rising.proofs.breaks.is_break.Statement.{statement}
 use Rattle.plan_rising.proofs.breaks.is_break.Tie as tie
 
-wrapping-add-u16-requires : tie.Need-wrapping-add-u16-requires
-wrapping-add-u16-requires c κs = search needs
-
-wrapping-add-u16-requires-2 : tie.Need-wrapping-add-u16-requires-2
-wrapping-add-u16-requires-2 c κs = search needs
-
 returns : tie.Need-returns
 returns c = let a = c .before .before .before .args in (
   sym (ap flag (word-falls (a .t) (a .before) _ _ (omega arith) (omega arith)
@@ -31,4 +25,4 @@ returns-2 c = let a = c .before .before .before .args in (
 
 pub is-break-spec : {M : Type 1} → statement M
 is-break-spec =
-    tie.close (tie.spec wrapping-add-u16-requires wrapping-add-u16-requires-2 returns returns-2)
+    tie.close (tie.spec (λ c κs. search needs) (λ c κs. search needs) returns returns-2)

@@ -14,39 +14,12 @@ Inv-loop plan l until done next₀ j₀ next j = Walked plan l next × (next .do
 abbrev μ-loop : tie.MeasureT-loop
 μ-loop plan l until done next₀ j₀ next j = until - j
 
-loop-holds : tie.Need-loop-holds Inv-loop μ-loop
-loop-holds c = let p = c .before .pre .1 in (p .0, refl, p .1 .0)
-
-is-sound-block-requires : tie.Need-is-sound-block-requires Inv-loop μ-loop
-is-sound-block-requires c κs = (points-stored (c .before .before .before .pre .0), omega arith)
-
-returns : tie.Need-returns Inv-loop μ-loop
-returns c = c .before .before .before .loop .inv .0
-
 step-requires : tie.Need-step-requires Inv-loop μ-loop
 step-requires c κs =
     let i = c .before .before .before .loop .inv in (
       c .before .before .before .before .before .pre .0,
-      (
-        i .0,
-        (
-          omega arith,
-          next-sound (i .0) _ _ (i .1) (c .before .is-sound-block .ensures) (c .if1 .left),
-        ),
-      ),
+      (i .0, (omega arith, next-sound (i .0) _ _ (i .1) (c .before .is-sound-block .ensures) (c .if1 .left))),
     )
-
-add-j : tie.Need-add-j Inv-loop μ-loop
-add-j c = search needs
-
-loop-less : tie.Need-loop-less Inv-loop μ-loop
-loop-less c = search needs
-
-loop-again : tie.Need-loop-again Inv-loop μ-loop
-loop-again c = let (w, e) = c .step .ensures in (w, omega arith, omega arith)
-
-returns-2 : tie.Need-returns-2 Inv-loop μ-loop
-returns-2 c = c .before .loop .inv .0
 
 pub advance-spec : {M : Type 1} → statement M
 advance-spec =
@@ -54,11 +27,11 @@ advance-spec =
     (tie.spec
     Inv-loop
     μ-loop
-    loop-holds
-    is-sound-block-requires
-    returns
+    (λ c. let p = c .before .pre .1 in (p .0, refl, p .1 .0))
+    (λ c κs. (points-stored (c .before .before .before .pre .0), omega arith))
+    (λ c. c .before .before .before .loop .inv .0)
     step-requires
-    add-j
-    loop-less
-    loop-again
-    returns-2)
+    (λ c. search needs)
+    (λ c. search needs)
+    (λ c. let (w, e) = c .step .ensures in (w, omega arith, omega arith))
+    (λ c. c .before .loop .inv .0))

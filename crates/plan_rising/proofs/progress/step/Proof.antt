@@ -16,51 +16,9 @@ here c =
     let p = c .before .before .pre in
     block-at (p .0) _ (p .1 .0) (p .1 .1 .0) _ (c .entries-in .ensures)
 
-entries-in-requires : tie.Need-entries-in-requires
-entries-in-requires c κs = let p = c .before .pre in block-begins (p .0) _ (p .1 .0) (p .1 .1 .0)
-
-sub-m : tie.Need-sub-m
-sub-m c = omega (arith, here c)
-
-add-base : tie.Need-add-base
-add-base c = omega (arith, here (c .before))
-
-mul-base : tie.Need-mul-base
-mul-base c = omega (arith, here (c .before))
-
-add-base-2 : tie.Need-add-base-2
-add-base-2 c = omega (arith, here (c .before))
-
-le16-requires : tie.Need-le16-requires
-le16-requires c κs = omega (arith, here (c .before))
-
-cast-is-break : tie.Need-cast-is-break
-cast-is-break c = search needs
-
-is-break-requires : tie.Need-is-break-requires
-is-break-requires c κs = search needs
-
-cast-behind : tie.Need-cast-behind
-cast-behind c = search needs
-
 breaks-beside-requires : tie.Need-breaks-beside-requires
 breaks-beside-requires c κs = let b = here (c .before .before .before .before) in
     (omega arith, omega arith)
-
-add-t9 : tie.Need-add-t9
-add-t9 c = search needs
-
-mul-le16 : tie.Need-mul-le16
-mul-le16 c = search needs
-
-add-le16 : tie.Need-add-le16
-add-le16 c = omega (arith, here (c .before .before .before .before .before))
-
-le16-requires-2 : tie.Need-le16-requires-2
-le16-requires-2 c κs = omega (arith, here (c .before .before .before .before .before))
-
-cast-t15 : tie.Need-cast-t15
-cast-t15 c = search needs
 
 -- the breaks of the block and those before it are small
 few : tie.Need-add-t17
@@ -95,21 +53,21 @@ pub step-spec : {M : Type 1} → statement M
 step-spec =
     tie.close
     (tie.spec
-    entries-in-requires
-    sub-m
-    add-base
-    mul-base
-    add-base-2
-    le16-requires
-    cast-is-break
-    is-break-requires
-    cast-behind
+    (λ c κs. let p = c .before .pre in block-begins (p .0) _ (p .1 .0) (p .1 .1 .0))
+    (λ c. omega (arith, here c))
+    (λ c. omega (arith, here (c .before)))
+    (λ c. omega (arith, here (c .before)))
+    (λ c. omega (arith, here (c .before)))
+    (λ c κs. omega (arith, here (c .before)))
+    (λ c. search needs)
+    (λ c κs. search needs)
+    (λ c. search needs)
     breaks-beside-requires
-    add-t9
-    mul-le16
-    add-le16
-    le16-requires-2
-    cast-t15
+    (λ c. search needs)
+    (λ c. search needs)
+    (λ c. omega (arith, here (c .before .before .before .before .before)))
+    (λ c κs. omega (arith, here (c .before .before .before .before .before)))
+    (λ c. search needs)
     add-t16
     few
     returns)

@@ -1,6 +1,5 @@
 -- `plan_rising::rising::has_room` meets its contract.
-use mathlib.Core.Path.{sym}
-use mathlib.Core.Bool.{true≢false}
+use mathlib.Core.{Path.sym, Bool.true≢false}
 use borrow.Author.Needs.{needs}
 use Rattle.plan_rising.proofs.rising.has_room.Statement.{statement}
 use Rattle.plan_rising.proofs.rising.has_room.Tie as tie
@@ -8,11 +7,5 @@ use Rattle.plan_rising.proofs.rising.has_room.Tie as tie
 returns : tie.Need-returns
 returns c e = absurd (true≢false (sym e))
 
-add-result : tie.Need-add-result
-add-result c = search needs
-
-returns-2 : tie.Need-returns-2
-returns-2 c = search needs
-
 pub has-room-spec : {M : Type 1} → statement M
-has-room-spec = tie.close (tie.spec returns add-result returns-2)
+has-room-spec = tie.close (tie.spec returns (λ c. search needs) (λ c. search needs))

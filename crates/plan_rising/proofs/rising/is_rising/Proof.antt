@@ -4,15 +4,12 @@ use Prim.Native.Nat.{_-_}
 use native.Mathlib.Omega.{arith}
 use lib.Dec.{lit<, lit≤}
 use denote.Ref.{now}
-use borrow.Author.Tests.{not-false}
+use borrow.Author.{Tests.not-false, Needs.needs}
 use Rattle.theory_travel.specs.Table.{entryAt}
-use Rattle.plan.specs.Plan.{pointCount}
-use Rattle.plan.specs.PlanDecode.{decodePlan, laid-plan, plan-small}
+use Rattle.plan.specs.{Plan.pointCount, PlanDecode.decodePlan, PlanDecode.laid-plan, PlanDecode.plan-small}
 use Rattle.plan.specs.PlanWalk.{count-there, count-read, count-may, count-on}
-use Rattle.plan_rising.specs.Progress.{walked-none}
+use Rattle.plan_rising.specs.{Progress.walked-none, Rising.holding-end}
 use Rattle.plan_rising.specs.Rising.{Holding, Kept, risen-no, holding-none, holding-few, holding-more}
-use Rattle.plan_rising.specs.Rising.{holding-end}
-use borrow.Author.Needs.{needs}
 use Rattle.plan_rising.proofs.rising.is_rising.Statement.{statement}
 use Rattle.plan_rising.proofs.rising.is_rising.Tie as tie
 
@@ -37,9 +34,6 @@ new-requires : tie.Need-new-requires Inv-loop μ-loop
 new-requires c κs =
     (lit< tt, lit≤ tt, omega (arith, laid-plan (c .before .pre), plan-small (c .before .pre)))
 
-start-requires : tie.Need-start-requires Inv-loop μ-loop
-start-requires c κs = search needs
-
 loop-holds : tie.Need-loop-holds Inv-loop μ-loop
 loop-holds c = let s = c .before .before .before .pre in
     holding-none s _ _ (c .before .new .ensures) (walked-none s _ (c .start .ensures))
@@ -50,9 +44,6 @@ field16-requires c κs = count-there (start c .pre) (c .loop-test .taken) (c .be
 is-kept-requires : tie.Need-is-kept-requires Inv-loop μ-loop
 is-kept-requires c κs = let w = c .before .before .loop .inv .walked in
     (start (c .before) .pre, (w .room, c .field16 .ensures .1))
-
-returns : tie.Need-returns Inv-loop μ-loop
-returns c = risen-no (start (c .before .before .before) .pre)
 
 -- the profile's points are so
 kept : (c : tie.Else1 Inv-loop μ-loop) → let d = c .before .before in
@@ -77,12 +68,6 @@ advance-requires c κs = let d = c .before .before .before .before in
     let r = kept (c .before) .room in
     (start d .pre, (w .walked, (omega (arith, w .done-is), omega arith)))
 
-returns-2 : tie.Need-returns-2 Inv-loop μ-loop
-returns-2 c = risen-no (start (c .before .before .before .before .before .before) .pre)
-
-has-points-requires : tie.Need-has-points-requires Inv-loop μ-loop
-has-points-requires c κs = search needs
-
 add-some : tie.Need-add-some Inv-loop μ-loop
 add-some c = let d = c .before .before .before .before .before .before .before in omega (
   arith,
@@ -102,9 +87,6 @@ add-k : tie.Need-add-k Inv-loop μ-loop
 add-k c = let d = c .before .before .before .before .before .before .before .before in
     omega (arith, plan-small (start d .pre), d .loop-test .taken)
 
-loop-less : tie.Need-loop-less Inv-loop μ-loop
-loop-less c = search needs
-
 loop-again : tie.Need-loop-again Inv-loop μ-loop
 loop-again c = let e = c .before .before .before .before .before in
     let d = e .before .before .before in
@@ -113,9 +95,6 @@ loop-again c = let e = c .before .before .before .before .before in
     (c .before .before .before .advance .ensures) (c .before .before .if2 .left)
     (c .before .has-points .ensures .0)
     (count-on (start d .pre) (d .loop-test .taken) (d .before .loop .inv .counts-at) (c .next .ensures))
-
-returns-3 : tie.Need-returns-3 Inv-loop μ-loop
-returns-3 c = risen-no (c .before .before .before .before .before .before .before .pre)
 
 returns-4 : tie.Need-returns-4 Inv-loop μ-loop
 returns-4 c = let d = c .before .before .before in
@@ -129,21 +108,21 @@ is-rising-spec =
     Inv-loop
     μ-loop
     new-requires
-    start-requires
+    (λ c κs. search needs)
     loop-holds
     field16-requires
     is-kept-requires
-    returns
+    (λ c. risen-no (start (c .before .before .before) .pre))
     add-blocks
     blocks-requires
     advance-requires
-    returns-2
-    has-points-requires
+    (λ c. risen-no (start (c .before .before .before .before .before .before) .pre))
+    (λ c κs. search needs)
     add-some
     add-from
     next-requires
     add-k
-    loop-less
+    (λ c. search needs)
     loop-again
-    returns-3
+    (λ c. risen-no (c .before .before .before .before .before .before .before .pre))
     returns-4)

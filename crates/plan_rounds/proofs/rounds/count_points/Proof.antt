@@ -1,12 +1,10 @@
 use mathlib.Core.Path.{_≡_, refl, _∙_}
 use denote.Ref.{now}
-use Rattle.network.specs.Town.{partitionOf}
-use Rattle.plan.specs.Border.{borderCount}
+use Rattle.network.specs.{Town.partitionOf, Decode.decode}
+use Rattle.plan.specs.{Border.borderCount, PlanLimits.mostProfilePoints}
 use Prim.Native.Nat.{_-_, _≤_, _<_}
 use native.Mathlib.Omega.{arith}
 use lib.ListN.{length}
-use Rattle.network.specs.Decode.{decode}
-use Rattle.plan.specs.PlanLimits.{mostProfilePoints}
 use Rattle.plan_rounds.specs.Rounds.{pointsBefore, counted-none, counted-all, counted-many}
 use Rattle.plan_rounds.specs.Rounds.{rows-low, counted-more, counted-few}
 use borrow.Author.Needs.{needs}
@@ -55,9 +53,6 @@ add-seen c =
           (c .before .before .before .before .travels-to .ensures .0) (c .count-rows .ensures),
     )
 
-same-length : tie.Need-same-length Inv-loop μ-loop
-same-length c = search needs
-
 returns : tie.Need-returns Inv-loop μ-loop
 returns c =
     let s = c .before .before .before .before .before .before .before .before .before .before .before .before
@@ -69,12 +64,6 @@ returns c =
     (c .before .before .before .before .before .travels-to .ensures .0) (at .inv .2) (c .before .count-rows
     .ensures))
     (omega arith) (c .if1 .taken)
-
-add-i : tie.Need-add-i Inv-loop μ-loop
-add-i c = search needs
-
-loop-less : tie.Need-loop-less Inv-loop μ-loop
-loop-less c = search needs
 
 loop-again : tie.Need-loop-again Inv-loop μ-loop
 loop-again c =
@@ -91,9 +80,6 @@ loop-again c =
       omega (arith, told .2, at .inv .4),
     )
 
-same-length-2 : tie.Need-same-length-2 Inv-loop μ-loop
-same-length-2 c = search needs
-
 returns-2 : tie.Need-returns-2 Inv-loop μ-loop
 returns-2 c =
     let s = c .before .before .before .before in
@@ -109,10 +95,10 @@ count-points-spec =
     travels-to-requires
     count-rows-requires
     add-seen
-    same-length
+    (λ c. search needs)
     returns
-    add-i
-    loop-less
+    (λ c. search needs)
+    (λ c. search needs)
     loop-again
-    same-length-2
+    (λ c. search needs)
     returns-2)

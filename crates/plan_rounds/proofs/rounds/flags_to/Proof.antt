@@ -15,9 +15,6 @@ element-copy-out-wide c =
     let s = c .before .before in
     border-index (s .pre .0) (s .pre .1 .0)
 
-wide-requires : tie.Need-wide-requires
-wide-requires c κs = search needs
-
 least-travels-requires : tie.Need-least-travels-requires
 least-travels-requires c κs =
     let s = c .before .before .before .before .before .before .before .before in (
@@ -49,9 +46,6 @@ flag-border-requires c κs =
       ),
     )
 
-same-length : tie.Need-same-length
-same-length c = search needs
-
 returns : tie.Need-returns
 returns c =
     let s = c .before .before .before .before .before .before .before .before .before .before
@@ -71,8 +65,8 @@ flags-to-spec =
     (tie.spec
     mul-wide
     element-copy-out-wide
-    wide-requires
+    (λ c κs. search needs)
     least-travels-requires
     flag-border-requires
-    same-length
+    (λ c. search needs)
     returns)

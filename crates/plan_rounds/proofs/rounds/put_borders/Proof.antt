@@ -6,8 +6,7 @@ use lib.ListN.{length}
 use Rattle.network.specs.Decode.{decode}
 use Rattle.plan_rounds.specs.Rounds.{pointsBefore, PutTo, counted-none, put-none, put-more, rows-low}
 use Rattle.plan_rounds.specs.Rounds.{profiles-few, profiles-room, points-room, listed, put-kept}
-use Rattle.plan_rounds.specs.Rounds.{put-end}
-use Rattle.plan_rounds.specs.Rounds.{border-index}
+use Rattle.plan_rounds.specs.{Rounds.put-end, Rounds.border-index}
 use borrow.Author.Needs.{needs}
 use Rattle.plan_rounds.proofs.rounds.put_borders.Statement.{statement}
 use Rattle.plan_rounds.proofs.rounds.put_borders.Tie as tie
@@ -67,10 +66,7 @@ put-rows-requires c κs =
       (town .small, put-kept (s .pre .1 .0 .1) (at .inv .3)),
       (
         (told .2 ∙ at .inv .1 ∙ s .pre .1 .1 .0, rows-low town h w),
-        (
-          profiles-room town held (test .taken) refl,
-          points-room town held (test .taken) w (at .inv .2),
-        ),
+        (profiles-room town held (test .taken) refl, points-room town held (test .taken) w (at .inv .2)),
       ),
     )
 
@@ -84,9 +80,6 @@ add-i c =
       arith,
       border-index (s .pre .0) (listed (s .pre .0 .ready .primed .town) (s .pre .1 .0 .0) (test .taken)),
     )
-
-loop-less : tie.Need-loop-less Inv-loop μ-loop
-loop-less c = search needs
 
 loop-again : tie.Need-loop-again Inv-loop μ-loop
 loop-again c =
@@ -102,12 +95,6 @@ loop-again c =
     let m = put-more town (s .pre .1 .0 .0) (test .taken) (told .0 .worked) (at .inv .3) flags refl
     (at .inv .2) (c .before .before .put-rows .ensures) in
     (omega arith, told .2 ∙ at .inv .1, m .0, m .1, omega (arith, told .3, at .inv .4))
-
-same-length : tie.Need-same-length Inv-loop μ-loop
-same-length c = c .before .loop .inv .1
-
-same-length-2 : tie.Need-same-length-2 Inv-loop μ-loop
-same-length-2 c = c .before .loop .inv .3 .long
 
 returns : tie.Need-returns Inv-loop μ-loop
 returns c =
@@ -125,8 +112,8 @@ put-borders-spec =
     mul-put-rows
     put-rows-requires
     add-i
-    loop-less
+    (λ c. search needs)
     loop-again
-    same-length
-    same-length-2
+    (λ c. c .before .loop .inv .1)
+    (λ c. c .before .loop .inv .3 .long)
     returns)

@@ -1,7 +1,6 @@
 use mathlib.Core.Path.{_≡_}
 use Prim.Native.Nat.{_-_, _≤_}
-use native.Mathlib.Omega.{arith}
-use native.Mathlib.Nat.{mul-le-mul}
+use native.Mathlib.{Omega.arith, Nat.mul-le-mul}
 use denote.Ref.{now}
 use Rattle.theory_loops.specs.Total.{total, totals}
 use Rattle.network.specs.Limits.{mostNodes}
@@ -15,12 +14,6 @@ Inv-loop l work seen₀ u₀ u-end seen u = (u ≤ l .nodes) × (seen ≡ total 
 
 abbrev μ-loop : tie.MeasureT-loop
 μ-loop l work seen₀ u₀ u-end seen u = l .nodes - u
-
-loop-holds : tie.Need-loop-holds Inv-loop μ-loop
-loop-holds c = (search needs, search totals)
-
-row-points-requires : tie.Need-row-points-requires Inv-loop μ-loop
-row-points-requires c κs = search needs
 
 add-seen : tie.Need-add-seen Inv-loop μ-loop
 add-seen c =
@@ -36,28 +29,16 @@ add-seen c =
       mul-le-mul u (s .pre .0 .period-most),
     )
 
-add-u : tie.Need-add-u Inv-loop μ-loop
-add-u c = search needs
-
-loop-less : tie.Need-loop-less Inv-loop μ-loop
-loop-less c = search needs
-
-loop-again : tie.Need-loop-again Inv-loop μ-loop
-loop-again c = (search needs, search totals)
-
-returns : tie.Need-returns Inv-loop μ-loop
-returns c = search totals
-
 pub count-rows-spec : {M : Type 1} → statement M
 count-rows-spec =
     tie.close
     (tie.spec
     Inv-loop
     μ-loop
-    loop-holds
-    row-points-requires
+    (λ c. (search needs, search totals))
+    (λ c κs. search needs)
     add-seen
-    add-u
-    loop-less
-    loop-again
-    returns)
+    (λ c. search needs)
+    (λ c. search needs)
+    (λ c. (search needs, search totals))
+    (λ c. search totals))

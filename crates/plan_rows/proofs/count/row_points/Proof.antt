@@ -6,35 +6,11 @@ use borrow.Author.Needs.{needs}
 use Rattle.plan_rows.proofs.count.row_points.Statement.{statement}
 use Rattle.plan_rows.proofs.count.row_points.Tie as tie
 
-row-place-requires : tie.Need-row-place-requires
-row-place-requires c κs = search needs
-
-mul-if1 : tie.Need-mul-if1
-mul-if1 c = search needs
-
-shared-slice-read-if1 : tie.Need-shared-slice-read-if1
-shared-slice-read-if1 c = search needs
-
 returns : tie.Need-returns
 returns c =
     let s = c .before .before .before .before in
     sym (points-none (s .args .l .period) (now (s .args .work)) (s .args .u)
     (at-place _ _ _ _ (c .before .before .row-place .ensures .0) (c .if1 .taken)))
-
-add-e : tie.Need-add-e
-add-e c = search needs
-
-mul-point-count : tie.Need-mul-point-count
-mul-point-count c = search needs
-
-sub-point-count : tie.Need-sub-point-count
-sub-point-count c = search needs
-
-part-point-count-start : tie.Need-part-point-count-start
-part-point-count-start c = search needs
-
-part-point-count-end : tie.Need-part-point-count-end
-part-point-count-end c = search needs
 
 point-count-requires : tie.Need-point-count-requires
 point-count-requires c κs =
@@ -56,14 +32,14 @@ pub row-points-spec : {M : Type 1} → statement M
 row-points-spec =
     tie.close
     (tie.spec
-    row-place-requires
-    mul-if1
-    shared-slice-read-if1
+    (λ c κs. search needs)
+    (λ c. search needs)
+    (λ c. search needs)
     returns
-    add-e
-    mul-point-count
-    sub-point-count
-    part-point-count-start
-    part-point-count-end
+    (λ c. search needs)
+    (λ c. search needs)
+    (λ c. search needs)
+    (λ c. search needs)
+    (λ c. search needs)
     point-count-requires
     returns-2)

@@ -15,33 +15,6 @@ Inv-loop row a b out₀ k q at₀ x₀ out at x = (a ≤ x) × (x ≤ b) × PutP
 abbrev μ-loop : tie.MeasureT-loop
 μ-loop row a b out₀ k q at₀ x₀ out at x = b - x
 
-loop-holds : tie.Need-loop-holds Inv-loop μ-loop
-loop-holds c = (search needs, search needs, put-none refl)
-
-sub-turn : tie.Need-sub-turn Inv-loop μ-loop
-sub-turn c = search needs
-
-mul-turn : tie.Need-mul-turn Inv-loop μ-loop
-mul-turn c = search needs
-
-shared-slice-read-turn : tie.Need-shared-slice-read-turn Inv-loop μ-loop
-shared-slice-read-turn c = search needs
-
-mul-turn-2 : tie.Need-mul-turn-2 Inv-loop μ-loop
-mul-turn-2 c = search needs
-
-shared-slice-read-turn-2 : tie.Need-shared-slice-read-turn-2 Inv-loop μ-loop
-shared-slice-read-turn-2 c = search needs
-
-add-turn : tie.Need-add-turn Inv-loop μ-loop
-add-turn c = search needs
-
-mul-turn-3 : tie.Need-mul-turn-3 Inv-loop μ-loop
-mul-turn-3 c = search needs
-
-shared-slice-read-turn-3 : tie.Need-shared-slice-read-turn-3 Inv-loop μ-loop
-shared-slice-read-turn-3 c = search needs
-
 turn-requires : tie.Need-turn-requires Inv-loop μ-loop
 turn-requires c κs =
     let s = c .before .before .before .before .before .before .before in
@@ -62,12 +35,6 @@ put-tick-requires c κs =
       (omega arith, omega (arith, e, room), e),
     )
 
-add-x : tie.Need-add-x Inv-loop μ-loop
-add-x c = search needs
-
-loop-less : tie.Need-loop-less Inv-loop μ-loop
-loop-less c = search needs
-
 loop-again : tie.Need-loop-again Inv-loop μ-loop
 loop-again c = (
   omega arith,
@@ -75,9 +42,6 @@ loop-again c = (
   put-join (c .before .before .before .before .before .before .before .before .before .loop .inv .2)
       (c .before .before .put-tick .ensures),
 )
-
-same-length : tie.Need-same-length Inv-loop μ-loop
-same-length c = c .before .loop .inv .2 .long
 
 returns : tie.Need-returns Inv-loop μ-loop
 returns c =
@@ -90,19 +54,19 @@ put-each-spec =
     (tie.spec
     Inv-loop
     μ-loop
-    loop-holds
-    sub-turn
-    mul-turn
-    shared-slice-read-turn
-    mul-turn-2
-    shared-slice-read-turn-2
-    add-turn
-    mul-turn-3
-    shared-slice-read-turn-3
+    (λ c. (search needs, search needs, put-none refl))
+    (λ c. search needs)
+    (λ c. search needs)
+    (λ c. search needs)
+    (λ c. search needs)
+    (λ c. search needs)
+    (λ c. search needs)
+    (λ c. search needs)
+    (λ c. search needs)
     turn-requires
     put-tick-requires
-    add-x
-    loop-less
+    (λ c. search needs)
+    (λ c. search needs)
     loop-again
-    same-length
+    (λ c. c .before .loop .inv .2 .long)
     returns)

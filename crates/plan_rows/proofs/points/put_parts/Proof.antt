@@ -1,7 +1,6 @@
 use mathlib.Core.Path.{refl}
 use Prim.Native.Nat.{_-_, _≤_}
-use native.Mathlib.Nat.{le-of-lt}
-use native.Mathlib.Omega.{arith}
+use native.Mathlib.{Nat.le-of-lt, Omega.arith}
 use Rattle.plan_rows.specs.Points.{PutPoints, put-none, put-join, put-end, room-kept, part-room}
 use borrow.Author.Needs.{needs}
 use Rattle.plan_rows.proofs.points.put_parts.Statement.{statement}
@@ -12,12 +11,6 @@ Inv-loop row last out₀ k q at₀ x₀ out at x = (1 ≤ x) × (x ≤ last) × 
 
 abbrev μ-loop : tie.MeasureT-loop
 μ-loop row last out₀ k q at₀ x₀ out at x = last - x
-
-loop-holds : tie.Need-loop-holds Inv-loop μ-loop
-loop-holds c = (search needs, search needs, put-none refl)
-
-part-end-requires : tie.Need-part-end-requires Inv-loop μ-loop
-part-end-requires c κs = search needs
 
 put-part-requires : tie.Need-put-part-requires Inv-loop μ-loop
 put-part-requires c κs =
@@ -33,9 +26,6 @@ put-part-requires c κs =
       ),
     )
 
-loop-less : tie.Need-loop-less Inv-loop μ-loop
-loop-less c = search needs
-
 loop-again : tie.Need-loop-again Inv-loop μ-loop
 loop-again c = (
   omega arith,
@@ -43,9 +33,6 @@ loop-again c = (
   put-join (c .before .before .before .before .before .before .loop .inv .2) (c .before .before .put-part
       .ensures),
 )
-
-same-length : tie.Need-same-length Inv-loop μ-loop
-same-length c = c .before .loop .inv .2 .long
 
 returns : tie.Need-returns Inv-loop μ-loop
 returns c =
@@ -58,10 +45,10 @@ put-parts-spec =
     (tie.spec
     Inv-loop
     μ-loop
-    loop-holds
-    part-end-requires
+    (λ c. (search needs, search needs, put-none refl))
+    (λ c κs. search needs)
     put-part-requires
-    loop-less
+    (λ c. search needs)
     loop-again
-    same-length
+    (λ c. c .before .loop .inv .2 .long)
     returns)

@@ -9,22 +9,10 @@ use borrow.Author.Needs.{needs}
 use Rattle.plan_rows.proofs.points.put_points.Statement.{statement}
 use Rattle.plan_rows.proofs.points.put_points.Tie as tie
 
-shared-slice-read-put-point : tie.Need-shared-slice-read-put-point
-shared-slice-read-put-point c = search needs
-
 put-point-requires : tie.Need-put-point-requires
 put-point-requires c κs =
     let s = c .before .before .before .before in
     (s .pre .0 .1, first-room (s .args .k) (now (s .args .row)) (s .args .q) (s .pre .0 .0 .some) (s .pre .1))
-
-sub-last : tie.Need-sub-last
-sub-last c = search needs
-
-add-result : tie.Need-add-result
-add-result c = search needs
-
-same-length : tie.Need-same-length
-same-length c = search needs
 
 returns : tie.Need-returns
 returns c =
@@ -33,9 +21,6 @@ returns c =
     put-end
     (first-put (s .args .k) row (s .args .q) (s .pre .0 .0 .some) (s .pre .1) refl (omega arith)
     (c .before .before .before .put-point .ensures)) (omega (arith, s .pre .0 .0 .some)) (omega arith)
-
-add-put-parts : tie.Need-add-put-parts
-add-put-parts c = search needs
 
 put-parts-requires : tie.Need-put-parts-requires
 put-parts-requires c κs =
@@ -53,24 +38,6 @@ put-parts-requires c κs =
             (all-room (s .args .k) row (s .args .q) (s .pre .0 .0 .some) (s .pre .1)),
       ),
     )
-
-sub-turn : tie.Need-sub-turn
-sub-turn c = search needs
-
-mul-turn : tie.Need-mul-turn
-mul-turn c = search needs
-
-shared-slice-read-turn : tie.Need-shared-slice-read-turn
-shared-slice-read-turn c = search needs
-
-mul-turn-2 : tie.Need-mul-turn-2
-mul-turn-2 c = search needs
-
-shared-slice-read-turn-2 : tie.Need-shared-slice-read-turn-2
-shared-slice-read-turn-2 c = search needs
-
-shared-slice-read-turn-3 : tie.Need-shared-slice-read-turn-3
-shared-slice-read-turn-3 c = search needs
 
 turn-requires : tie.Need-turn-requires
 turn-requires c κs =
@@ -99,17 +66,14 @@ put-tick-requires c κs =
     (all-room (s .args .k) row (s .args .q) some (s .pre .1)) in
     ((s .pre .0 .0, room-kept (s .pre .0 .1) parts), (omega arith, omega (arith, e, room), e))
 
-same-length-2 : tie.Need-same-length-2
-same-length-2 c = search needs
-
 returns-2 : tie.Need-returns-2
 returns-2 c =
     let s = c .before .before .before .before .before .before .before .before .before .before .before .before
     .before .before .before .before .before .before .before .before in
     let row = now (s .args .row) in
     let first = first-put (s .args .k) row (s .args .q) (s .pre .0 .0 .some) (s .pre .1) refl (omega arith)
-    (c .before .before .before .before .before .before .before .before .before .before .before .before .before
-    .before .before .put-point .ensures) in
+    (c .before .before .before .before .before .before .before .before .before .before .before .before
+    .before .before .before .put-point .ensures) in
     let parts = put-join first (c .before .before .before .before .before .before .before .before .before
     .before .put-parts .ensures) in
     put-end (put-join parts (c .before .before .put-tick .ensures)) (omega (arith, s .pre .0 .0 .some))
@@ -119,21 +83,21 @@ pub put-points-spec : {M : Type 1} → statement M
 put-points-spec =
     tie.close
     (tie.spec
-    shared-slice-read-put-point
+    (λ c. search needs)
     put-point-requires
-    sub-last
-    add-result
-    same-length
+    (λ c. search needs)
+    (λ c. search needs)
+    (λ c. search needs)
     returns
-    add-put-parts
+    (λ c. search needs)
     put-parts-requires
-    sub-turn
-    mul-turn
-    shared-slice-read-turn
-    mul-turn-2
-    shared-slice-read-turn-2
-    shared-slice-read-turn-3
+    (λ c. search needs)
+    (λ c. search needs)
+    (λ c. search needs)
+    (λ c. search needs)
+    (λ c. search needs)
+    (λ c. search needs)
     turn-requires
     put-tick-requires
-    same-length-2
+    (λ c. search needs)
     returns-2)

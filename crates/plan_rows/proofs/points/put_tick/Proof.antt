@@ -10,24 +10,6 @@ returns c =
     let s = c .before .before .before in
     tick-none (s .pre .1 .2) (c .if1 .taken)
 
-cast-put-point : tie.Need-cast-put-point
-cast-put-point c = search needs
-
-mul-put-point : tie.Need-mul-put-point
-mul-put-point c = search needs
-
-shared-slice-read-put-point : tie.Need-shared-slice-read-put-point
-shared-slice-read-put-point c = search needs
-
-put-point-requires : tie.Need-put-point-requires
-put-point-requires c κs = search needs
-
-add-result : tie.Need-add-result
-add-result c = search needs
-
-same-length : tie.Need-same-length
-same-length c = search needs
-
 returns-2 : tie.Need-returns-2
 returns-2 c =
     let s = c .before .before .before .before .before .before .before .before in
@@ -40,10 +22,10 @@ put-tick-spec =
     tie.close
     (tie.spec
     returns
-    cast-put-point
-    mul-put-point
-    shared-slice-read-put-point
-    put-point-requires
-    add-result
-    same-length
+    (λ c. search needs)
+    (λ c. search needs)
+    (λ c. search needs)
+    (λ c κs. search needs)
+    (λ c. search needs)
+    (λ c. search needs)
     returns-2)

@@ -1,7 +1,6 @@
-use mathlib.Core.Path.{refl}
+use mathlib.Core.{Path.refl, Logic._≢_}
 use native.Mathlib.Omega.{arith}
 use denote.Ref.{now}
-use mathlib.Core.Logic.{_≢_}
 use Rattle.theory_loops.specs.Grid.{gridAt}
 use Rattle.theory_paths.specs.Earliest.{never}
 use Rattle.plan_rows.specs.Rows.{at-place, at-row, points-few, row-low, row-turns, row-next, row-put}
@@ -9,21 +8,6 @@ use Rattle.plan_rows.specs.Rows.{row-never}
 use borrow.Author.Needs.{needs}
 use Rattle.plan_rows.proofs.rows.put_row.Statement.{statement}
 use Rattle.plan_rows.proofs.rows.put_row.Tie as tie
-
-row-place-requires : tie.Need-row-place-requires
-row-place-requires c κs = search needs
-
-mul-if1 : tie.Need-mul-if1
-mul-if1 c = search needs
-
-shared-slice-read-if1 : tie.Need-shared-slice-read-if1
-shared-slice-read-if1 c = search needs
-
-put-count-requires : tie.Need-put-count-requires
-put-count-requires c κs = search needs
-
-same-length : tie.Need-same-length
-same-length c = search needs
 
 returns : tie.Need-returns
 returns c =
@@ -33,21 +17,6 @@ returns c =
     (c .before .before .before .before .before .before .row-place .ensures .0)
     (c .before .before .before .before .if1 .taken))
     (s .pre .1 .1 .0) (omega arith) (c .before .before .put-count .ensures)
-
-add-e : tie.Need-add-e
-add-e c = search needs
-
-mul-put-points : tie.Need-mul-put-points
-mul-put-points c = search needs
-
-sub-put-points : tie.Need-sub-put-points
-sub-put-points c = search needs
-
-part-put-points-start : tie.Need-part-put-points-start
-part-put-points-start c = search needs
-
-part-put-points-end : tie.Need-part-put-points-end
-part-put-points-end c = search needs
 
 put-points-requires : tie.Need-put-points-requires
 put-points-requires c κs =
@@ -104,12 +73,6 @@ cast-put-count c =
       s .pre .1 .0 .2 .few,
     )
 
-put-count-requires-2 : tie.Need-put-count-requires-2
-put-count-requires-2 c κs = search needs
-
-same-length-2 : tie.Need-same-length-2
-same-length-2 c = search needs
-
 returns-2 : tie.Need-returns-2
 returns-2 c =
     let s = c .before .before .before .before .before .before .before .before .before .before .before .before
@@ -130,20 +93,20 @@ pub put-row-spec : {M : Type 1} → statement M
 put-row-spec =
     tie.close
     (tie.spec
-    row-place-requires
-    mul-if1
-    shared-slice-read-if1
-    put-count-requires
-    same-length
+    (λ c κs. search needs)
+    (λ c. search needs)
+    (λ c. search needs)
+    (λ c κs. search needs)
+    (λ c. search needs)
     returns
-    add-e
-    mul-put-points
-    sub-put-points
-    part-put-points-start
-    part-put-points-end
+    (λ c. search needs)
+    (λ c. search needs)
+    (λ c. search needs)
+    (λ c. search needs)
+    (λ c. search needs)
     put-points-requires
     sub-put-count
     cast-put-count
-    put-count-requires-2
-    same-length-2
+    (λ c κs. search needs)
+    (λ c. search needs)
     returns-2)

@@ -12,12 +12,6 @@ Inv-loop l work out₀ k c q at₀ u₀ u-end out at u =
 abbrev μ-loop : tie.MeasureT-loop
 μ-loop l work out₀ k c q at₀ u₀ u-end out at u = l .nodes - u
 
-loop-holds : tie.Need-loop-holds Inv-loop μ-loop
-loop-holds c = (search needs, rows-none)
-
-add-put-row : tie.Need-add-put-row Inv-loop μ-loop
-add-put-row c = search needs
-
 put-row-requires : tie.Need-put-row-requires Inv-loop μ-loop
 put-row-requires c κs =
     let s = c .before .before .before .before .before in
@@ -30,20 +24,11 @@ put-row-requires c κs =
       ),
     )
 
-add-u : tie.Need-add-u Inv-loop μ-loop
-add-u c = search needs
-
-loop-less : tie.Need-loop-less Inv-loop μ-loop
-loop-less c = search needs
-
 loop-again : tie.Need-loop-again Inv-loop μ-loop
 loop-again c = (
   omega arith,
   rows-more (c .before .before .before .before .before .loop .inv .1) (c .before .before .put-row .ensures),
 )
-
-same-length : tie.Need-same-length Inv-loop μ-loop
-same-length c = c .before .loop .inv .1 .long
 
 returns : tie.Need-returns Inv-loop μ-loop
 returns c =
@@ -56,11 +41,11 @@ put-rows-spec =
     (tie.spec
     Inv-loop
     μ-loop
-    loop-holds
-    add-put-row
+    (λ c. (search needs, rows-none))
+    (λ c. search needs)
     put-row-requires
-    add-u
-    loop-less
+    (λ c. search needs)
+    (λ c. search needs)
     loop-again
-    same-length
+    (λ c. c .before .loop .inv .1 .long)
     returns)

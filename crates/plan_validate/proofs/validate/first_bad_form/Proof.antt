@@ -1,14 +1,11 @@
 -- `plan_validate::validate::first_bad_form` meets its contract: each run's first block out of its form
 -- decides, or leaves the answer to the next run.
 use native.Mathlib.Omega.{arith}
-use Rattle.file_blocks.specs.Form.{run-taken, run-passed, run-last}
+use Rattle.file_forms.specs.Form.{run-taken, run-passed, run-last}
 use Rattle.plan.specs.PlanDecode.{plan-small}
 use Rattle.plan.specs.PlanValidate.{forms, flags-end, counts-end, points-end, unformed-told}
 use Rattle.plan_validate.proofs.validate.first_bad_form.Statement.{statement}
 use Rattle.plan_validate.proofs.validate.first_bad_form.Tie as tie
-
-first-unformed-requires : tie.Need-first-unformed-requires
-first-unformed-requires c κs = (search forms, omega (arith, plan-small (c .before .pre)))
 
 returns : tie.Need-returns
 returns c = let s = c .before .before .before .before .pre in
@@ -47,7 +44,7 @@ pub first-bad-form-spec : {M : Type 1} → statement M
 first-bad-form-spec =
     tie.close
     (tie.spec
-    first-unformed-requires
+    (λ c κs. (search forms, omega (arith, plan-small (c .before .pre))))
     returns
     first-unformed-requires-2
     returns-2

@@ -2,36 +2,17 @@
 -- answer to the rules.
 use native.Mathlib.Omega.{arith}
 use borrow.Author.Needs.{needs}
-use Rattle.plan.specs.PlanDecode.{plan-small}
-use Rattle.plan.specs.PlanValidate.{form-taken, form-passed}
+use Rattle.plan.specs.{PlanDecode.plan-small, PlanValidate.form-taken, PlanValidate.form-passed}
 use Rattle.plan_validate.proofs.validate.validate_form.Statement.{statement}
 use Rattle.plan_validate.proofs.validate.validate_form.Tie as tie
-
-first-bad-form-requires : tie.Need-first-bad-form-requires
-first-bad-form-requires c κs = search needs
-
-cast-refused : tie.Need-cast-refused
-cast-refused c = omega (arith, plan-small (c .before .before .before .before .pre .0))
-
-refused-requires : tie.Need-refused-requires
-refused-requires c κs = search needs
-
-returns : tie.Need-returns
-returns c = search form-taken
-
-validate-rules-requires : tie.Need-validate-rules-requires
-validate-rules-requires c κs = search needs
-
-returns-2 : tie.Need-returns-2
-returns-2 c = search form-passed
 
 pub validate-form-spec : {M : Type 1} → statement M
 validate-form-spec =
     tie.close
     (tie.spec
-    first-bad-form-requires
-    cast-refused
-    refused-requires
-    returns
-    validate-rules-requires
-    returns-2)
+    (λ c κs. search needs)
+    (λ c. omega (arith, plan-small (c .before .before .before .before .pre .0)))
+    (λ c κs. search needs)
+    (λ c. search form-taken)
+    (λ c κs. search needs)
+    (λ c. search form-passed))

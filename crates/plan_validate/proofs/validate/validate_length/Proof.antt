@@ -7,9 +7,6 @@ use Rattle.plan.specs.PlanValidate.{blocks-few, length-taken, length-passed, no
 use Rattle.plan_validate.proofs.validate.validate_length.Statement.{statement}
 use Rattle.plan_validate.proofs.validate.validate_length.Tie as tie
 
-layout-requires : tie.Need-layout-requires
-layout-requires c κs = search needs
-
 mul-if1 : tie.Need-mul-if1
 mul-if1 c =
     omega (
@@ -18,19 +15,13 @@ mul-if1 c =
           (c .before .before .before .pre .0),
     )
 
-refused-requires : tie.Need-refused-requires
-refused-requires c κs = search needs
-
-returns : tie.Need-returns
-returns c = search length-taken
-
-validate-form-requires : tie.Need-validate-form-requires
-validate-form-requires c κs = (search now-laid, search needs)
-
-returns-2 : tie.Need-returns-2
-returns-2 c = search length-passed
-
 pub validate-length-spec : {M : Type 1} → statement M
 validate-length-spec =
     tie.close
-    (tie.spec layout-requires mul-if1 refused-requires returns validate-form-requires returns-2)
+    (tie.spec
+    (λ c κs. search needs)
+    mul-if1
+    (λ c κs. search needs)
+    (λ c. search length-taken)
+    (λ c κs. (search now-laid, search needs))
+    (λ c. search length-passed))

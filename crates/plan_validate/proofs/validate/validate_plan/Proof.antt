@@ -1,19 +1,15 @@
 -- `plan_validate::validate::validate_plan` meets its contract: the length decides, then whether the file is
 -- well-formed, then the first bad sum, or the answer is left to the first block.
-use mathlib.Core.Path.{_≡_, sym}
-use mathlib.Core.Bool.{false}
+use mathlib.Core.{Path._≡_, Path.sym, Bool.false}
 use Prim.Native.Nat.{_≤_}
 use native.Mathlib.Omega.{arith}
 use lib.ListN.{length}
 use denote.Ref.{now}
 use borrow.Author.Needs.{needs}
-use Rattle.theory_loops.specs.First.{told}
-use Rattle.theory_loops.specs.Pick.{picks, passed, at-first, past-first}
+use Rattle.theory_loops.specs.{First.told, Pick.picks, Pick.passed, Pick.at-first, Pick.past-first}
 use Rattle.file_fields.specs.Block.{blockSize}
-use Rattle.file_blocks.specs.Form.{badLength, length-fine}
-use Rattle.plan.specs.PlanLimits.{mostPlanBytes}
-use Rattle.plan.specs.PlanValidate.{planned}
-use Rattle.plan.specs.PlanValid.{plan-exactly}
+use Rattle.file_forms.specs.Form.{badLength, length-fine}
+use Rattle.plan.specs.{PlanLimits.mostPlanBytes, PlanValidate.planned, PlanValid.plan-exactly}
 use Rattle.plan_validate.proofs.validate.validate_plan.Statement.{statement}
 use Rattle.plan_validate.proofs.validate.validate_plan.Tie as tie
 
@@ -26,21 +22,9 @@ fine : (c : tie.Else1) → let n = length (now (c .before .before .before .befor
     (blockSize ≤ n) × (n ≤ mostPlanBytes)
 fine c = length-fine _ _ _ (c .before .is-bad-length .ensures) (c .if1 .left)
 
-is-bad-length-requires : tie.Need-is-bad-length-requires
-is-bad-length-requires c κs = search needs
-
-refused-requires : tie.Need-refused-requires
-refused-requires c κs = search needs
-
 returns : tie.Need-returns
 unfolding planned
 returns c = search picks
-
-is-well-formed-requires : tie.Need-is-well-formed-requires
-is-well-formed-requires c κs = (search needs, (search needs, fine c .0))
-
-header-at-requires : tie.Need-header-at-requires
-header-at-requires c κs = fine (c .before .before) .0
 
 returns-2 : tie.Need-returns-2
 returns-2 c =
@@ -49,24 +33,12 @@ returns-2 c =
     (sym (plan-exactly (w .before .before .before .before .before .pre .0) _ _ .1
     (w .is-well-formed .ensures (c .before .if2 .taken))))
 
-first-bad-sum-requires : tie.Need-first-bad-sum-requires
-first-bad-sum-requires c κs = search needs
-
-cast-refused : tie.Need-cast-refused
-cast-refused c = omega (arith, fine (c .before .before .before .before))
-
-refused-requires-2 : tie.Need-refused-requires-2
-refused-requires-2 c κs = search needs
-
 returns-3 : tie.Need-returns-3
 unfolding planned
 returns-3 c =
     passed _ _ _ _ (length-passed (c .before .before .before .before .before))
     (at-first _ _ _ _ _ _ (c .before .before .first-bad-sum .ensures) (c .before .if3 .taken)
     (c .refused2 .ensures))
-
-validate-first-requires : tie.Need-validate-first-requires
-validate-first-requires c κs = (search needs, (search needs, fine (c .before .before .before .before) .0))
 
 returns-4 : tie.Need-returns-4
 unfolding planned
@@ -79,15 +51,15 @@ pub validate-plan-spec : {M : Type 1} → statement M
 validate-plan-spec =
     tie.close
     (tie.spec
-    is-bad-length-requires
-    refused-requires
+    (λ c κs. search needs)
+    (λ c κs. search needs)
     returns
-    is-well-formed-requires
-    header-at-requires
+    (λ c κs. (search needs, (search needs, fine c .0)))
+    (λ c κs. fine (c .before .before) .0)
     returns-2
-    first-bad-sum-requires
-    cast-refused
-    refused-requires-2
+    (λ c κs. search needs)
+    (λ c. omega (arith, fine (c .before .before .before .before)))
+    (λ c κs. search needs)
     returns-3
-    validate-first-requires
+    (λ c κs. (search needs, (search needs, fine (c .before .before .before .before) .0)))
     returns-4)

@@ -4,21 +4,12 @@ use Rattle.plan.specs.PlanValidate.{rules-sound, rules-faulty}
 use Rattle.plan_validate.proofs.validate.validate_rules.Statement.{statement}
 use Rattle.plan_validate.proofs.validate.validate_rules.Tie as tie
 
-judge-plan-requires : tie.Need-judge-plan-requires
-judge-plan-requires c κs = search needs
-
-enum-told : tie.Need-enum-told
-enum-told c = search needs
-
-enum-known-r : tie.Need-enum-known-r
-enum-known-r c = search needs
-
-returns : tie.Need-returns
-returns c = search rules-sound
-
-returns-2 : tie.Need-returns-2
-returns-2 c = search rules-faulty
-
 pub validate-rules-spec : {M : Type 1} → statement M
 validate-rules-spec =
-    tie.close (tie.spec judge-plan-requires enum-told enum-known-r returns returns-2)
+    tie.close
+    (tie.spec
+    (λ c κs. search needs)
+    (λ c. search needs)
+    (λ c. search needs)
+    (λ c. search rules-sound)
+    (λ c. search rules-faulty))

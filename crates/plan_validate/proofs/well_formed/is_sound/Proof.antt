@@ -1,26 +1,15 @@
 -- `plan_validate::well_formed::is_sound` meets its contract.
-use mathlib.Core.Path.{sym}
-use mathlib.Core.Bool.{true≢false}
-use borrow.Author.Tests.{not-false}
+use mathlib.Core.{Path.sym, Bool.true≢false}
+use borrow.Author.{Tests.not-false, Needs.needs}
 use Rattle.plan_validate.specs.Good.{plan-sound}
-use borrow.Author.Needs.{needs}
 use Rattle.plan_validate.proofs.well_formed.is_sound.Statement.{statement}
 use Rattle.plan_validate.proofs.well_formed.is_sound.Tie as tie
-
-is-sound-front-requires : tie.Need-is-sound-front-requires
-is-sound-front-requires c κs = search needs
 
 returns : tie.Need-returns
 returns c e = absurd (true≢false (sym e))
 
-first-bad-word-requires : tie.Need-first-bad-word-requires
-first-bad-word-requires c κs = search needs
-
 returns-2 : tie.Need-returns-2
 returns-2 c e = absurd (true≢false (sym e))
-
-is-rising-requires : tie.Need-is-rising-requires
-is-rising-requires c κs = search needs
 
 returns-3 : tie.Need-returns-3
 returns-3 c e =
@@ -33,9 +22,9 @@ pub is-sound-spec : {M : Type 1} → statement M
 is-sound-spec =
     tie.close
     (tie.spec
-    is-sound-front-requires
+    (λ c κs. search needs)
     returns
-    first-bad-word-requires
+    (λ c κs. search needs)
     returns-2
-    is-rising-requires
+    (λ c κs. search needs)
     returns-3)

@@ -1,15 +1,10 @@
 -- `plan_validate::well_formed::is_sound_front` meets its contract.
-use mathlib.Core.Path.{sym}
-use mathlib.Core.Bool.{true≢false}
+use mathlib.Core.{Path.sym, Bool.true≢false}
 use native.Mathlib.Omega.{arith}
-use Rattle.plan.specs.PlanDecode.{laid-plan, plan-small}
-use Rattle.plan.specs.PlanValidate.{forms}
+use Rattle.plan.specs.{PlanDecode.laid-plan, PlanDecode.plan-small, PlanValidate.forms}
 use Rattle.plan_validate.specs.Good.{front-sound}
 use Rattle.plan_validate.proofs.well_formed.is_sound_front.Statement.{statement}
 use Rattle.plan_validate.proofs.well_formed.is_sound_front.Tie as tie
-
-first-bad-before-requires : tie.Need-first-bad-before-requires
-first-bad-before-requires c κs = let s = c .before .pre in omega (arith, s .long, laid-plan s)
 
 returns : tie.Need-returns
 returns c e = absurd (true≢false (sym e))
@@ -38,7 +33,7 @@ pub is-sound-front-spec : {M : Type 1} → statement M
 is-sound-front-spec =
     tie.close
     (tie.spec
-    first-bad-before-requires
+    (λ c κs. let s = c .before .pre in omega (arith, s .long, laid-plan s))
     returns
     first-unformed-requires
     returns-2

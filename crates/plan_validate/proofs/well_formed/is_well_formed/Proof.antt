@@ -1,19 +1,14 @@
 -- `plan_validate::well_formed::is_well_formed` meets its contract: a header with the network's numbers is
 -- within the limits, and a plan of the length that it calls for is laid out.
-use mathlib.Core.Path.{sym}
-use mathlib.Core.Bool.{true≢false}
-use mathlib.Core.List.{List}
+use mathlib.Core.{Path.sym, Bool.true≢false, List.List}
 use Prim.Native.Nat.{ℕ}
 use native.Mathlib.Omega.{arith}
 use denote.Ref.{now}
-use borrow.Author.Tests.{not-false}
+use borrow.Author.{Tests.not-false, Needs.needs}
 use Rattle.theory_loops.specs.First.{told}
-use Rattle.plan.specs.PlanHeader.{PlanWithin}
-use Rattle.plan.specs.PlanDecode.{PlanLaid}
-use Rattle.plan.specs.PlanMatch.{header-within}
+use Rattle.plan.specs.{PlanHeader.PlanWithin, PlanDecode.PlanLaid, PlanMatch.header-within}
 use Rattle.plan.specs.PlanValidate.{blocks-few, now-laid}
 use Rattle.plan_validate.specs.Good.{sound-valid, matching-at}
-use borrow.Author.Needs.{needs}
 use Rattle.plan_validate.proofs.well_formed.is_well_formed.Statement.{statement}
 use Rattle.plan_validate.proofs.well_formed.is_well_formed.Tie as tie
 
@@ -35,36 +30,18 @@ laid c =
     now-laid (file m) _ _ (c .before .before .layout .ensures) (within m)
     (m .before .before .header-at .ensures) (c .if3 .left)
 
-is-first-formed-requires : tie.Need-is-first-formed-requires
-is-first-formed-requires c κs = search needs
-
 returns : tie.Need-returns
 returns c e = absurd (true≢false (sym e))
-
-header-at-requires : tie.Need-header-at-requires
-header-at-requires c κs = search needs
-
-is-matching-requires : tie.Need-is-matching-requires
-is-matching-requires c κs = search needs
 
 returns-2 : tie.Need-returns-2
 returns-2 c e = absurd (true≢false (sym e))
 
-layout-requires : tie.Need-layout-requires
-layout-requires c κs = within c
-
 mul-if3 : tie.Need-mul-if3
 mul-if3 c = let m = c .before .before in
-    omega (
-      arith,
-      blocks-few (file m) _ _ (c .before .layout .ensures) (within m),
-    )
+    omega (arith, blocks-few (file m) _ _ (c .before .layout .ensures) (within m))
 
 returns-3 : tie.Need-returns-3
 returns-3 c e = absurd (true≢false (sym e))
-
-is-sound-requires : tie.Need-is-sound-requires
-is-sound-requires c κs = laid c
 
 returns-4 : tie.Need-returns-4
 returns-4 c e =
@@ -81,13 +58,13 @@ pub is-well-formed-spec : {M : Type 1} → statement M
 is-well-formed-spec =
     tie.close
     (tie.spec
-    is-first-formed-requires
+    (λ c κs. search needs)
     returns
-    header-at-requires
-    is-matching-requires
+    (λ c κs. search needs)
+    (λ c κs. search needs)
     returns-2
-    layout-requires
+    (λ c κs. within c)
     mul-if3
     returns-3
-    is-sound-requires
+    (λ c κs. laid c)
     returns-4)

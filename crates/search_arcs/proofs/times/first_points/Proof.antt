@@ -2,10 +2,8 @@
 -- bits, since all points do.
 use mathlib.Core.Path.{_≡_}
 use Prim.Native.Nat.{_≤_, _-_}
-use Rattle.theory_loops.specs.Total.{total, totals}
-use Rattle.theory_loops.specs.Fill.{Filled, fills}
-use Rattle.network.specs.Decode.{decode}
-use Rattle.network.specs.Network.{count, start}
+use Rattle.theory_loops.specs.{Total.total, Total.totals, Fill.Filled, Fill.fills}
+use Rattle.network.specs.{Decode.decode, Network.count, Network.start}
 use Rattle.search_arcs.specs.Times.{start-small, sum-fits}
 use borrow.Author.Needs.{needs}
 use Rattle.search_arcs.proofs.times.first_points.Statement.{statement}
@@ -19,36 +17,9 @@ Inv-loop file l starts₀ sum₀ a₀ a-end starts sum a =
 abbrev μ-loop : tie.MeasureT-loop
 μ-loop file l starts₀ sum₀ a₀ a-end starts sum a = a-end - a
 
-loop-holds : tie.Need-loop-holds Inv-loop μ-loop
-loop-holds c = (search needs, search needs, search totals, search fills)
-
-cast-starts : tie.Need-cast-starts Inv-loop μ-loop
-cast-starts c = search (start-small, needs)
-
-mul-starts : tie.Need-mul-starts Inv-loop μ-loop
-mul-starts c = search needs
-
-element-write-starts : tie.Need-element-write-starts Inv-loop μ-loop
-element-write-starts c = search needs
-
-count-requires : tie.Need-count-requires Inv-loop μ-loop
-count-requires c κs = search needs
-
-add-sum : tie.Need-add-sum Inv-loop μ-loop
-add-sum c = search (sum-fits, needs)
-
-add-a : tie.Need-add-a Inv-loop μ-loop
-add-a c = search needs
-
-loop-less : tie.Need-loop-less Inv-loop μ-loop
-loop-less c = search needs
-
 loop-again : tie.Need-loop-again Inv-loop μ-loop
 unfolding start
 loop-again c = (search needs, search needs, search totals, search fills)
-
-returns : tie.Need-returns Inv-loop μ-loop
-returns c = search (fills, needs)
 
 pub first-points-spec : {M : Type 1} → statement M
 first-points-spec =
@@ -56,13 +27,13 @@ first-points-spec =
     (tie.spec
     Inv-loop
     μ-loop
-    loop-holds
-    cast-starts
-    mul-starts
-    element-write-starts
-    count-requires
-    add-sum
-    add-a
-    loop-less
+    (λ c. (search needs, search needs, search totals, search fills))
+    (λ c. search (start-small, needs))
+    (λ c. search needs)
+    (λ c. search needs)
+    (λ c κs. search needs)
+    (λ c. search (sum-fits, needs))
+    (λ c. search needs)
+    (λ c. search needs)
     loop-again
-    returns)
+    (λ c. search (fills, needs)))

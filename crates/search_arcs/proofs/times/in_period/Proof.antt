@@ -4,14 +4,5 @@ use borrow.Author.Needs.{needs}
 use Rattle.search_arcs.proofs.times.in_period.Statement.{statement}
 use Rattle.search_arcs.proofs.times.in_period.Tie as tie
 
-returns : tie.Need-returns
-returns c = search (first-day, needs)
-
-rem-result : tie.Need-rem-result
-rem-result c = search needs
-
-returns-2 : tie.Need-returns-2
-returns-2 c = search needs
-
 pub in-period-spec : {M : Type 1} → statement M
-in-period-spec = tie.close (tie.spec returns rem-result returns-2)
+in-period-spec = tie.close (tie.spec (λ c. search (first-day, needs)) (λ c. search needs) (λ c. search needs))

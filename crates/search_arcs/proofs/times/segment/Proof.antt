@@ -1,8 +1,7 @@
 -- `search_arcs::times::segment` meets its contract: the first point that is left is at or before x, the one
 -- behind the last is after it, and they come together by halves.
 use Prim.Native.Nat.{_+_}
-use Rattle.theory_travel.specs.Table.{entryAt}
-use Rattle.theory_travel.specs.Search.{Between}
+use Rattle.theory_travel.specs.{Table.entryAt, Search.Between}
 use Rattle.network.specs.Decode.{decode}
 use Rattle.search_arcs.specs.Halves.{halving}
 use borrow.Author.Needs.{needs}
@@ -16,33 +15,9 @@ Inv-loop file l s n x a₀ left₀ a left =
 abbrev μ-loop : tie.MeasureT-loop
 μ-loop file l s n x a₀ left₀ a left = left
 
-loop-holds : tie.Need-loop-holds Inv-loop μ-loop
-loop-holds c = search halving
-
-add-tick : tie.Need-add-tick Inv-loop μ-loop
-add-tick c = search needs
-
-tick-requires : tie.Need-tick-requires Inv-loop μ-loop
-tick-requires c κs = search needs
-
-step-requires : tie.Need-step-requires Inv-loop μ-loop
-step-requires c κs = search needs
-
-add-a : tie.Need-add-a Inv-loop μ-loop
-add-a c = search needs
-
-sub-left : tie.Need-sub-left Inv-loop μ-loop
-sub-left c = search needs
-
-loop-less : tie.Need-loop-less Inv-loop μ-loop
-loop-less c = search needs
-
 loop-again : tie.Need-loop-again Inv-loop μ-loop
 unfolding entryAt
 loop-again c = search halving
-
-returns : tie.Need-returns Inv-loop μ-loop
-returns c = search halving
 
 pub segment-spec : {M : Type 1} → statement M
 segment-spec =
@@ -50,12 +25,12 @@ segment-spec =
     (tie.spec
     Inv-loop
     μ-loop
-    loop-holds
-    add-tick
-    tick-requires
-    step-requires
-    add-a
-    sub-left
-    loop-less
+    (λ c. search halving)
+    (λ c. search needs)
+    (λ c κs. search needs)
+    (λ c κs. search needs)
+    (λ c. search needs)
+    (λ c. search needs)
+    (λ c. search needs)
     loop-again
-    returns)
+    (λ c. search halving))

@@ -5,14 +5,5 @@ use borrow.Author.Needs.{needs}
 use Rattle.search_arcs.proofs.times.step.Statement.{statement}
 use Rattle.search_arcs.proofs.times.step.Tie as tie
 
-sub-result : tie.Need-sub-result
-sub-result c = search needs
-
-add-result : tie.Need-add-result
-add-result c = search needs
-
-returns : tie.Need-returns
-returns c = search step-is
-
 pub step-spec : {M : Type 1} → statement M
-step-spec = tie.close (tie.spec sub-result add-result returns)
+step-spec = tie.close (tie.spec (λ c. search needs) (λ c. search needs) (λ c. search step-is))

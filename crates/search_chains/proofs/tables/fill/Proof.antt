@@ -3,8 +3,7 @@
 use mathlib.Core.Path.{_≡_}
 use Prim.Native.Nat.{_-_, _*_, _≤_, min}
 use native.Mathlib.Omega.{arith}
-use Rattle.file_blocks.specs.Kind.{arcPer}
-use Rattle.file_blocks.specs.Place.{blocks}
+use Rattle.file_blocks.specs.{Kind.arcPer, Place.blocks}
 use Rattle.search_chains.specs.Tables.{Filling, filling-at, filling-none}
 use borrow.Author.Needs.{needs}
 use Rattle.search_chains.proofs.tables.fill.Statement.{statement}
@@ -18,9 +17,6 @@ Inv-loop file l heads₀ starts₀ first₀ next₀ arcs runs sum₀ k₀ heads 
 abbrev μ-loop : tie.MeasureT-loop
 μ-loop file l heads₀ starts₀ first₀ next₀ arcs runs sum₀ k₀ heads starts first next sum k = runs - k
 
-blocks-requires : tie.Need-blocks-requires Inv-loop μ-loop
-blocks-requires c κs = search needs
-
 loop-holds : tie.Need-loop-holds Inv-loop μ-loop
 loop-holds c =
     let p = c .before .before .pre in (
@@ -29,27 +25,12 @@ loop-holds c =
       filling-at (filling-none (p .0) (p .1 .0) (p .1 .1) (p .1 .2)) _ (omega arith),
     )
 
-sub-j : tie.Need-sub-j Inv-loop μ-loop
-sub-j c = search needs
-
-sub-j-2 : tie.Need-sub-j-2 Inv-loop μ-loop
-sub-j-2 c = search needs
-
-entries-in-requires : tie.Need-entries-in-requires Inv-loop μ-loop
-entries-in-requires c κs = search needs
-
 fill-block-requires : tie.Need-fill-block-requires Inv-loop μ-loop
 fill-block-requires c κs =
     let s = c .before .before .before .before .before .before in (
       s .before .before .before .pre .0,
       ((omega arith, omega arith), filling-at (s .loop .inv .2) _ (omega arith)),
     )
-
-add-k : tie.Need-add-k Inv-loop μ-loop
-add-k c = search needs
-
-loop-less : tie.Need-loop-less Inv-loop μ-loop
-loop-less c = search needs
 
 loop-again : tie.Need-loop-again Inv-loop μ-loop
 loop-again c =
@@ -65,13 +46,13 @@ fill-spec =
     (tie.spec
     Inv-loop
     μ-loop
-    blocks-requires
+    (λ c κs. search needs)
     loop-holds
-    sub-j
-    sub-j-2
-    entries-in-requires
+    (λ c. search needs)
+    (λ c. search needs)
+    (λ c κs. search needs)
     fill-block-requires
-    add-k
-    loop-less
+    (λ c. search needs)
+    (λ c. search needs)
     loop-again
     returns)

@@ -4,19 +4,10 @@ use borrow.Author.Needs.{needs}
 use Rattle.search_labels.proofs.reach.head_of.Statement.{statement}
 use Rattle.search_labels.proofs.reach.head_of.Tie as tie
 
-mul-wide : tie.Need-mul-wide
-mul-wide c = search needs
-
-element-copy-out-wide : tie.Need-element-copy-out-wide
-element-copy-out-wide c = search needs
-
-wide-requires : tie.Need-wide-requires
-wide-requires c κs = search needs
-
 returns : tie.Need-returns
 returns c =
     let s = c .before .before .before .before in
     (c .wide .ensures .0 ∙ s .pre .0 .head-at _ (s .pre .1), c .wide .ensures .1)
 
 pub head-of-spec : {M : Type 1} → statement M
-head-of-spec = tie.close (tie.spec mul-wide element-copy-out-wide wide-requires returns)
+head-of-spec = tie.close (tie.spec (λ c. search needs) (λ c. search needs) (λ c κs. search needs) returns)

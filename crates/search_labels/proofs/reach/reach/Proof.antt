@@ -6,12 +6,6 @@ use borrow.Author.Needs.{needs}
 use Rattle.search_labels.proofs.reach.reach.Statement.{statement}
 use Rattle.search_labels.proofs.reach.reach.Tie as tie
 
-fill-requires : tie.Need-fill-requires
-fill-requires c κs = (search needs, (search fresh-tables, search needs, search needs))
-
-start-requires : tie.Need-start-requires
-start-requires c κs = search needs
-
 settle-all-requires : tie.Need-settle-all-requires
 settle-all-requires c κs =
     let r = c .before .before .before .before .before .before .before .before in
@@ -22,12 +16,12 @@ settle-all-requires c κs =
       (f .fill .ensures .0, ((n .0, n .1), (rw (n .2) at (r .start .ensures), n .3))),
     )
 
-same-length : tie.Need-same-length
-same-length c = search needs
-
-returns : tie.Need-returns
-returns c = c .before .before .settle-all .ensures
-
 pub reach-spec : {M : Type 1} → statement M
 reach-spec =
-    tie.close (tie.spec fill-requires start-requires settle-all-requires same-length returns)
+    tie.close
+    (tie.spec
+    (λ c κs. (search needs, (search fresh-tables, search needs, search needs)))
+    (λ c κs. search needs)
+    settle-all-requires
+    (λ c. search needs)
+    (λ c. c .before .before .settle-all .ensures))

@@ -5,35 +5,14 @@ use borrow.Author.Needs.{needs}
 use Rattle.search_path.proofs.path.path.Statement.{statement}
 use Rattle.search_path.proofs.path.path.Tie as tie
 
-mul-hops : tie.Need-mul-hops
-mul-hops c = search needs
-
-element-copy-out-hops : tie.Need-element-copy-out-hops
-element-copy-out-hops c = search needs
-
-hops-requires : tie.Need-hops-requires
-hops-requires c κs = search needs
-
-returns : tie.Need-returns
-returns c = search listed-short
-
-write-requires : tie.Need-write-requires
-write-requires c κs = search needs
-
-same-length : tie.Need-same-length
-same-length c = search needs
-
-returns-2 : tie.Need-returns-2
-returns-2 c = search listed-way
-
 pub path-spec : {M : Type 1} → statement M
 path-spec =
     tie.close
     (tie.spec
-    mul-hops
-    element-copy-out-hops
-    hops-requires
-    returns
-    write-requires
-    same-length
-    returns-2)
+    (λ c. search needs)
+    (λ c. search needs)
+    (λ c κs. search needs)
+    (λ c. search listed-short)
+    (λ c κs. search needs)
+    (λ c. search needs)
+    (λ c. search listed-way))

@@ -1,13 +1,9 @@
 -- `sheet_line::line::ended` meets its contract.
-use borrow.Author.Tests.{not-true, not-false}
+use borrow.Author.{Tests.not-true, Tests.not-false, Needs.needs}
 use Rattle.theory_loops.specs.Pick.{picks}
-use borrow.Author.Needs.{needs}
 use Rattle.sheet_line.specs.Line.{ended}
 use Rattle.sheet_line.proofs.line.ended.Statement.{statement}
 use Rattle.sheet_line.proofs.line.ended.Tie as tie
-
-is-whole-requires : tie.Need-is-whole-requires
-is-whole-requires c κs = search needs
 
 returns : tie.Need-returns
 unfolding ended
@@ -18,4 +14,4 @@ unfolding ended
 returns-2 c = search (picks, not-true, not-false) depth 6
 
 pub ended-spec : {M : Type 1} → statement M
-ended-spec = tie.close (tie.spec is-whole-requires returns returns-2)
+ended-spec = tie.close (tie.spec (λ c κs. search needs) returns returns-2)

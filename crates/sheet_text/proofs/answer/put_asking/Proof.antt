@@ -6,18 +6,9 @@ use borrow.Author.Needs.{needs}
 use Rattle.sheet_text.proofs.answer.put_asking.Statement.{statement}
 use Rattle.sheet_text.proofs.answer.put_asking.Tie as tie
 
-put-decimal-requires : tie.Need-put-decimal-requires
-put-decimal-requires c κs = search needs
-
-slice-aggregate-put-numbers : tie.Need-slice-aggregate-put-numbers
-slice-aggregate-put-numbers c = search needs
-
 put-numbers-requires : tie.Need-put-numbers-requires
 put-numbers-requires c κs =
     omega (arith, decimal-few (c .before .before .before .before .before .before .before .args .a .from))
-
-same-length : tie.Need-same-length
-same-length c = search needs
 
 returns : tie.Need-returns
 returns c = (
@@ -33,8 +24,8 @@ pub put-asking-spec : {M : Type 1} → statement M
 put-asking-spec =
     tie.close
     (tie.spec
-    put-decimal-requires
-    slice-aggregate-put-numbers
+    (λ c κs. search needs)
+    (λ c. search needs)
     put-numbers-requires
-    same-length
+    (λ c. search needs)
     returns)

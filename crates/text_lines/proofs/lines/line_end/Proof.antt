@@ -14,29 +14,11 @@ Inv-loop text at i₀ i = (at ≤ i) × (i ≤ length text) × Unended text at i
 abbrev μ-loop : tie.MeasureT-loop
 μ-loop text at i₀ i = length text - i
 
-loop-holds : tie.Need-loop-holds Inv-loop μ-loop
-loop-holds c = (search needs, search needs, λ k l m. absurd (omega arith))
-
-sub-loop : tie.Need-sub-loop Inv-loop μ-loop
-sub-loop c = search needs
-
-may-end-requires : tie.Need-may-end-requires Inv-loop μ-loop
-may-end-requires c κs = search needs
-
-first-feed-requires : tie.Need-first-feed-requires Inv-loop μ-loop
-first-feed-requires c κs = search needs
-
 returns : tie.Need-returns Inv-loop μ-loop
 returns c =
     let s = c .before .before .before .before in
     line-behind (now (s .before .before .args .text)) (s .before .before .args .at) (s .loop .i) _
     (s .loop .inv .2) (search needs) (c .first-feed .ensures)
-
-add-i : tie.Need-add-i Inv-loop μ-loop
-add-i c = search needs
-
-loop-less : tie.Need-loop-less Inv-loop μ-loop
-loop-less c = search needs
 
 loop-again : tie.Need-loop-again Inv-loop μ-loop
 loop-again c =
@@ -46,9 +28,6 @@ loop-again c =
       unended-join (now (s .before .before .args .text)) (s .before .before .args .at) (s .loop .i) _
           (s .loop .inv .2) (c .before .may-end .ensures (search needs)),
     )
-
-first-feed-requires-2 : tie.Need-first-feed-requires-2 Inv-loop μ-loop
-first-feed-requires-2 c κs = search needs
 
 returns-2 : tie.Need-returns-2 Inv-loop μ-loop
 returns-2 c =
@@ -62,13 +41,13 @@ line-end-spec =
     (tie.spec
     Inv-loop
     μ-loop
-    loop-holds
-    sub-loop
-    may-end-requires
-    first-feed-requires
+    (λ c. (search needs, search needs, λ k l m. absurd (omega arith)))
+    (λ c. search needs)
+    (λ c κs. search needs)
+    (λ c κs. search needs)
     returns
-    add-i
-    loop-less
+    (λ c. search needs)
+    (λ c. search needs)
     loop-again
-    first-feed-requires-2
+    (λ c κs. search needs)
     returns-2)

@@ -1,6 +1,5 @@
 -- `text_numbers::lines::may_end` meets its contract.
-use mathlib.Core.Path.{_≡_}
-use mathlib.Core.Bool.{false}
+use mathlib.Core.{Path._≡_, Bool.false}
 use Prim.Native.Nat.{_+_, _-_, _≤_}
 use native.Mathlib.Omega.{arith}
 use denote.Ref.{now}
@@ -15,21 +14,6 @@ Inv-loop text at found₀ k₀ found k =
 
 abbrev μ-loop : tie.MeasureT-loop
 μ-loop text at found₀ k₀ found k = 16 - k
-
-loop-holds : tie.Need-loop-holds Inv-loop μ-loop
-loop-holds c = (search needs, λ _ k l m. absurd (omega arith))
-
-add-found : tie.Need-add-found Inv-loop μ-loop
-add-found c = search needs
-
-shared-slice-read-found : tie.Need-shared-slice-read-found Inv-loop μ-loop
-shared-slice-read-found c = search needs
-
-add-k : tie.Need-add-k Inv-loop μ-loop
-add-k c = search needs
-
-loop-less : tie.Need-loop-less Inv-loop μ-loop
-loop-less c = search needs
 
 loop-again : tie.Need-loop-again Inv-loop μ-loop
 loop-again c =
@@ -50,10 +34,10 @@ may-end-spec =
     (tie.spec
     Inv-loop
     μ-loop
-    loop-holds
-    add-found
-    shared-slice-read-found
-    add-k
-    loop-less
+    (λ c. (search needs, λ _ k l m. absurd (omega arith)))
+    (λ c. search needs)
+    (λ c. search needs)
+    (λ c. search needs)
+    (λ c. search needs)
     loop-again
     returns)

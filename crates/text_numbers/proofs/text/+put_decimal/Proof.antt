@@ -3,8 +3,7 @@ use native.Mathlib.Omega.{arith}
 use Rattle.text_numbers.specs.Number.{stored-digit, stored-digits, decimal-nine}
 use borrow.Author.Needs.{needs}
 use Prim.Native.Nat.{ℕ, _/_, _<_}
-use borrow.Fn.Kinds.{In}
-use borrow.Fn.PlainCycle.{Measures, is, falls, and}
+use borrow.Fn.{Kinds.In, PlainCycle.Measures, PlainCycle.is, PlainCycle.falls, PlainCycle.and}
 use Rattle.text_numbers.proofs.text.put_decimal.Reads as put-decimal
 use Rattle.text_numbers.proofs.text.put_decimal.Kinds as put-decimal-kinds
 use Rattle.text_numbers.proofs.text.+put_decimal.Lts-put_decimal as put-decimal-lts
@@ -109,10 +108,7 @@ put-decimal-returns-2 : (t : ℕ) → put-decimal-lts.Need-returns-2 (
 put-decimal-returns-2 t c = search stored-digits
 
 pub +put-decimal-spec : {M : Type 1} → statement M
-+put-decimal-spec = close μ-put-decimal λ t. put-decimal-lts.spec (
-  put-decimal-below t,
-  put-decimal.Post,
-)
++put-decimal-spec = close μ-put-decimal λ t. put-decimal-lts.spec (put-decimal-below t, put-decimal.Post)
     (put-decimal-at t)
     put-decimal.Post
     (put-decimal-cast-out t)

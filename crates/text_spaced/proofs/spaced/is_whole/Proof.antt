@@ -1,20 +1,13 @@
 -- `text_numbers::spaced::is_whole` meets its contract.
-use borrow.Author.Tests.{not-true, not-false}
+use borrow.Author.{Tests.not-true, Tests.not-false, Needs.needs}
 use Rattle.theory_loops.specs.Pick.{picks}
 use Rattle.text_spaced.specs.Scanning.{whole}
-use borrow.Author.Needs.{needs}
 use Rattle.text_spaced.proofs.spaced.is_whole.Statement.{statement}
 use Rattle.text_spaced.proofs.spaced.is_whole.Tie as tie
 
 returns : tie.Need-returns
 unfolding whole
 returns c = search (picks, not-true, not-false) depth 8
-
-cast-if2 : tie.Need-cast-if2
-cast-if2 c = search needs
-
-add-if2 : tie.Need-add-if2
-add-if2 c = search needs
 
 returns-2 : tie.Need-returns-2
 unfolding whole
@@ -25,4 +18,4 @@ unfolding whole
 returns-3 c = search (picks, not-true, not-false) depth 8
 
 pub is-whole-spec : {M : Type 1} → statement M
-is-whole-spec = tie.close (tie.spec returns cast-if2 add-if2 returns-2 returns-3)
+is-whole-spec = tie.close (tie.spec returns (λ c. search needs) (λ c. search needs) returns-2 returns-3)

@@ -1,8 +1,7 @@
 -- `text_numbers::spaced::scan_byte` meets its contract.
-use borrow.Author.Tests.{not-true, not-false}
+use borrow.Author.{Tests.not-true, Tests.not-false, Needs.needs}
 use Rattle.theory_loops.specs.Pick.{picks}
 use Rattle.text_spaced.specs.Scanning.{scanned}
-use borrow.Author.Needs.{needs}
 use Rattle.text_spaced.proofs.spaced.scan_byte.Statement.{statement}
 use Rattle.text_spaced.proofs.spaced.scan_byte.Tie as tie
 
@@ -10,15 +9,9 @@ returns : tie.Need-returns
 unfolding scanned
 returns c = search (picks, not-true, not-false) depth 8
 
-scan-space-requires : tie.Need-scan-space-requires
-scan-space-requires c κs = search needs
-
 returns-2 : tie.Need-returns-2
 unfolding scanned
 returns-2 c = search (picks, not-true, not-false) depth 8
-
-scan-digit-requires : tie.Need-scan-digit-requires
-scan-digit-requires c κs = search needs
 
 returns-3 : tie.Need-returns-3
 unfolding scanned
@@ -26,4 +19,4 @@ returns-3 c = search (picks, not-true, not-false) depth 8
 
 pub scan-byte-spec : {M : Type 1} → statement M
 scan-byte-spec =
-    tie.close (tie.spec returns scan-space-requires returns-2 scan-digit-requires returns-3)
+    tie.close (tie.spec returns (λ c κs. search needs) returns-2 (λ c κs. search needs) returns-3)

@@ -1,13 +1,9 @@
 -- `text_numbers::spaced::scan_space` meets its contract.
-use borrow.Author.Tests.{not-true, not-false}
+use borrow.Author.{Tests.not-true, Tests.not-false, Needs.needs}
 use Rattle.theory_loops.specs.Pick.{picks}
 use Rattle.text_spaced.specs.Scanning.{spaceScanned}
-use borrow.Author.Needs.{needs}
 use Rattle.text_spaced.proofs.spaced.scan_space.Statement.{statement}
 use Rattle.text_spaced.proofs.spaced.scan_space.Tie as tie
-
-ruled-out-requires : tie.Need-ruled-out-requires
-ruled-out-requires c κs = search needs
 
 returns : tie.Need-returns
 unfolding spaceScanned
@@ -21,9 +17,6 @@ returns-3 : tie.Need-returns-3
 unfolding spaceScanned
 returns-3 c = search (picks, not-true, not-false) depth 8
 
-ruled-out-requires-2 : tie.Need-ruled-out-requires-2
-ruled-out-requires-2 c κs = search needs
-
 returns-4 : tie.Need-returns-4
 unfolding spaceScanned
 returns-4 c = search (picks, not-true, not-false) depth 8
@@ -31,4 +24,4 @@ returns-4 c = search (picks, not-true, not-false) depth 8
 pub scan-space-spec : {M : Type 1} → statement M
 scan-space-spec =
     tie.close
-    (tie.spec ruled-out-requires returns returns-2 returns-3 ruled-out-requires-2 returns-4)
+    (tie.spec (λ c κs. search needs) returns returns-2 returns-3 (λ c κs. search needs) returns-4)

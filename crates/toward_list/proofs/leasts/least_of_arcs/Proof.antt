@@ -13,24 +13,6 @@ Inv-loop file l starts least₀ a₀ a-end least a = (a ≤ a-end) × Leasts fil
 abbrev μ-loop : tie.MeasureT-loop
 μ-loop file l starts least₀ a₀ a-end least a = a-end - a
 
-loop-holds : tie.Need-loop-holds Inv-loop μ-loop
-loop-holds c = (search needs, search leasts-none, search needs)
-
-least-of-arc-requires : tie.Need-least-of-arc-requires Inv-loop μ-loop
-least-of-arc-requires c κs = search needs
-
-mul-least : tie.Need-mul-least Inv-loop μ-loop
-mul-least c = search needs
-
-element-write-least : tie.Need-element-write-least Inv-loop μ-loop
-element-write-least c = search needs
-
-add-a : tie.Need-add-a Inv-loop μ-loop
-add-a c = search needs
-
-loop-less : tie.Need-loop-less Inv-loop μ-loop
-loop-less c = search needs
-
 loop-again : tie.Need-loop-again Inv-loop μ-loop
 loop-again c = (
   search needs,
@@ -47,11 +29,11 @@ least-of-arcs-spec =
     (tie.spec
     Inv-loop
     μ-loop
-    loop-holds
-    least-of-arc-requires
-    mul-least
-    element-write-least
-    add-a
-    loop-less
+    (λ c. (search needs, search leasts-none, search needs))
+    (λ c κs. search needs)
+    (λ c. search needs)
+    (λ c. search needs)
+    (λ c. search needs)
+    (λ c. search needs)
     loop-again
     returns)

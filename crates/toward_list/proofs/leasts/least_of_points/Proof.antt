@@ -13,41 +13,17 @@ Inv-loop file l from count low₀ k₀ low k =
 abbrev μ-loop : tie.MeasureT-loop
 μ-loop file l from count low₀ k₀ low k = count - k
 
-loop-holds : tie.Need-loop-holds Inv-loop μ-loop
-loop-holds c = (search needs, search leasts, search needs)
-
-add-travel : tie.Need-add-travel Inv-loop μ-loop
-add-travel c = search needs
-
-travel-requires : tie.Need-travel-requires Inv-loop μ-loop
-travel-requires c κs = search needs
-
-lesser-travel-requires : tie.Need-lesser-travel-requires Inv-loop μ-loop
-lesser-travel-requires c κs = search needs
-
-add-k : tie.Need-add-k Inv-loop μ-loop
-add-k c = search needs
-
-loop-less : tie.Need-loop-less Inv-loop μ-loop
-loop-less c = search needs
-
-loop-again : tie.Need-loop-again Inv-loop μ-loop
-loop-again c = (search needs, search leasts, search needs)
-
-returns : tie.Need-returns Inv-loop μ-loop
-returns c = (search leasts, search needs)
-
 pub least-of-points-spec : {M : Type 1} → statement M
 least-of-points-spec =
     tie.close
     (tie.spec
     Inv-loop
     μ-loop
-    loop-holds
-    add-travel
-    travel-requires
-    lesser-travel-requires
-    add-k
-    loop-less
-    loop-again
-    returns)
+    (λ c. (search needs, search leasts, search needs))
+    (λ c. search needs)
+    (λ c κs. search needs)
+    (λ c κs. search needs)
+    (λ c. search needs)
+    (λ c. search needs)
+    (λ c. (search needs, search leasts, search needs))
+    (λ c. (search leasts, search needs)))

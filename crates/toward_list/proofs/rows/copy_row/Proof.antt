@@ -12,36 +12,6 @@ Inv-loop v work hs₀ p x₀ x-end hs x = (x ≤ x-end) × Filled 0 x (copied wo
 abbrev μ-loop : tie.MeasureT-loop
 μ-loop v work hs₀ p x₀ x-end hs x = x-end - x
 
-row-place-requires : tie.Need-row-place-requires Inv-loop μ-loop
-row-place-requires c κs = search needs
-
-loop-holds : tie.Need-loop-holds Inv-loop μ-loop
-loop-holds c = (search needs, search fills)
-
-add-hs : tie.Need-add-hs Inv-loop μ-loop
-add-hs c = search needs
-
-mul-hs : tie.Need-mul-hs Inv-loop μ-loop
-mul-hs c = search needs
-
-shared-slice-read-hs : tie.Need-shared-slice-read-hs Inv-loop μ-loop
-shared-slice-read-hs c = search needs
-
-mul-hs-2 : tie.Need-mul-hs-2 Inv-loop μ-loop
-mul-hs-2 c = search needs
-
-element-write-hs : tie.Need-element-write-hs Inv-loop μ-loop
-element-write-hs c = search needs
-
-add-x : tie.Need-add-x Inv-loop μ-loop
-add-x c = search needs
-
-loop-less : tie.Need-loop-less Inv-loop μ-loop
-loop-less c = search needs
-
-loop-again : tie.Need-loop-again Inv-loop μ-loop
-loop-again c = (search needs, search (fills, copy-entry))
-
 returns : tie.Need-returns Inv-loop μ-loop
 returns c =
     copy-row _ _ _ _ _ _ (c .before .before .row-place .ensures .0)
@@ -53,14 +23,14 @@ copy-row-spec =
     (tie.spec
     Inv-loop
     μ-loop
-    row-place-requires
-    loop-holds
-    add-hs
-    mul-hs
-    shared-slice-read-hs
-    mul-hs-2
-    element-write-hs
-    add-x
-    loop-less
-    loop-again
+    (λ c κs. search needs)
+    (λ c. (search needs, search fills))
+    (λ c. search needs)
+    (λ c. search needs)
+    (λ c. search needs)
+    (λ c. search needs)
+    (λ c. search needs)
+    (λ c. search needs)
+    (λ c. search needs)
+    (λ c. (search needs, search (fills, copy-entry)))
     returns)

@@ -2,13 +2,9 @@
 use mathlib.Core.Path.{sym, _∙_}
 use Prim.Native.Nat.{_≤_, _<_}
 use native.Mathlib.Omega.{arith}
-use borrow.Author.Tests.{ltb-true, ltb-false}
-use borrow.Author.Needs.{needs}
+use borrow.Author.{Tests.ltb-true, Tests.ltb-false, Needs.needs}
 use Rattle.toward_list.proofs.rows.higher.Statement.{statement}
 use Rattle.toward_list.proofs.rows.higher.Tie as tie
-
-is-before-requires : tie.Need-is-before-requires
-is-before-requires c κs = search needs
 
 returns : tie.Need-returns
 returns c =
@@ -23,4 +19,4 @@ returns-2 c =
     omega arith
 
 pub higher-spec : {M : Type 1} → statement M
-higher-spec = tie.close (tie.spec is-before-requires returns returns-2)
+higher-spec = tie.close (tie.spec (λ c κs. search needs) returns returns-2)

@@ -13,27 +13,6 @@ Inv-loop u work p e high₀ i₀ high i = (p ≤ i) × (i ≤ e) × Upper p i e 
 abbrev μ-loop : tie.MeasureT-loop
 μ-loop u work p e high₀ i₀ high i = e - i
 
-row-place-requires : tie.Need-row-place-requires Inv-loop μ-loop
-row-place-requires c κs = search needs
-
-add-e : tie.Need-add-e Inv-loop μ-loop
-add-e c = search needs
-
-mul-high : tie.Need-mul-high Inv-loop μ-loop
-mul-high c = search needs
-
-shared-slice-read-high : tie.Need-shared-slice-read-high Inv-loop μ-loop
-shared-slice-read-high c = search needs
-
-loop-holds : tie.Need-loop-holds Inv-loop μ-loop
-loop-holds c = (search needs, search needs, upper-none (omega arith) refl)
-
-mul-higher : tie.Need-mul-higher Inv-loop μ-loop
-mul-higher c = search needs
-
-shared-slice-read-higher : tie.Need-shared-slice-read-higher Inv-loop μ-loop
-shared-slice-read-higher c = search needs
-
 higher-requires : tie.Need-higher-requires Inv-loop μ-loop
 higher-requires c κs =
     let s = c .before .before .before .before .before .before .before in
@@ -47,12 +26,6 @@ higher-requires c κs =
       ),
       s .pre .1 .2 .entry (at .i) (omega (arith, r, at .inv .0)) (omega (arith, r)),
     )
-
-add-i : tie.Need-add-i Inv-loop μ-loop
-add-i c = search needs
-
-loop-less : tie.Need-loop-less Inv-loop μ-loop
-loop-less c = search needs
 
 loop-again : tie.Need-loop-again Inv-loop μ-loop
 loop-again c = (
@@ -73,15 +46,15 @@ highest-spec =
     (tie.spec
     Inv-loop
     μ-loop
-    row-place-requires
-    add-e
-    mul-high
-    shared-slice-read-high
-    loop-holds
-    mul-higher
-    shared-slice-read-higher
+    (λ c κs. search needs)
+    (λ c. search needs)
+    (λ c. search needs)
+    (λ c. search needs)
+    (λ c. (search needs, search needs, upper-none (omega arith) refl))
+    (λ c. search needs)
+    (λ c. search needs)
     higher-requires
-    add-i
-    loop-less
+    (λ c. search needs)
+    (λ c. search needs)
     loop-again
     returns)

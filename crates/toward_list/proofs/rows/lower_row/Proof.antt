@@ -8,24 +8,6 @@ use borrow.Author.Needs.{needs}
 use Rattle.toward_list.proofs.rows.lower_row.Statement.{statement}
 use Rattle.toward_list.proofs.rows.lower_row.Tie as tie
 
-row-place-requires : tie.Need-row-place-requires
-row-place-requires c κs = search needs
-
-add-e : tie.Need-add-e
-add-e c = search needs
-
-mul-lower-arc : tie.Need-mul-lower-arc
-mul-lower-arc c = search needs
-
-sub-lower-arc : tie.Need-sub-lower-arc
-sub-lower-arc c = search needs
-
-part-lower-arc-start : tie.Need-part-lower-arc-start
-part-lower-arc-start c = search needs
-
-part-lower-arc-end : tie.Need-part-lower-arc-end
-part-lower-arc-end c = search needs
-
 lower-arc-requires : tie.Need-lower-arc-requires
 lower-arc-requires c κs =
     let s = c .before .before .before .before .before .before in (
@@ -37,9 +19,6 @@ lower-arc-requires c κs =
         known-lent (c .before .before .before .row-place .ensures .0) (s .pre .1 .1 .1),
       ),
     )
-
-same-length : tie.Need-same-length
-same-length c = search needs
 
 returns : tie.Need-returns
 returns c =
@@ -58,12 +37,12 @@ pub lower-row-spec : {M : Type 1} → statement M
 lower-row-spec =
     tie.close
     (tie.spec
-    row-place-requires
-    add-e
-    mul-lower-arc
-    sub-lower-arc
-    part-lower-arc-start
-    part-lower-arc-end
+    (λ c κs. search needs)
+    (λ c. search needs)
+    (λ c. search needs)
+    (λ c. search needs)
+    (λ c. search needs)
+    (λ c. search needs)
     lower-arc-requires
-    same-length
+    (λ c. search needs)
     returns)

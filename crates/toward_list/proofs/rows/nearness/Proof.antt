@@ -12,18 +12,6 @@ Inv-loop u work p e low₀ i₀ low i = (p ≤ i) × (i ≤ e) × Lower p i work
 abbrev μ-loop : tie.MeasureT-loop
 μ-loop u work p e low₀ i₀ low i = e - i
 
-row-place-requires : tie.Need-row-place-requires Inv-loop μ-loop
-row-place-requires c κs = search needs
-
-add-e : tie.Need-add-e Inv-loop μ-loop
-add-e c = search needs
-
-mul-low : tie.Need-mul-low Inv-loop μ-loop
-mul-low c = search needs
-
-shared-slice-read-low : tie.Need-shared-slice-read-low Inv-loop μ-loop
-shared-slice-read-low c = search needs
-
 loop-holds : tie.Need-loop-holds Inv-loop μ-loop
 loop-holds c =
     let s = c .before .before .before .before in
@@ -35,24 +23,12 @@ loop-holds c =
           (omega (arith, r .ensures .0, s .pre .0 .period-some)),
     )
 
-mul-lower : tie.Need-mul-lower Inv-loop μ-loop
-mul-lower c = search needs
-
-shared-slice-read-lower : tie.Need-shared-slice-read-lower Inv-loop μ-loop
-shared-slice-read-lower c = search needs
-
 lower-requires : tie.Need-lower-requires Inv-loop μ-loop
 lower-requires c κs =
     let s = c .before .before .before .before .before .before .before in
     let r = c .before .before .before .before .before .row-place .ensures .0 in
     let at = c .before .before .loop in
     (at .inv .3, s .pre .1 .2 .entry (at .i) (omega (arith, r, at .inv .0)) (omega (arith, r)))
-
-add-i : tie.Need-add-i Inv-loop μ-loop
-add-i c = search needs
-
-loop-less : tie.Need-loop-less Inv-loop μ-loop
-loop-less c = search needs
 
 loop-again : tie.Need-loop-again Inv-loop μ-loop
 loop-again c = (
@@ -61,9 +37,6 @@ loop-again c = (
   lower-more (c .before .before .before .loop .inv .2) (c .lower .ensures),
   search needs,
 )
-
-sub-result : tie.Need-sub-result Inv-loop μ-loop
-sub-result c = omega arith
 
 returns : tie.Need-returns Inv-loop μ-loop
 returns c =
@@ -76,16 +49,16 @@ nearness-spec =
     (tie.spec
     Inv-loop
     μ-loop
-    row-place-requires
-    add-e
-    mul-low
-    shared-slice-read-low
+    (λ c κs. search needs)
+    (λ c. search needs)
+    (λ c. search needs)
+    (λ c. search needs)
     loop-holds
-    mul-lower
-    shared-slice-read-lower
+    (λ c. search needs)
+    (λ c. search needs)
     lower-requires
-    add-i
-    loop-less
+    (λ c. search needs)
+    (λ c. search needs)
     loop-again
-    sub-result
+    (λ c. omega arith)
     returns)

@@ -4,9 +4,6 @@ use Rattle.toward_list.specs.Places.{row-fits, row-within, row-early}
 use Rattle.toward_list.proofs.rows.row_place.Statement.{statement}
 use Rattle.toward_list.proofs.rows.row_place.Tie as tie
 
-mul-result : tie.Need-mul-result
-mul-result c = row-fits (c .before .pre .0) (c .before .pre .1)
-
 returns : tie.Need-returns
 returns c = (
   refl,
@@ -15,4 +12,4 @@ returns c = (
 )
 
 pub row-place-spec : {M : Type 1} → statement M
-row-place-spec = tie.close (tie.spec mul-result returns)
+row-place-spec = tie.close (tie.spec (λ c. row-fits (c .before .pre .0) (c .before .pre .1)) returns)

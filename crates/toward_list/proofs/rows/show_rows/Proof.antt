@@ -16,24 +16,6 @@ Inv-loop l from to room work₀ u₀ work u = (from ≤ u) × (u ≤ to) × Show
 abbrev μ-loop : tie.MeasureT-loop
 μ-loop l from to room work₀ u₀ work u = to - u
 
-loop-holds : tie.Need-loop-holds Inv-loop μ-loop
-loop-holds c = (search needs, search needs, shown-none _ _ _ _)
-
-mul-if1 : tie.Need-mul-if1 Inv-loop μ-loop
-mul-if1 c = search needs
-
-element-copy-out-if1 : tie.Need-element-copy-out-if1 Inv-loop μ-loop
-element-copy-out-if1 c = search needs
-
-fill-row-requires : tie.Need-fill-row-requires Inv-loop μ-loop
-fill-row-requires c κs = search needs
-
-add-u : tie.Need-add-u Inv-loop μ-loop
-add-u c = search needs
-
-loop-less : tie.Need-loop-less Inv-loop μ-loop
-loop-less c = search needs
-
 loop-again : tie.Need-loop-again Inv-loop μ-loop
 loop-again c =
     let s = c .before .before .before .before .before in
@@ -48,9 +30,6 @@ loop-again c =
           (λ w. rw (w .1) (shown-some _ _ _ _ _ (i .2) (w .0 .left))) (c .if1 .came),
     )
 
-same-length : tie.Need-same-length Inv-loop μ-loop
-same-length c = search needs
-
 returns : tie.Need-returns Inv-loop μ-loop
 returns c = shown-end _ _ _ _ _ _ (c .before .loop .inv .2) (c .before .loop .inv .1) (c .loop-test .left)
 
@@ -60,12 +39,12 @@ show-rows-spec =
     (tie.spec
     Inv-loop
     μ-loop
-    loop-holds
-    mul-if1
-    element-copy-out-if1
-    fill-row-requires
-    add-u
-    loop-less
+    (λ c. (search needs, search needs, shown-none _ _ _ _))
+    (λ c. search needs)
+    (λ c. search needs)
+    (λ c κs. search needs)
+    (λ c. search needs)
+    (λ c. search needs)
     loop-again
-    same-length
+    (λ c. search needs)
     returns)

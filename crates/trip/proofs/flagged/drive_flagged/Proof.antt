@@ -6,35 +6,11 @@ use borrow.Author.Needs.{needs}
 use Rattle.trip.proofs.flagged.drive_flagged.Statement.{statement}
 use Rattle.trip.proofs.flagged.drive_flagged.Tie as tie
 
-layout-requires : tie.Need-layout-requires
-layout-requires c κs = search needs
-
-cast-cell : tie.Need-cast-cell
-cast-cell c = search needs
-
 cell-requires : tie.Need-cell-requires
 cell-requires c κs =
     let l = c .before in
     let a = l .before .before .before .before .before .pre .1 .1 in
     (search drive-laid, omega (arith, drive-sizes _ _ (l .layout .ensures), a .to-node))
-
-layout-requires-2 : tie.Need-layout-requires-2
-layout-requires-2 c κs = search flags
-
-fill-mask-requires : tie.Need-fill-mask-requires
-fill-mask-requires c κs = (search flags, (search flags, search flags, search flags))
-
-slice-aggregate-visit-over : tie.Need-slice-aggregate-visit-over
-slice-aggregate-visit-over c = search needs
-
-visit-over-requires : tie.Need-visit-over-requires
-visit-over-requires c κs = (search needs, (search needs, search flags))
-
-same-length : tie.Need-same-length
-same-length c = search needs
-
-same-length-2 : tie.Need-same-length-2
-same-length-2 c = search needs
 
 returns : tie.Need-returns
 returns c =
@@ -51,13 +27,13 @@ pub drive-flagged-spec : {M : Type 1} → statement M
 drive-flagged-spec =
     tie.close
     (tie.spec
-    layout-requires
-    cast-cell
+    (λ c κs. search needs)
+    (λ c. search needs)
     cell-requires
-    layout-requires-2
-    fill-mask-requires
-    slice-aggregate-visit-over
-    visit-over-requires
-    same-length
-    same-length-2
+    (λ c κs. search flags)
+    (λ c κs. (search flags, (search flags, search flags, search flags)))
+    (λ c. search needs)
+    (λ c κs. (search needs, (search needs, search flags)))
+    (λ c. search needs)
+    (λ c. search needs)
     returns)

@@ -18,41 +18,17 @@ Inv-loop plan l c mask₀ a₀ a-end mask a =
 abbrev μ-loop : tie.MeasureT-loop
 μ-loop plan l c mask₀ a₀ a-end mask a = a-end - a
 
-loop-holds : tie.Need-loop-holds Inv-loop μ-loop
-loop-holds c = (search needs, search needs, search needs, search needs, search fills)
-
-flag-word-requires : tie.Need-flag-word-requires Inv-loop μ-loop
-flag-word-requires c κs = search needs
-
-flag-requires : tie.Need-flag-requires Inv-loop μ-loop
-flag-requires c κs = search needs
-
-element-write-mask : tie.Need-element-write-mask Inv-loop μ-loop
-element-write-mask c = search needs
-
-add-a : tie.Need-add-a Inv-loop μ-loop
-add-a c = search needs
-
-loop-less : tie.Need-loop-less Inv-loop μ-loop
-loop-less c = search needs
-
-loop-again : tie.Need-loop-again Inv-loop μ-loop
-loop-again c = (search needs, search needs, search needs, search needs, search (fills, mask-entry))
-
-returns : tie.Need-returns Inv-loop μ-loop
-returns c = search fills
-
 pub fill-mask-spec : {M : Type 1} → statement M
 fill-mask-spec =
     tie.close
     (tie.spec
     Inv-loop
     μ-loop
-    loop-holds
-    flag-word-requires
-    flag-requires
-    element-write-mask
-    add-a
-    loop-less
-    loop-again
-    returns)
+    (λ c. (search needs, search needs, search needs, search needs, search fills))
+    (λ c κs. search needs)
+    (λ c κs. search needs)
+    (λ c. search needs)
+    (λ c. search needs)
+    (λ c. search needs)
+    (λ c. (search needs, search needs, search needs, search needs, search (fills, mask-entry)))
+    (λ c. search fills))

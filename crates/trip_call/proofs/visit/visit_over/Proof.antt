@@ -4,9 +4,6 @@ use borrow.Author.Needs.{needs}
 use Rattle.trip_call.proofs.visit.visit_over.Statement.{statement}
 use Rattle.trip_call.proofs.visit.visit_over.Tie as tie
 
-drive-requires : tie.Need-drive-requires
-drive-requires c κs = search needs
-
 open-tick-requires : tie.Need-open-tick-requires
 open-tick-requires c κs =
     let driven = c .before .before .before .before in
@@ -14,15 +11,12 @@ open-tick-requires c κs =
     let asked = pre .1 .0 in
     (pre .0, (asked .to-node, visit-early (pre .0) asked (driven .drive .ensures)))
 
-same-length : tie.Need-same-length
-same-length c = search needs
-
-same-length-2 : tie.Need-same-length-2
-same-length-2 c = search needs
-
-returns : tie.Need-returns
-returns c = search needs
-
 pub visit-over-spec : {M : Type 1} → statement M
 visit-over-spec =
-    tie.close (tie.spec drive-requires open-tick-requires same-length same-length-2 returns)
+    tie.close
+    (tie.spec
+    (λ c κs. search needs)
+    open-tick-requires
+    (λ c. search needs)
+    (λ c. search needs)
+    (λ c. search needs))

@@ -5,12 +5,6 @@ use borrow.Author.Needs.{needs}
 use Rattle.varnwalnut.proofs.desk.varnwalnut_open_network.Statement.{statement}
 use Rattle.varnwalnut.proofs.desk.varnwalnut_open_network.Tie as tie
 
-returns : tie.Need-returns
-returns c = open-short _ _ _ _ (c .if1 .taken) refl
-
-open-network-requires : tie.Need-open-network-requires
-open-network-requires c κs = search needs
-
 write-opening-requires : tie.Need-write-opening-requires
 write-opening-requires c κs =
     let far = c .before .before .before .before .before .before .before .before .before .before in
@@ -44,24 +38,12 @@ same-length-5 c =
 same-length-6 : tie.Need-same-length-6
 same-length-6 c = c .before .before .before .before .before .before .before .before .before .points .given
 
-same-length-7 : tie.Need-same-length-7
-same-length-7 c = c .before .before .before .before .before .before .before .ticks .given
-
-same-length-8 : tie.Need-same-length-8
-same-length-8 c = c .before .before .before .before .before .travels .given
-
-same-length-9 : tie.Need-same-length-9
-same-length-9 c = c .before .answer .given
-
-returns-2 : tie.Need-returns-2
-returns-2 c = search open-written
-
 pub varnwalnut-open-network-spec : {M : Type 1} → statement M
 varnwalnut-open-network-spec =
     tie.close
     (tie.spec
-    returns
-    open-network-requires
+    (λ c. open-short _ _ _ _ (c .if1 .taken) refl)
+    (λ c κs. search needs)
     write-opening-requires
     same-length
     same-length-2
@@ -69,7 +51,7 @@ varnwalnut-open-network-spec =
     same-length-4
     same-length-5
     same-length-6
-    same-length-7
-    same-length-8
-    same-length-9
-    returns-2)
+    (λ c. c .before .before .before .before .before .before .before .ticks .given)
+    (λ c. c .before .before .before .before .before .travels .given)
+    (λ c. c .before .answer .given)
+    (λ c. search open-written))

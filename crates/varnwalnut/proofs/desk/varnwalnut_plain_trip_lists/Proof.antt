@@ -5,38 +5,20 @@ use borrow.Author.Needs.{needs}
 use Rattle.varnwalnut.proofs.desk.varnwalnut_plain_trip_lists.Statement.{statement}
 use Rattle.varnwalnut.proofs.desk.varnwalnut_plain_trip_lists.Tie as tie
 
-returns : tie.Need-returns
-returns c = lists-short _ _ _ _ _ _ _ _ _ _ (c .if1 .taken) refl
-
-plain-trip-requires : tie.Need-plain-trip-requires
-plain-trip-requires c κs = search needs
-
 write-lists-requires : tie.Need-write-lists-requires
 write-lists-requires c κs = (
   plain-count _ _ _ _ _ _ _ (c .before .before .before .before .before .plain-trip .ensures .0 .answer),
   search needs,
 )
 
-same-length : tie.Need-same-length
-same-length c = search needs
-
-same-length-2 : tie.Need-same-length-2
-same-length-2 c = search needs
-
-same-length-3 : tie.Need-same-length-3
-same-length-3 c = search needs
-
-returns-2 : tie.Need-returns-2
-returns-2 c = search lists-written
-
 pub varnwalnut-plain-trip-lists-spec : {M : Type 1} → statement M
 varnwalnut-plain-trip-lists-spec =
     tie.close
     (tie.spec
-    returns
-    plain-trip-requires
+    (λ c. lists-short _ _ _ _ _ _ _ _ _ _ (c .if1 .taken) refl)
+    (λ c κs. search needs)
     write-lists-requires
-    same-length
-    same-length-2
-    same-length-3
-    returns-2)
+    (λ c. search needs)
+    (λ c. search needs)
+    (λ c. search needs)
+    (λ c. search lists-written))

@@ -1,6 +1,5 @@
 -- `file_blocks::walk::Walk::next` meets its contract: the test picks the arm, as the definition does.
-use native.Mathlib.Nat.{mul-le-mul-left}
-use native.Mathlib.Omega.{arith}
+use native.Mathlib.{Nat.mul-le-mul-left, Omega.arith}
 use Rattle.theory_loops.specs.Pick.{picks}
 use Rattle.file_blocks.specs.Walk.{stepped}
 use borrow.Author.Needs.{needs}
@@ -11,9 +10,6 @@ add-t5 : tie.Need-add-t5
 add-t5 c = let s = c .before .before .before in
     omega (arith, mul-le-mul-left (s .args .size) (s .pre .0))
 
-sub-t6 : tie.Need-sub-t6
-sub-t6 c = search needs
-
 returns : tie.Need-returns
 unfolding stepped
 returns c = search picks
@@ -21,12 +17,6 @@ returns c = search picks
 add-t7 : tie.Need-add-t7
 add-t7 c = let s = c .before .before .before in
     omega (arith, mul-le-mul-left (s .args .size) (s .pre .0))
-
-mul-t8 : tie.Need-mul-t8
-mul-t8 c = search needs
-
-sub-t9 : tie.Need-sub-t9
-sub-t9 c = search needs
 
 add-t10 : tie.Need-add-t10
 add-t10 c = let s = c .before .before .before in
@@ -37,4 +27,14 @@ unfolding stepped
 returns-2 c = search picks
 
 pub next-spec : {M : Type 1} → statement M
-next-spec = tie.close (tie.spec add-t5 sub-t6 returns add-t7 mul-t8 sub-t9 add-t10 returns-2)
+next-spec =
+    tie.close
+    (tie.spec
+    add-t5
+    (λ c. search needs)
+    returns
+    add-t7
+    (λ c. search needs)
+    (λ c. search needs)
+    add-t10
+    returns-2)

@@ -41,21 +41,6 @@ returns-9 : tie.Need-returns-9
 unfolding made
 returns-9 c = search picks depth 14
 
-cast-t9 : tie.Need-cast-t9
-cast-t9 c = search needs
-
-cast-t10 : tie.Need-cast-t10
-cast-t10 c = search needs
-
-cast-t11 : tie.Need-cast-t11
-cast-t11 c = search needs
-
-cast-t12 : tie.Need-cast-t12
-cast-t12 c = search needs
-
-cast-t13 : tie.Need-cast-t13
-cast-t13 c = search needs
-
 returns-10 : tie.Need-returns-10
 unfolding made
 returns-10 c = search picks depth 14
@@ -73,9 +58,9 @@ new-spec =
     returns-7
     returns-8
     returns-9
-    cast-t9
-    cast-t10
-    cast-t11
-    cast-t12
-    cast-t13
+    (λ c. search needs)
+    (λ c. search needs)
+    (λ c. search needs)
+    (λ c. search needs)
+    (λ c. search needs)
     returns-10)

@@ -5,14 +5,10 @@ use borrow.Author.Needs.{needs}
 use Rattle.network.proofs.points.Stretch.new.Statement.{statement}
 use Rattle.network.proofs.points.Stretch.new.Tie as tie
 
-offset-requires : tie.Need-offset-requires
-offset-requires c κs = let p = c .before .pre in omega (arith, point-in (p .0) (p .1))
-
-sub-t6 : tie.Need-sub-t6
-sub-t6 c = search needs
-
-returns : tie.Need-returns
-returns c = search needs
-
 pub new-spec : {M : Type 1} → statement M
-new-spec = tie.close (tie.spec offset-requires sub-t6 returns)
+new-spec =
+    tie.close
+    (tie.spec
+    (λ c κs. let p = c .before .pre in omega (arith, point-in (p .0) (p .1)))
+    (λ c. search needs)
+    (λ c. search needs))

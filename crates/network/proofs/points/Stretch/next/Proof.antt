@@ -5,20 +5,18 @@ use borrow.Author.Needs.{needs}
 use Rattle.network.proofs.points.Stretch.next.Statement.{statement}
 use Rattle.network.proofs.points.Stretch.next.Tie as tie
 
-add-t4 : tie.Need-add-t4
-add-t4 c = search needs
-
-mul-t5 : tie.Need-mul-t5
-mul-t5 c = search needs
-
 add-t6 : tie.Need-add-t6
 add-t6 c = let p = c .before .before .before .pre in omega (arith, behind-in (p .0) (p .1 .0) (p .1 .1))
 
 add-t7 : tie.Need-add-t7
 add-t7 c = let p = c .before .before .before .pre in omega (arith, behind-in (p .0) (p .1 .0) (p .1 .1))
 
-returns : tie.Need-returns
-returns c = search (sides, needs)
-
 pub next-spec : {M : Type 1} → statement M
-next-spec = tie.close (tie.spec add-t4 mul-t5 add-t6 add-t7 returns)
+next-spec =
+    tie.close
+    (tie.spec
+    (λ c. search needs)
+    (λ c. search needs)
+    add-t6
+    add-t7
+    (λ c. search (sides, needs)))

@@ -5,9 +5,6 @@ use borrow.Author.Needs.{needs}
 use Rattle.network.proofs.points.Stretch.travel.Statement.{statement}
 use Rattle.network.proofs.points.Stretch.travel.Tie as tie
 
-mul-le16 : tie.Need-mul-le16
-mul-le16 c = search needs
-
 add-le16 : tie.Need-add-le16
 add-le16 c =
     let p = c .before .before .pre in
@@ -23,11 +20,13 @@ le16-requires c κs =
     let p = c .before .before .pre in
     omega (arith, side-in (p .0) (p .1 .0) _ (p .1 .1) (p .1 .2))
 
-cast-result : tie.Need-cast-result
-cast-result c = search needs
-
-returns : tie.Need-returns
-returns c = (search sides, search needs)
-
 pub travel-spec : {M : Type 1} → statement M
-travel-spec = tie.close (tie.spec mul-le16 add-le16 add-le16-2 le16-requires cast-result returns)
+travel-spec =
+    tie.close
+    (tie.spec
+    (λ c. search needs)
+    add-le16
+    add-le16-2
+    le16-requires
+    (λ c. search needs)
+    (λ c. (search sides, search needs)))
