@@ -27,7 +27,7 @@ const PERIOD: u32 = 10;
 
 // The travel of road 1, the only one out of place 1, at a tick: of the trip from there to place 2 that leaves
 // then.
-fn travel_at(file: &[u8; 2048], tick: u32) -> u32
+fn travel_at(file: &[u8; LONG], tick: u32) -> u32
     ensures { λ r. ⌜ r ≡ roadTravel (now (file .entry)) tick ⌝ }
 {
     let mut arrivals = [NEVER; MOST_NODES];
@@ -41,7 +41,7 @@ fn travel_at(file: &[u8; 2048], tick: u32) -> u32
 }
 
 // Road 1 over its period, on one line.
-fn print_road(file: &[u8; 2048]) {
+fn print_road(file: &[u8; LONG]) {
     say(b"road 1:");
     for tick in 0..PERIOD {
         say(b" ");
@@ -51,7 +51,7 @@ fn print_road(file: &[u8; 2048]) {
 }
 
 // A file's opening, with tables that are long enough.
-fn print_open(file: &[u8; 2048]) {
+fn print_open(file: &[u8; LONG]) {
     let mut cells = [0u16; 4];
     let mut opens = [0u16; 4];
     let mut closes = [0u16; 4];
@@ -92,7 +92,7 @@ fn print_file(name: &[u8]) {
 }
 
 // A plain trip.
-fn print_plain(file: &[u8; 2048], from: u32, to: u32, departure: u32) {
+fn print_plain(file: &[u8; LONG], from: u32, to: u32, departure: u32) {
     let mut arrivals = [NEVER; MOST_NODES];
     let mut roads = [0u16; MOST_ROADS];
     let visit = plain_trip(file, from, to, departure, &mut arrivals, &mut roads);
@@ -102,7 +102,7 @@ fn print_plain(file: &[u8; 2048], from: u32, to: u32, departure: u32) {
 }
 
 // A flagged trip.
-fn print_flagged(file: &[u8; 2048], plan: &[u8; 2048], from: u32, to: u32, departure: u32) {
+fn print_flagged(file: &[u8; LONG], plan: &[u8; LONG], from: u32, to: u32, departure: u32) {
     let mut arrivals = [NEVER; MOST_NODES];
     let mut roads = [0u16; MOST_ROADS];
     let visit = flagged_trip(file, plan, from, to, departure, &mut arrivals, &mut roads);
@@ -112,14 +112,14 @@ fn print_flagged(file: &[u8; 2048], plan: &[u8; 2048], from: u32, to: u32, depar
 }
 
 // The check's verdict on a plan.
-fn print_verdict(file: &[u8; 2048], plan: &[u8; 2048]) {
+fn print_verdict(file: &[u8; LONG], plan: &[u8; LONG]) {
     let report = plan_check::check::check_plan(file, plan);
     let verdict = report.verdict;
     print_checking(verdict);
 }
 
 // The check of the plan in a file.
-fn print_check(file: &[u8; 2048], name: &[u8]) {
+fn print_check(file: &[u8; LONG], name: &[u8]) {
     let mut plan = [0u8; LONG];
     town::read(name, &mut plan);
     say(name);
@@ -127,7 +127,7 @@ fn print_check(file: &[u8; 2048], name: &[u8]) {
     print_verdict(file, &plan);
 }
 
-fn print_trips(file: &[u8; 2048]) {
+fn print_trips(file: &[u8; LONG]) {
     print_plain(file, 0, 2, 0);
     print_plain(file, 0, 2, 6);
     print_plain(file, 0, 2, 9);

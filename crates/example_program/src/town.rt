@@ -6,7 +6,7 @@ use network_pack::pack::pack_network;
 pub const LONG: usize = 2048;
 
 // Writes the network, with this travel at road 1's second point.
-pub fn pack(travel: u16, out: &mut [u8; 2048]) -> Writing {
+pub fn pack(travel: u16, out: &mut [u8; LONG]) -> Writing {
     let cells = [0u16, 0, 1, 1];
     let opens = [0u16; 4];
     let closes = [10u16; 4];
@@ -36,7 +36,7 @@ pub fn pack(travel: u16, out: &mut [u8; 2048]) -> Writing {
 }
 
 // Reads a file of the folder, as far as it goes and there is room; a missing one counts as empty.
-pub fn read(name: &[u8], out: &mut [u8; 2048]) {
+pub fn read(name: &[u8], out: &mut [u8; LONG]) {
     let file = os::open_read(name);
     if file < 0 {
         return;

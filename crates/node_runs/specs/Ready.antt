@@ -5,6 +5,7 @@ use Prim.Native.Nat.{ℕ, _+_, _*_, _≤_, _<_}
 use native.Mathlib.{Decide.ℕ-discrete, Omega.arith}
 use mir.{Val.Fits, Syntax.w64}
 use lib.{ListN.length, ListN.getD, ListN.set, Seq.getD-set-same, Seq.getD-set-other}
+use Rattle.network.specs.Limits.{mostNodes, mostArcs}
 use Rattle.plan.specs.declared.header.PlanLayout.{PlanLayout}
 use Rattle.plan.specs.{Plan.pointCount, PlanDecode.decodePlan}
 use Rattle.plan_tests.specs.declared.tests.{Layouts.Layouts, Target.Target}
@@ -108,10 +109,10 @@ module _ {network plan : List ℕ} {l : Layouts} (w : Checkable network plan l) 
   node-in h = omega (arith, w .nodes)
 
   -- the place of an entry of two bytes
-  pub node-place : {u : ℕ} → u < l .network .nodes → Fits w64 (u * 2) × (u < 512)
+  pub node-place : {u : ℕ} → u < l .network .nodes → Fits w64 (u * 2) × (u < mostNodes)
   node-place h = let n = w .town .small .nodes-most in (omega arith, omega arith)
 
-  pub arc-place : {a : ℕ} → a < l .network .arcs → Fits w64 (a * 2) × (a < 2048)
+  pub arc-place : {a : ℕ} → a < l .network .arcs → Fits w64 (a * 2) × (a < mostArcs)
   arc-place h = let n = w .town .small .arcs-most in (omega arith, omega arith)
 
   pub period-in : {m : ℕ} → l .network .period ≤ m → l .plan .period ≤ m
