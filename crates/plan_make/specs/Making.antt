@@ -21,6 +21,7 @@ use Rattle.network.specs.{Town.partitionOf, Validate.validated, Valid.ValidFile
 use Rattle.plan.specs.declared.header.{PlanHeader.PlanHeader, PlanLayout.PlanLayout}
 use Rattle.plan.specs.{Border.borderCount, PlanDecode.pointTotal, PlanHeader.PlanWithin, Borders.listed-front}
 use Rattle.plan.specs.PlanLayout.{planLayoutOf, plan-few}
+use Rattle.network.specs.Limits.{mostNodes}
 use Rattle.plan.specs.PlanLimits.{mostProfilePoints, mostPlanBlocks}
 use Rattle.plan.specs.PlanMatch.{matches-within, borders-few, valid-headed}
 use Rattle.plan_encode.specs.{Laying.Laying, Places.PlanRoom, Places.PlanWritable, PlanWritten.plan-written}
@@ -154,7 +155,7 @@ module _ {file : List ℕ} {h : Header} (v : ValidFile file h) {count points : �
       (matches-within h (borderCount (partitionOf n)) (madeHeader n) (v .within)
       (omega (arith, valid-headed v .nodes-are, borders-few (partitionOf n))) (made-matches v points-few))
 
-  pub borders-fit : count ≤ 512
+  pub borders-fit : count ≤ mostNodes
   borders-fit =
       omega (arith, borders-few (partitionOf n), valid-headed v .nodes-are, v .within .nodes-most)
 

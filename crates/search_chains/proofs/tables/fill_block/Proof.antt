@@ -2,6 +2,7 @@
 -- tables are those of the arcs behind the ones that are left.
 use Prim.Native.Nat.{_+_, _-_, _*_, _≤_, _<_}
 use native.Mathlib.Omega.{arith}
+use Rattle.network.specs.Limits.{mostNodes}
 use Rattle.file_blocks.specs.Kind.{arcPer}
 use Rattle.search_chains.specs.Town.{tail-node, head-node}
 use Rattle.search_chains.specs.Tables.{Filling, filling-at, count-held, filling-more}
@@ -24,7 +25,7 @@ below : (c : tie.After-entry-in Inv-loop μ-loop)
 below c = omega arith
 
 ends : (c : tie.After-entry-in Inv-loop μ-loop)
-    → (c .entry-in .result .tail < 512) × (c .entry-in .result .head < 512)
+    → (c .entry-in .result .tail < mostNodes) × (c .entry-in .result .head < mostNodes)
 ends c =
     let t = c .before .before .before .before .pre .0 in
     let e = c .entry-in .ensures in (
