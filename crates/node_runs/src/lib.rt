@@ -151,7 +151,7 @@ fn open_node(
 
 // What an arc is met with: the node that it leads to, its travel in brief, and the bits of a tick at which it
 // gives the same. An arc without such bits is passed.
-struct Way {
+struct Meeting {
     head: usize,
     brief: u8,
     same: u8,
@@ -169,7 +169,7 @@ fn look(
     target: Target,
     arc: usize,
     top: u32,
-) -> Way
+) -> Meeting
     requires { ⌜ Checkable (now network) (now plan) l ⌝ }
     requires { ⌜ Briefs (decode (now network)) (l .network .period) (l .network .arcs) (now briefs)
         × Lows (now plan) (l .plan) (target .number) (l .plan .nodes) (now lows) ⌝ }
@@ -180,7 +180,7 @@ fn look(
 {
     let head = network::read::head(network, l.network, arc);
     if plan::read::point_count(plan, l.plan, target.number * l.plan.nodes + head) == 0 {
-        return Way {
+        return Meeting {
             head,
             brief: 0,
             same: 0,
@@ -188,13 +188,13 @@ fn look(
     }
     let brief = briefs[arc];
     if is_far(top, lows[head], brief::least(brief)) {
-        return Way {
+        return Meeting {
             head,
             brief,
             same: 0,
         };
     }
-    Way {
+    Meeting {
         head,
         brief,
         same: same_bits(plan, l.plan, arc, target.cell),

@@ -431,68 +431,46 @@ returns c = let i = c .before .borders .inv in
     .before .before .args .l .plan .borders = omega (arith, c .borders-test .left, i .0) in
     (rw e at (i .3), rw e at (i .4))
 
+-- where the places are left, and the entry: both lent rooms have the same lengths
+abbrev entry : tie.At-places Inv-ticks μ-ticks Inv-places μ-places Inv-borders μ-borders
+    → tie.Start Inv-ticks μ-ticks Inv-places μ-places Inv-borders μ-borders
+entry c = c .before .before .before .before .before .before .before .before .before
+    .before .before .before .before .before .before .before .before .before
+
 same-length-8 : tie.Need-same-length-8 Inv-ticks μ-ticks Inv-places μ-places Inv-borders μ-borders
-same-length-8 c = omega (
-  arith,
-  c .before .before .before .places .inv .1 .own-s,
-  c .before .before .before
-      .before .before .before .before .before .before .before .before .before .before .before .before
-      .before .before .before .before .before .before .pre .1 .1 .0 .own-s,
-)
+same-length-8 c =
+    let p = c .before .before .before in
+    omega (arith, p .places .inv .1 .own-s, entry p .pre .1 .1 .0 .own-s)
 
 same-length-9 : tie.Need-same-length-9 Inv-ticks μ-ticks Inv-places μ-places Inv-borders μ-borders
-same-length-9 c = omega (
-  arith,
-  c .before .before .before .places .inv .1 .own-v,
-  c .before .before .before
-      .before .before .before .before .before .before .before .before .before .before .before .before
-      .before .before .before .before .before .before .pre .1 .1 .0 .own-v,
-)
+same-length-9 c =
+    let p = c .before .before .before in
+    omega (arith, p .places .inv .1 .own-v, entry p .pre .1 .1 .0 .own-v)
 
 same-length-10 : tie.Need-same-length-10 Inv-ticks μ-ticks Inv-places μ-places Inv-borders μ-borders
-same-length-10 c = omega (
-  arith,
-  c .before .before .before .places .inv .1 .arc-s,
-  c .before .before .before
-      .before .before .before .before .before .before .before .before .before .before .before .before
-      .before .before .before .before .before .before .pre .1 .1 .0 .arc-s,
-)
+same-length-10 c =
+    let p = c .before .before .before in
+    omega (arith, p .places .inv .1 .arc-s, entry p .pre .1 .1 .0 .arc-s)
 
 same-length-11 : tie.Need-same-length-11 Inv-ticks μ-ticks Inv-places μ-places Inv-borders μ-borders
-same-length-11 c = omega (
-  arith,
-  c .before .before .before .places .inv .1 .arc-v,
-  c .before .before .before
-      .before .before .before .before .before .before .before .before .before .before .before .before
-      .before .before .before .before .before .before .pre .1 .1 .0 .arc-v,
-)
+same-length-11 c =
+    let p = c .before .before .before in
+    omega (arith, p .places .inv .1 .arc-v, entry p .pre .1 .1 .0 .arc-v)
 
 same-length-12 : tie.Need-same-length-12 Inv-ticks μ-ticks Inv-places μ-places Inv-borders μ-borders
-same-length-12 c = omega (
-  arith,
-  c .before .before .before .places .inv .1 .head-s,
-  c .before .before .before
-      .before .before .before .before .before .before .before .before .before .before .before .before
-      .before .before .before .before .before .before .pre .1 .1 .0 .head-s,
-)
+same-length-12 c =
+    let p = c .before .before .before in
+    omega (arith, p .places .inv .1 .head-s, entry p .pre .1 .1 .0 .head-s)
 
 same-length-13 : tie.Need-same-length-13 Inv-ticks μ-ticks Inv-places μ-places Inv-borders μ-borders
-same-length-13 c = omega (
-  arith,
-  c .before .before .before .places .inv .1 .head-v,
-  c .before .before .before
-      .before .before .before .before .before .before .before .before .before .before .before .before
-      .before .before .before .before .before .before .pre .1 .1 .0 .head-v,
-)
+same-length-13 c =
+    let p = c .before .before .before in
+    omega (arith, p .places .inv .1 .head-v, entry p .pre .1 .1 .0 .head-v)
 
 same-length-14 : tie.Need-same-length-14 Inv-ticks μ-ticks Inv-places μ-places Inv-borders μ-borders
-same-length-14 c = omega (
-  arith,
-  c .before .before .before .places .inv .1 .bytes,
-  c .before .before .before
-      .before .before .before .before .before .before .before .before .before .before .before .before
-      .before .before .before .before .before .before .pre .1 .1 .0 .bytes,
-)
+same-length-14 c =
+    let p = c .before .before .before in
+    omega (arith, p .places .inv .1 .bytes, entry p .pre .1 .1 .0 .bytes)
 
 returns-2 : tie.Need-returns-2 Inv-ticks μ-ticks Inv-places μ-places Inv-borders μ-borders
 returns-2 c = let s = c .before .before .before .before .before .before .before .before .before .before
