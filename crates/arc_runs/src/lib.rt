@@ -4,6 +4,8 @@
 // It may call `network` for the entries of the file, `file_blocks` for the walk over points, `day_runs` for
 // runs and `search_arcs` for widths; it cites `theory_travel` for the line and `theory_loops` for filled
 // parts.
+#![tactic(auto)]
+
 pub mod brief;
 
 ghost use Rattle.std.specs.Prelude.{◌≡◌, ◌+◌, ◌/◌, ◌^◌, ◌≤◌, ◌<◌, length, get_or};

@@ -5,6 +5,8 @@
 // and head go on side by side (`sweep`), so that a step waits for few reads.
 // It may call `day_walk` to walk along runs; it cites `day_slopes` for runs and `theory_loops` for filled
 // parts.
+#![tactic(auto)]
+
 ghost use Rattle.std.specs.Prelude.{◌≡◌, ◌+◌, ◌≤◌, ◌<◌, length, get_or};
 ghost use Rattle.theory_loops.specs.Fill.{Filled};
 ghost use Rattle.day_slopes.specs.Runs.{Short};
@@ -85,7 +87,7 @@ fn turn(marks: &mut [u8], since: usize, t: usize, held: u8, more: u8) -> usize
 
 // Where a walk stands: at tick t, in run i of the node, and in the head it was last in run j. All is painted
 // up to tick `since`, and from there on the bits are `held`.
-#[derive(Drop)]
+#[derive(Clone, Copy)]
 struct Place {
     t: usize,
     i: usize,

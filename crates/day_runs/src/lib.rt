@@ -3,6 +3,8 @@
 // run stays open, so that a piece which begins with its value goes on with it, until `finish` ends the day.
 // `extend` and `finish` count themselves, and nothing else that is public here divides.
 // It may call `day_slopes` for the runs of a line, and cites `theory_travel` for the line.
+#![tactic(auto)]
+
 ghost use Rattle.std.specs.Prelude.{◌≡◌, ◌+◌, ◌^◌, ◌<◌, min, max};
 ghost use Rattle.theory_travel.specs.Pieces.{line_at};
 ghost use Rattle.day_slopes.specs.Held.{Added, Held, Room, Ending, Closed, Leading};

@@ -5,5 +5,7 @@
 //   sheet    refusal 28, or the day's arrivals listed; the work list ends as zero
 // It may call `network_validate` to validate the file, `search_chains` and `search_arcs` for tables of arcs,
 // `toward_list` and `toward_node` for least travels; it cites `trip_call` for what is asked.
+#![tactic(auto)]
+
 pub mod begin;
 pub mod sheet;

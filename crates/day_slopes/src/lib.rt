@@ -2,4 +2,6 @@
 // stands in `rising` and `falling` alone, and in `climb` and `sink` for lines with a new value at each tick.
 // It owns what runs of a day are (specs/Runs.antt). It may call `travel_runs` for steps, and cites
 // `theory_travel` for the line.
+#![tactic(auto)]
+
 pub mod slopes;

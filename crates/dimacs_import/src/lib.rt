@@ -4,4 +4,6 @@
 //   import   refusals 35, 36 and 31, or the file written
 // It may call `dimacs_text` to judge a text and to note its arcs, `network` for the header, and
 // `network_encode` to write the file.
+#![tactic(auto)]
+
 pub mod import;

@@ -4,5 +4,7 @@
 // It may call `text_numbers`, which reads the numbers of a line. What lines have which shape is said in
 // specs/Shape.antt, and that the code takes exactly these for it (`remark_exactly`, `sizes_exactly`,
 // `arc_exactly`).
+#![tactic(auto)]
+
 pub mod line;
 pub mod next;

@@ -8,21 +8,21 @@ use text_spaced::spaced::{Scan, is_whole, scan_line};
 const DIGITS: u32 = 9;
 
 // How many nodes and arcs the file has.
-#[derive(Drop)]
+#[derive(Clone, Copy)]
 pub struct Sizes {
     pub nodes: u32,
     pub arcs: u32,
 }
 
 // An arc, by the numbers of its line.
-#[derive(Drop)]
+#[derive(Clone, Copy)]
 pub struct Arc {
     pub tail: u32,
     pub head: u32,
     pub weight: u32,
 }
 
-#[derive(Drop)]
+#[derive(Clone, Copy)]
 pub enum Shape {
     Remark,
     Sizes(Sizes),

@@ -8,14 +8,14 @@ use text_lines::lines::line_end;
 use text_numbers::digits::number_at;
 
 // The shape of a line, and where it ends: at its line feed, or at the end of the text.
-#[derive(Drop)]
+#[derive(Clone, Copy)]
 pub struct Line {
     pub shape: Shape,
     pub end: usize,
 }
 
 // An arc whose line ends at `end`, behind its start; where the line is not one, `end` is its start.
-#[derive(Drop)]
+#[derive(Clone, Copy)]
 struct Met {
     arc: Arc,
     end: usize,

@@ -4,5 +4,7 @@
 //   verdict  what is said of them
 // It may call `dimacs_line` for the shape of a line; it cites the limits of `network`. Which texts are
 // accepted is said in specs/Accepted.antt, and that it is exactly these (`accepted_exactly`).
+#![tactic(auto)]
+
 pub mod reading;
 pub mod verdict;

@@ -16,7 +16,7 @@ const PERIOD: u32 = MOST_PERIOD as u32;
 // How many lines have been read, and whether the last of them is refused as 35; whether the sizes have been
 // read, and which they are; how many arcs; and the number of the first line that is to be refused as 36, or
 // 0.
-#[derive(Drop)]
+#[derive(Clone, Copy)]
 pub struct Reading {
     pub lines: usize,
     pub stopped: bool,

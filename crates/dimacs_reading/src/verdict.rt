@@ -8,7 +8,7 @@ use crate::reading::Reading;
 use dimacs_line::line::Sizes;
 use file_refusals::{Refusal, number, refuse};
 
-#[derive(Drop)]
+#[derive(Clone, Copy)]
 pub enum Judgement {
     Accepted(Sizes),
     Refused(Refusal),

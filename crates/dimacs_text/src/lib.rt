@@ -3,5 +3,7 @@
 //   judge    the whole text
 // It may call `dimacs_line` for the next line and its shape and `dimacs_reading` for what the lines come to;
 // it cites `text_lines`, and the limits of `network`.
+#![tactic(auto)]
+
 pub mod judge;
 pub mod noting;

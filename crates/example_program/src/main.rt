@@ -3,6 +3,8 @@
 //   print  answers as lines
 // The same rows are proved from the files' bytes in one theorem (`example_theorem`). The program calls every
 // operation, and `io` and `os` for its input and output.
+#![tactic(auto)]
+
 mod print;
 mod town;
 

@@ -4,6 +4,8 @@
 //   pairs   two tables filled at once, from entries of two fields
 //   walk    a walk over entries in their order
 // It may call `file_fields` for fields, and cites `theory_loops`.
+#![tactic(auto)]
+
 pub mod kind;
 pub mod pairs;
 pub mod place;

@@ -10,7 +10,7 @@ use file_fields::BLOCK;
 use file_fields::fields::{le16, le32};
 
 // The byte at which the entry starts, and how many entries its block has from it on.
-#[derive(Drop)]
+#[derive(Clone, Copy)]
 pub struct Walk {
     pub at: usize,
     pub left: usize,

@@ -1,6 +1,8 @@
 // file_fields: bytes as numbers, low byte first. It calls nothing but its own, and cites `theory_loops`.
 //   fields  fields of two, four and eight bytes, read and written
 //   sum     the check of a block, over its 16-bit words
+#![tactic(auto)]
+
 pub mod fields;
 pub mod sum;
 

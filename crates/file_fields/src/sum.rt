@@ -8,7 +8,7 @@ ghost use Rattle.file_fields.specs.Sum.{sums, good};
 use crate::fields::le16;
 use crate::{BLOCK, SUMMED};
 
-#[derive(Drop)]
+#[derive(Clone, Copy)]
 pub struct Sums {
     pub a: u16,
     pub b: u16,

@@ -4,6 +4,8 @@
 //   sound   check and form of a block together
 // It may call `file_blocks` for where entries stand and `file_fields` for fields and for a block's check, and
 // cites `theory_loops`.
+#![tactic(auto)]
+
 pub mod form;
 pub mod reader;
 pub mod sound;

@@ -9,7 +9,7 @@ ghost use Rattle.file_forms.specs.Read.{good_at, bad};
 use file_fields::BLOCK;
 use file_fields::sum::is_good;
 
-#[derive(Drop)]
+#[derive(Clone, Copy)]
 pub struct Blocks<'a> {
     pub file: &'a [u8],
     pub at: usize,

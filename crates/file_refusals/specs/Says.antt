@@ -1,7 +1,7 @@
 -- What an answer says, in document 01's terms: the number of its refusal, or 0, the three places, and the
 -- values that it gives. Beside each enum of answers stands the definition that gives this for every case;
 -- replies, promises and the worked example use it.
-use Rattle.std.specs.Prelude.{List, [], ◌∷◌, ◌++◌, ℕ, replicate}
+use Rattle.std.specs.Prelude.{List, ◌∷◌, ℕ, replicate}
 use Rattle.file_refusals.specs.declared.Refusal.{Refusal}
 
 pub record Says : Type 0 where

@@ -3,6 +3,8 @@
 //   number    the numbers, by name
 //   writing   what an operation that writes a file answers
 //   listing   what an operation that fills a lent list answers
+#![tactic(auto)]
+
 pub mod listing;
 pub mod number;
 pub mod writing;
@@ -11,7 +13,7 @@ ghost use Rattle.std.specs.Prelude.{◌≡◌};
 ghost use Rattle.file_refusals.specs.Refusal as refusals;
 
 // A refusal. Places that document 01 names none for are 0.
-#[derive(Drop)]
+#[derive(Clone, Copy)]
 pub struct Refusal {
     pub number: u32,
     pub first: u32,
@@ -20,7 +22,7 @@ pub struct Refusal {
 }
 
 // What rules say of a file's tables.
-#[derive(Drop)]
+#[derive(Clone, Copy)]
 pub enum Judged {
     Sound,
     Faulty(Refusal),

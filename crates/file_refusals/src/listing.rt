@@ -5,12 +5,12 @@ ghost use Rattle.file_refusals.specs.Listing as listings;
 use crate::{Refusal, refuse};
 
 // How many entries of a list were filled.
-#[derive(Drop)]
+#[derive(Clone, Copy)]
 pub struct Count {
     pub entries: u32,
 }
 
-#[derive(Drop)]
+#[derive(Clone, Copy)]
 pub enum Listing {
     Listed(Count),
     Refused(Refusal),

@@ -5,12 +5,12 @@ ghost use Rattle.file_refusals.specs.Writing as writings;
 use crate::{Refusal, refuse};
 
 // How many bytes a file that was written has.
-#[derive(Drop)]
+#[derive(Clone, Copy)]
 pub struct Length {
     pub bytes: u32,
 }
 
-#[derive(Drop)]
+#[derive(Clone, Copy)]
 pub enum Writing {
     Written(Length),
     Refused(Refusal),

@@ -5,7 +5,7 @@ ghost use Rattle.network.specs.Validate;
 use crate::header::Header;
 use file_refusals::{Refusal, refuse};
 
-#[derive(Drop)]
+#[derive(Clone, Copy)]
 pub enum Opening {
     Opened(Header),
     Refused(Refusal),

@@ -11,7 +11,7 @@ use file_fields::fields::le16;
 use file_fields::{BLOCK, HEAD};
 
 // An arc's entry.
-#[derive(Drop)]
+#[derive(Clone, Copy)]
 pub struct Entry {
     pub tail: usize,
     pub head: usize,

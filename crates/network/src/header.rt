@@ -8,7 +8,7 @@ use crate::node::node_per;
 use file_blocks::kind;
 use file_blocks::place::blocks;
 
-#[derive(Drop)]
+#[derive(Clone, Copy)]
 pub struct Header {
     pub number: u32,
     pub period: u16,
@@ -20,7 +20,7 @@ pub struct Header {
 }
 
 // The header that some numbers make, or none.
-#[derive(Drop)]
+#[derive(Clone, Copy)]
 pub enum Made {
     Inside(Header),
     Outside,
@@ -28,7 +28,7 @@ pub enum Made {
 
 // The counts of a network as sizes, whether it holds hours (1) or not (0), and the first block of its arcs,
 // of its points, and after its last.
-#[derive(Drop)]
+#[derive(Clone, Copy)]
 pub struct Layout {
     pub period: usize,
     pub nodes: usize,

@@ -10,6 +10,8 @@
 //   answer    refusals, and what validation answers
 // It may call `file_blocks` and `file_fields` for bytes, and cites `file_forms`, `theory_loops`,
 // `theory_paths` and `theory_travel`. Files are read in place.
+#![tactic(auto)]
+
 pub mod answer;
 pub mod arcs;
 pub mod header;

@@ -12,7 +12,7 @@ use file_fields::BLOCK;
 use file_fields::fields::le16;
 
 // A point, the byte at which it starts, and how many points its block can hold from it on.
-#[derive(Drop)]
+#[derive(Clone, Copy)]
 pub struct Stretch {
     pub first: usize,
     pub at: usize,

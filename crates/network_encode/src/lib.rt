@@ -3,4 +3,6 @@
 //   encode  the file of eight tables, block by block
 // It may call `file_blocks`, `file_write` and `file_fields` to write, and `network` for the header and its
 // layout.
+#![tactic(auto)]
+
 pub mod encode;

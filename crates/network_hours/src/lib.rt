@@ -1,6 +1,8 @@
 // network_hours: when a node is open, every day alike, and the first tick at or after another at which it is
 // (specs/Hours.antt, `first_open`).
 // It may call `network` for a node's hours.
+#![tactic(auto)]
+
 ghost use Rattle.std.specs.Prelude.{◌≡◌, ◌^◌, ◌≤◌, ◌<◌};
 ghost use Rattle.network.specs.Decode.{decode, Laid};
 ghost use Rattle.network_hours.specs.Hours.{open_from, open_after};

@@ -21,7 +21,7 @@ use network_steady::steady::is_steady;
 
 // What a pass over the arcs finds: the first that breaks rule 8, or how many there are, and the points of
 // those before it.
-#[derive(Drop)]
+#[derive(Clone, Copy)]
 pub struct Arcs {
     pub bad: usize,
     pub sum: usize,

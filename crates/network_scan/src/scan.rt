@@ -12,7 +12,7 @@ use network::read;
 
 // What a scan of points finds: the first that breaks rule 9, and the first that breaks rule 10, each by its
 // number, or how many there are.
-#[derive(Drop)]
+#[derive(Clone, Copy)]
 pub struct Scan {
     pub bad: usize,
     pub late: usize,

@@ -17,7 +17,7 @@ use network::arcs::entry_in;
 use network::header::Layout;
 
 // What a walk over a block of arcs finds: whether their days close, and if so the points of all arcs so far.
-#[derive(Drop)]
+#[derive(Clone, Copy)]
 pub struct Closes {
     pub all: bool,
     pub sum: usize,

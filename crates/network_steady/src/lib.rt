@@ -4,6 +4,8 @@
 //   steady    the answer
 // It may call `network` for the entries of the file and `file_blocks` and `file_fields` for bytes, and cites
 // `theory_loops`, `theory_breaks`, `theory_travel` and `file_refusals`.
+#![tactic(auto)]
+
 mod closes;
 mod joins;
 pub mod steady;

@@ -4,5 +4,7 @@
 //   steady    do the points of all arcs keep the rules 9 and 10, yes or no?
 // It may call `network_rules` and `network_scan` for what the rules ask of one entry, and `network` for the
 // header's numbers, and cites `network_steady`.
+#![tactic(auto)]
+
 pub mod rules;
 mod steady;

@@ -15,7 +15,7 @@ use crate::rules::entry;
 
 // What is seen of the points that have one after them: how many of those after them have tick 0, and a number
 // that is 0 only where all of them keep the rules.
-#[derive(Drop)]
+#[derive(Clone, Copy)]
 pub struct Pairs {
     pub starts: u16,
     pub fault: u16,

@@ -3,6 +3,8 @@
 // of it leads to one that has some.
 // It may call `profile_runs` for runs, `network`, `plan` and `search_arcs` to read files and tables; it cites
 // `plan_tests`, `plan_values`, `day_runs`, `day_slopes`, `search_chains`, `theory_loops` and `theory_paths`.
+#![tactic(auto)]
+
 ghost use Rattle.std.specs.Prelude.{◌≡◌, ◌+◌, ◌*◌, ◌^◌, ◌≤◌, ◌<◌, length};
 ghost use Rattle.theory_loops.specs.Fill.{Filled};
 ghost use Rattle.theory_loops.specs.First;

@@ -5,6 +5,8 @@
 // It may call `arc_runs` and `profile_runs` for runs, `day_merge` to merge them, `network`, `plan` and
 // `search_arcs` to read files and tables; it cites `plan_tests` for the tests, `plan_values` for profiles,
 // `day_runs`, `theory_loops` and `theory_paths`.
+#![tactic(auto)]
+
 ghost use Rattle.std.specs.Prelude.{◌≡◌, ◌+◌, ◌*◌, ◌^◌, ◌≤◌, ◌<◌, length, ltb};
 ghost use Rattle.network.specs.Limits.{most_cells};
 ghost use Rattle.network.specs.Network;
@@ -110,7 +112,7 @@ fn clear(marks: &mut [u8], period: usize)
 }
 
 // The runs of a profile, how many they are, and a number that it is never above.
-#[derive(Drop)]
+#[derive(Clone, Copy)]
 struct Profile {
     runs: usize,
     top: u32,
@@ -148,7 +150,7 @@ fn open_node(
 
 // What an arc is met with: the node that it leads to, its travel in brief, and the bits of a tick at which it
 // gives the same. An arc without such bits is passed.
-#[derive(Drop)]
+#[derive(Clone, Copy)]
 struct Meeting {
     head: usize,
     brief: u8,

@@ -4,6 +4,8 @@
 // It may call `node_bare` and `node_runs` to judge a node, and `plan` to read the file; it cites `plan_tests`
 // for the tests, `network`, `plan_values`, `profile_runs`, `search_chains`, `arc_runs`, `theory_loops` and
 // `theory_paths`.
+#![tactic(auto)]
+
 ghost use Rattle.std.specs.Prelude.{◌≡◌, ◌≢◌, ◌+◌, ◌*◌, ◌^◌, ◌≤◌, ◌<◌, length};
 ghost use Rattle.network.specs.Decode.{decode};
 ghost use Rattle.network.specs.Network.{tail};

@@ -6,7 +6,7 @@ use crate::header::PlanHeader;
 use file_refusals::{Refusal, refuse};
 
 // What validation says of a plan file.
-#[derive(Drop)]
+#[derive(Clone, Copy)]
 pub enum Planning {
     WellFormed(PlanHeader),
     Refused(Refusal),

@@ -8,7 +8,7 @@ use file_blocks::place::blocks;
 
 // The number of the network that the plan is for, that network's counts, the count of its borders, and the
 // points of all profiles.
-#[derive(Drop)]
+#[derive(Clone, Copy)]
 pub struct PlanHeader {
     pub number: u32,
     pub period: u16,
@@ -20,7 +20,7 @@ pub struct PlanHeader {
 }
 
 // The counts as sizes, and the first block of the profiles' counts, of their points, and after the last.
-#[derive(Drop)]
+#[derive(Clone, Copy)]
 pub struct PlanLayout {
     pub period: usize,
     pub nodes: usize,

@@ -6,5 +6,7 @@
 // It may call `network_validate`, `plan_rules` and `plan_validate` to validate files, `plan_tests` for test
 // 20, `plan_judge` for the tests 21 to 24, `search_chains` and `search_arcs` for the arcs out of a node, and
 // `network` and `plan` to read both files in place.
+#![tactic(auto)]
+
 pub mod answer;
 pub mod check;

@@ -5,6 +5,8 @@
 // It may call `toward_start` for what starts a least path, `toward_node` for rows, `plan` for flags,
 // `search_arcs` for entries of tables and `network` for those of the file; it cites `theory_loops`,
 // `theory_paths` and `toward_row`.
+#![tactic(auto)]
+
 ghost use Rattle.std.specs.Prelude.{◌≡◌, ◌+◌, ◌*◌, ◌≤◌, ◌<◌, length};
 ghost use Rattle.theory_paths.specs.Least.{least_ticks};
 ghost use Rattle.theory_paths.specs.Planned.{starts as startsLeast};

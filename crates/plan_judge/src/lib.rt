@@ -4,6 +4,8 @@
 // It may call `node_verdict` and `node_runs` for the tests at a node, `arc_runs` for arcs in brief,
 // `plan_values` for where profiles start, and `network` to read the file; it cites `plan`, `plan_tests`,
 // `search_chains`, `search_arcs`, `theory_loops` and `theory_paths`.
+#![tactic(auto)]
+
 ghost use Rattle.std.specs.Prelude.{◌≡◌, ◌<◌};
 ghost use Rattle.network.specs.Decode.{decode};
 ghost use Rattle.network.specs.Limits.{most_nodes};
@@ -30,7 +32,7 @@ use search_arcs::wide;
 const RUN_ENDS: usize = MOST_PERIOD + 1;
 
 // The lowest test that fails so far, and the first place at which it does; 25 while none fails.
-#[derive(Drop)]
+#[derive(Clone, Copy)]
 pub struct Found {
     pub number: u32,
     pub border: usize,

@@ -2,3 +2,4 @@
 // file (specs/File.antt), that the check accepts it (specs/Accepts.antt), and what it is in wish 1's words
 // (specs/Exactly.antt). It has no code, and cites `plan` for what a plan is, `plan_encode` for its bytes and
 // `plan_check` for the check.
+#![tactic(auto)]

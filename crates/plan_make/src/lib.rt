@@ -5,4 +5,6 @@
 // It may call `network_validate` to validate the file, `search_chains`, `search_arcs` and `plan` for tables
 // of arcs and borders, `plan_rounds` for the rounds over the borders, and `plan_encode` to write; it cites
 // `plan_made` for what the plan is.
+#![tactic(auto)]
+
 pub mod make;

@@ -5,6 +5,8 @@
 //   rising    the profiles, and the answer
 // It may call `file_fields`, `file_blocks`, `file_forms` and `plan`, and cites `theory_loops`,
 // `theory_breaks`, `theory_travel` and `file_refusals`. The file is read in place.
+#![tactic(auto)]
+
 mod breaks;
 mod progress;
 pub mod rising;

@@ -17,7 +17,7 @@ use plan::header::PlanLayout;
 
 // So many blocks have been looked at, with this tick for their last and so many breaks. All three are numbers
 // of one width, so that a compiler keeps them at hand while a block is looked at.
-#[derive(Drop)]
+#[derive(Clone, Copy)]
 pub struct Progress {
     pub done: usize,
     pub last: usize,

@@ -2,4 +2,6 @@
 // profiles, the other puts points and flags. Both work out the least travels to each border in a lent list.
 // It may call `toward_node` for least travels and `plan_rows` and `plan_flags` for points and flags, and
 // `search_arcs` for widths; it cites `plan_made` for what the plan is.
+#![tactic(auto)]
+
 pub mod rounds;

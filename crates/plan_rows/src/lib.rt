@@ -5,6 +5,8 @@
 //   rows     the points and counts of all rows of a border
 // It may call `toward_points` for where a row has points, `toward_node` for where a row stands, and
 // `plan_encode` to put entries; it cites `theory_loops`, `theory_travel` and `plan`.
+#![tactic(auto)]
+
 pub mod count;
 pub mod points;
 pub mod rows;

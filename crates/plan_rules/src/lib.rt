@@ -3,5 +3,7 @@
 //   rules   the rules 17 to 19
 // It may call `file_fields`, `file_blocks`, `file_forms`, `network` and `plan`, and cites `theory_loops` and
 // `theory_travel`. Both files are read in place.
+#![tactic(auto)]
+
 pub mod header;
 pub mod rules;

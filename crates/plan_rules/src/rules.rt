@@ -19,7 +19,7 @@ use plan::read::flag_word;
 
 // What a scan of points has found: the first that breaks rule 19, by its number, or how many there are; and
 // where it stands.
-#[derive(Drop)]
+#[derive(Clone, Copy)]
 pub struct Scan {
     pub bad: usize,
     pub at: Walk,

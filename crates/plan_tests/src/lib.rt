@@ -3,4 +3,6 @@
 //   tests   test 20, and what the others are told of
 // It may call `network` and `plan` to read both files, and cites `plan_values` for profiles, `search_chains`
 // for the arcs out of a node, `theory_loops` and `theory_paths`.
+#![tactic(auto)]
+
 pub mod tests;

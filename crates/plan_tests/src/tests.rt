@@ -12,14 +12,14 @@ use plan::flag::is_set;
 use plan::header::PlanLayout;
 
 // Where the tables of a network file and of its plan stand.
-#[derive(Drop)]
+#[derive(Clone, Copy)]
 pub struct Layouts {
     pub network: Layout,
     pub plan: PlanLayout,
 }
 
 // A border, towards which profiles lead: its number, its node and its cell.
-#[derive(Drop)]
+#[derive(Clone, Copy)]
 pub struct Target {
     pub number: usize,
     pub node: usize,

@@ -3,5 +3,7 @@
 //   validate     refusals 11 to 19
 // It may call `plan_rules` and `plan_rising` for the rules, `file_fields`, `file_blocks`, `file_forms`,
 // `network` and `plan`, and cites `theory_loops`. Both files are read in place.
+#![tactic(auto)]
+
 pub mod validate;
 mod well_formed;

@@ -3,4 +3,6 @@
 //   starts   the table of where the profiles of a border start
 // It may call `plan` for the entries of the file, and cites `theory_loops`, `theory_paths` and
 // `theory_travel`.
+#![tactic(auto)]
+
 pub mod starts;

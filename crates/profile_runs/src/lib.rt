@@ -3,6 +3,8 @@
 // it has points. A profile without points has no numbers, and is not asked for.
 // It may call `plan` for the entries of the file, `file_blocks` for the walk over points and `day_runs` for
 // runs; it cites `plan_values` and `theory_paths` for profiles and `theory_travel` for the line.
+#![tactic(auto)]
+
 ghost use Rattle.std.specs.Prelude.{◌≡◌, ◌+◌, ◌*◌, ◌/◌, ◌^◌, ◌≤◌, ◌<◌};
 ghost use Rattle.theory_travel.specs.Day.{Day};
 ghost use Rattle.theory_travel.specs.Table.{entry_at, value_at};

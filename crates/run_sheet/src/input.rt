@@ -9,7 +9,7 @@ use libc::{STDIN_FILENO, STDOUT_FILENO};
 use sheet::reading::{LINES, Reading, begin, finish, take_byte};
 
 // The reading after a piece of the input, and how many bytes the piece had.
-#[derive(Drop)]
+#[derive(Clone, Copy)]
 struct Piece {
     reading: Reading,
     count: usize,

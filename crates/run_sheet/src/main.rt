@@ -4,6 +4,8 @@
 //   input  standard input, in pieces, and what each byte prints
 // It may call `sheet` for the steps and `sheet_text` for the most bytes of a file and of a line, and `io` and
 // `os` for its input and output.
+#![tactic(auto)]
+
 mod files;
 mod input;
 

@@ -2,6 +2,8 @@
 // place; and numbers of tables and rows as those who search compare them.
 // It may call `network` for the entries of the file and `theory_travel` for the straight line; it cites
 // `search_chains` for what it rests on, `theory_loops` and `theory_paths`.
+#![tactic(auto)]
+
 pub mod times;
 
 ghost use Rattle.std.specs.Prelude.{◌≡◌, ◌^◌, ◌<◌, ltb};

@@ -11,7 +11,7 @@ use network::limits::{MOST_ARCS, MOST_NODES};
 use network::read;
 
 // An end of an arc.
-#[derive(Drop)]
+#[derive(Clone, Copy)]
 pub enum End {
     Tail,
     Head,

@@ -3,5 +3,7 @@
 //   tables  each arc's head and first point, and the chain out of each node, in one pass
 // It owns what readers of a sound file rest on (specs/Town.antt). It may call `network` and `file_blocks` for
 // the entries of the file, and cites `theory_loops` and `theory_paths`.
+#![tactic(auto)]
+
 pub mod chain;
 pub mod tables;

@@ -6,6 +6,8 @@
 // It may call `search_chains` for the arcs out of a node, `search_arcs` for their ends, `search_frontier` for
 // the nodes to be settled, and `network` for the entries of the file; it cites `theory_loops` and
 // `theory_paths`.
+#![tactic(auto)]
+
 pub mod notes;
 pub mod query;
 pub mod reach;

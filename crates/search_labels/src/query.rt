@@ -1,5 +1,5 @@
 // What a trip asks: from which node to which, leaving at which tick.
-#[derive(Drop)]
+#[derive(Clone, Copy)]
 pub struct Query {
     pub source: u32,
     pub target: u32,

@@ -2,13 +2,13 @@
 // places.
 use file_refusals::Refusal;
 
-#[derive(Drop)]
+#[derive(Clone, Copy)]
 pub struct Arrival {
     pub tick: u32,
     pub count: usize,
 }
 
-#[derive(Drop)]
+#[derive(Clone, Copy)]
 pub enum Answer {
     Arrived(Arrival),
     Refused(Refusal),

@@ -5,6 +5,8 @@
 //   path   the chosen path, from the notes that the search left
 // It may call `search_labels` for the labels and notes, `network` for the entries of the file and
 // `file_refusals` to refuse; it cites `search_chains`, `theory_loops` and `theory_paths`.
+#![tactic(auto)]
+
 use crate::answer::{Answer, Arrival};
 use file_refusals::number::{NO_WAY, ROADS_SHORT};
 use file_refusals::refuse;

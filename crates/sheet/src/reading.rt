@@ -17,7 +17,7 @@ pub const LINES: u32 = 64;
 
 // How far the input is read: how many lines have ended, whether one more has begun, and what its bytes come
 // to.
-#[derive(Drop)]
+#[derive(Clone, Copy)]
 pub struct Reading {
     pub lines: u32,
     pub begun: bool,
@@ -25,7 +25,7 @@ pub struct Reading {
 }
 
 // The reading after a step, and how many bytes of text the step has stored.
-#[derive(Drop)]
+#[derive(Clone, Copy)]
 pub struct Step {
     pub reading: Reading,
     pub length: usize,

@@ -5,14 +5,14 @@ ghost use Rattle.sheet_line.specs.Line as lines;
 use text_spaced::spaced::{Scan, is_whole};
 
 // The trip that a line asks for.
-#[derive(Drop)]
+#[derive(Clone, Copy)]
 pub struct Asking {
     pub from: u32,
     pub to: u32,
     pub leave: u32,
 }
 
-#[derive(Drop)]
+#[derive(Clone, Copy)]
 pub enum Line {
     Asks(Asking),
     Other,

@@ -16,7 +16,7 @@ use text_numbers::text::{end_line, put_text};
 pub const MOST: usize = 24576;
 
 // How many bytes the first line has, and whether lines of the input are read.
-#[derive(Drop)]
+#[derive(Clone, Copy)]
 pub struct Head {
     pub length: usize,
     pub reads: bool,

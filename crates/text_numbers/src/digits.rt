@@ -5,7 +5,7 @@ ghost use Rattle.text_numbers.specs.Digits.{DigitsAt, DigitBy};
 use std::num::wrapping_sub_u32;
 
 // A number, and the place behind its last digit.
-#[derive(Drop)]
+#[derive(Clone, Copy)]
 pub struct Number {
     pub value: u32,
     pub end: usize,

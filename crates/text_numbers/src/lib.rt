@@ -4,5 +4,7 @@
 // It owns what digits are, their value and what is printed of a number (specs/Number.antt), what numbers one
 // space apart are (specs/Spaced.antt), and what code leaves that stores a text in lent bytes
 // (specs/Text.antt). It cites `text_lines` for where a line ends, and calls nothing but its own.
+#![tactic(auto)]
+
 pub mod digits;
 pub mod text;

@@ -13,7 +13,7 @@ pub const ANY: u32 = 10;
 
 // What the bytes of a line so far come to: whether they rule numbers out; how many numbers a space has ended,
 // and the first two of them; how many digits the number that is being read has, and its value.
-#[derive(Drop)]
+#[derive(Clone, Copy)]
 pub struct Scan {
     pub bad: bool,
     pub fields: u32,

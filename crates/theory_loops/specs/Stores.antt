@@ -1,7 +1,7 @@
 -- Texts stored one after the other: what several runs of stores leave is what one run leaves of all the
 -- values.
-use mathlib.Core.{Path.◌≡◌, Path.refl, Path.◌∙◌, Path.ap, List.List, List.[], List.◌∷◌, List.◌++◌}
-use Rattle.std.specs.Prelude.{ℕ, zero, suc, ◌+◌, ◌≤◌}
+use mathlib.Core.{Path.◌≡◌, Path.◌∙◌, Path.ap, List.List, List.[], List.◌∷◌, List.◌++◌}
+use Rattle.std.specs.Prelude.{ℕ, suc, ◌+◌, ◌≤◌}
 use native.Mathlib.{Nat.add-zero, Omega.arith}
 use lib.{ListN.length, ListN.drop, ListN.set, Seq.sets, Seq.sets-eq}
 

@@ -10,3 +10,4 @@
 //   specs/Grid.antt    numbers in rows of one width in one list
 //   specs/Joined.antt  lists one behind the other
 // A file of a loop's shape has a ruleset: `search` with it closes most needs of such a loop.
+#![tactic(auto)]

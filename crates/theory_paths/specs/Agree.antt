@@ -7,20 +7,7 @@ use Rattle.std.specs.Prelude.{Bool, true, false, cond}
 use Rattle.std.proofs.Common.{true≢false}
 use Prim.Native.Nat.{ℕ, zero, suc, ◌+◌, ◌%◌, ◌≤◌, ◌<◌}
 use native.Mathlib.{Nat.le_refl, Nat.le_antisymm, Nat.mod-lt, Omega.arith, Decide.dec_le, Decide.le_ind}
-use Rattle.theory_paths.specs.Graph.{
-  Graph,
-  Lawful,
-  ends,
-  Permit,
-  ArcFrom,
-  IsPath,
-  stop,
-  step,
-  driven,
-  Reachable,
-  Arrival,
-  EarliestArrival,
-}
+use Rattle.theory_paths.specs.Graph.{Graph, Lawful, ends, Permit, ArcFrom, IsPath, stop, step, driven, Arrival, EarliestArrival}
 use Rattle.theory_paths.specs.{Earliest.Exact, Same.bool_ext, Same.lowest_ext, Same.back_ext}
 use Rattle.theory_paths.specs.Labels.{label, lowered, offer, relax, relaxed, rounds, labels}
 use Rattle.theory_paths.specs.Hops.{tight, counting, hops, Known, Tight, Last, is_tight, tight_is}

@@ -8,7 +8,7 @@ use native.Mathlib.{Nat.le_refl, Nat.le_trans, Nat.le_antisymm, Decide.ℕ_discr
 use Rattle.std.proofs.lemmas.Bool.{eqb-false}
 use Rattle.theory_paths.specs.{Graph.Graph, Graph.Lawful, Graph.Permit, Labels.label}
 use Rattle.theory_paths.specs.Earliest.{Exact, exact_same}
-use Rattle.theory_paths.specs.Hops.{tight, Known, Tight, Last, Counted, tight_less, known_tail}
+use Rattle.theory_paths.specs.Hops.{Known, Tight, Last, Counted, tight_less, known_tail}
 use Rattle.theory_paths.specs.Chosen.{
   explains,
   lowest,

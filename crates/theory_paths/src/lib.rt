@@ -22,3 +22,4 @@
 //   Settled   `settled_least`: numbers that are paths' and that no arc undercuts are the least travels
 //   Queue     `queue_least`: they are worked out by taking nodes whose numbers fell, in any order
 //   Planned   `starts_exactly`, `planned_enough`: the flags that a planner gives
+#![tactic(auto)]

@@ -6,6 +6,8 @@
 // has a value at every tick (specs/Turns.antt). Those who read points from a file write the loops. It calls
 // no other crate, and cites the shapes of loops from `theory_loops` alone. It knows no bytes, no files and no
 // graph.
+#![tactic(auto)]
+
 ghost use Rattle.std.specs.Prelude.{◌≡◌, ◌≤◌, ◌<◌};
 ghost use Rattle.theory_travel.specs.Line;
 

@@ -8,6 +8,8 @@
 // By the tables beside the rows an arc that cannot lower its tail's row is passed over.
 // It may call `toward_list` for rows and tables, `network` for the entries of the file and `search_arcs` for
 // widths; it cites `toward_row`, `theory_loops` and `theory_paths`.
+#![tactic(auto)]
+
 ghost use Rattle.std.specs.Prelude.{◌≡◌, ◌≢◌, ◌+◌, ◌*◌, ◌≤◌, ◌<◌, max, length, get_or, replicate, leb};
 ghost use Rattle.network.specs.Network.{head};
 ghost use Rattle.network.specs.Limits.{most_nodes};

@@ -1,6 +1,8 @@
 // toward_points: the points of a row of travels as a profile: tick 0, and each later tick at which the step
 // to the next tick differs from the step before it, the day's end counting as the next day's tick 0. It calls
 // no other crate, and cites `theory_travel` for what a point is and `theory_loops` for counting.
+#![tactic(auto)]
+
 ghost use Rattle.std.specs.Prelude.{◌≡◌, ◌+◌, ◌≤◌, ◌<◌, ◌^◌, length};
 ghost use Rattle.theory_travel.specs.Turns.{turn_count};
 ghost use Rattle.toward_points.specs.Row.{entry_of, Low, differ, points_before};

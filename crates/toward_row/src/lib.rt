@@ -4,6 +4,8 @@
 // It tells whether an entry fell by a count.
 // It may call `network` for the entries of the file, `search_arcs` for widths and `travel_runs` for steps; it
 // cites `theory_travel` and `theory_loops`.
+#![tactic(auto)]
+
 ghost use Rattle.std.specs.Prelude.{◌≡◌, true, false, ◌+◌, ◌-◌, ◌/◌, ◌^◌, ◌≤◌, ◌<◌, min, length};
 ghost use Rattle.theory_travel.specs.Pieces.{line_at};
 ghost use Rattle.theory_travel.specs.Table.{value_at};

@@ -2,6 +2,8 @@
 // An arc never gives less than its tail's number, so it gives that number somewhere exactly where it lowers
 // the tail's row once each entry there is one more.
 // It may call `toward_row` for an arc lowered into a row and `toward_node` for rows; it cites `theory_paths`.
+#![tactic(auto)]
+
 ghost use Rattle.std.specs.Prelude.{◌≡◌, ◌+◌, ◌*◌, ◌≤◌, ◌<◌, length};
 ghost use Rattle.theory_loops.specs.Fill.{Filled};
 ghost use Rattle.theory_paths.specs.Least.{least_ticks};

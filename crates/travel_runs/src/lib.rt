@@ -3,6 +3,8 @@
 // number of parts, of which 4,294,967,296 make a whole tick. That the rounding comes out exact is proved in
 // specs/Fixed.antt; which way it goes stands in specs/Runs.antt.
 // It calls no other crate, and cites `theory_travel` for the line.
+#![tactic(auto)]
+
 ghost use Rattle.std.specs.Prelude.{◌≡◌, ◌≤◌, ◌<◌};
 ghost use Rattle.travel_runs.specs.Fixed.{step_up, step_down};
 

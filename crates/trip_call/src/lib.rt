@@ -5,6 +5,7 @@
 //   visit    the same, and when the target is open
 // It may call `search_path` to search, with the query of `search_labels`, `network_hours` for the target's
 // hours, `network` for the header and `file_refusals` for the numbers; it cites `search_chains`.
+#![tactic(auto)]
 
 pub mod begin;
 pub mod drive;

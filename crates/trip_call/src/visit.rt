@@ -18,7 +18,7 @@ use network_hours::open_after;
 use search_labels::query::Query;
 use search_path::answer::Answer;
 
-#[derive(Drop)]
+#[derive(Clone, Copy)]
 pub struct Visit {
     pub trip: Answer,
     pub opens: u32,

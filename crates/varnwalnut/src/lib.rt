@@ -4,5 +4,7 @@
 //   desk     check, open, pack, import, make plan, the day sheet and the trips with lent lists: an answer
 //            in numbers
 // It may call every operation, and `c_replies` to write what it answered. No entry requires anything.
+#![tactic(auto)]
+
 pub mod desk;
 pub mod tablet;
