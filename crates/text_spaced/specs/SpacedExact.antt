@@ -16,8 +16,8 @@ use Rattle.text_spaced.specs.Scanning.{reading, fresh, ruled_out, one_more, spac
 use Rattle.text_spaced.specs.Scanning.{digit_scanned, scanned, scanned_all, whole}
 
 -- a digit, by its code
-is_digit : (b : ℕ) → 48 ≤ b → b ≤ 57 → is_digit b ≡ true
-is_digit b l m = rw (le-leb 48 b l, le-leb b 57 m)
+is_digit_lem : (b : ℕ) → 48 ≤ b → b ≤ 57 → is_digit b ≡ true
+is_digit_lem b l m = rw (le-leb 48 b l, le-leb b 57 m)
 
 digit_is : (b : ℕ) → is_digit b ≡ true → (48 ≤ b) × (b ≤ 57)
 digit_is b e = let (l, m) = (and-eq-true_iff (leb 48 b) (leb b 57)).0 e in (leb-true 48 b l, leb-true b 57 m)
@@ -137,7 +137,7 @@ module _ (most : ℕ) (w : List ℕ) (s : Scan) (h : s.bad ≡ false) (r : Read 
         word = r.word ++ (b ∷ []);
         parts = rw r.parts (append_assoc r.ended r.word (b ∷ []));
         before = r.before;
-        digits = digits_append r.word b r.digits (is_digit b p q);
+        digits = digits_append r.word b r.digits (is_digit_lem b p q);
         value = value_append 0 r.word b ∙ rw r.value;
         small = l;
         count = rw (length-append, r.count) (one_more_counted (length r.word));

@@ -1,0 +1,6 @@
+-- `file_write::write::write_head` meets its contract: three fields, one after the other.
+use Rattle.file_write.specs.Write.{headed_is}
+use Rattle.file_write.proofs.write.write_head.Goals as goal
+
+pub returns : goal.returns
+returns c = search headed_is

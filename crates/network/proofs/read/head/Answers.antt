@@ -1,0 +1,10 @@
+-- `network::read::head` meets its contract.
+use Rattle.network.specs.Decode.{reads}
+use borrow.Author.Rules.{rules}
+use Rattle.network.proofs.read.head.Goals as goal
+
+pub field16-requires-clause-entry_in_file : goal.field16-requires-clause-entry_in_file
+field16-requires-clause-entry_in_file c = search reads
+
+pub returns : goal.returns
+returns c = (search reads, search rules)
