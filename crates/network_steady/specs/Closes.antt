@@ -11,7 +11,7 @@ use Rattle.file_fields.specs.{Block.block_size, Block.head_size, Fields.le16}
 use Rattle.file_blocks.specs.{Kind.point_size, Kind.point_per, Place.offset, Place.offset_apart}
 use Rattle.network.specs.declared.header.Layout.{Layout}
 use Rattle.network.specs.{Limits.most_points, Layout.most_bytes, Decode.tick_is, Decode.travel_is}
-use Rattle.network.specs.Network.{Network, arcs, points, count, start, tick, travel}
+use Rattle.network.specs.Network.{Network, arcs, count, start, tick, travel}
 use Rattle.network.specs.Decode.{decode, Laid, Sizes, Small, laid_small, laid_bytes, point_in}
 use Rattle.network.specs.{FirstPoint.Counted, FirstPoint.points_in, Rules.ticks_of, Rules.travels_of}
 use Rattle.network_steady.specs.{Joins.PointAt, Steady.Closed, Steady.AllClosed}

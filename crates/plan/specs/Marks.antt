@@ -1,6 +1,6 @@
 -- How the borders are found in one pass over the arcs: after k arcs a node is marked where one of them enters
 -- it from another cell. The laws of the loop that marks, and of those that list and count what is marked.
-use mathlib.Core.{Path.◌≡◌, Path.refl, Path.sym, Path.◌∙◌, Path.ap, List.List, List.[], List.◌∷◌}
+use mathlib.Core.{Path.◌≡◌, Path.refl, Path.sym, Path.◌∙◌, Path.ap, List.List}
 use Rattle.std.specs.Prelude.{Bool, not, ◌&&◌, ℕ, suc, ◌+◌, ◌≤◌, ◌<◌, length, get_or, set, replicate}
 use Rattle.std.proofs.Math.Bool.{true, false, cond}
 use native.Mathlib.{Numerals.add-one, Omega.arith, Decide.ℕ_discrete}
@@ -10,7 +10,7 @@ use lib.{Seq.get_or-set_same, Seq.get_or-set_other, Dec.eqb, Dec.ltb}
 use Rattle.theory_loops.specs.First.{first, any, first_le, yes_any, none_yet, first_more}
 use Rattle.theory_loops.specs.{Fill.overwritten, Select.select, Select.Chosen}
 use Rattle.theory_paths.specs.Partition.{Partition}
-use Rattle.network.specs.Network.{Network, nodes, arcs, cell, tail, head}
+use Rattle.network.specs.Network.{Network, arcs, cell, tail, head}
 use Rattle.network.specs.{Decode.decode, Decode.Laid, Decode.laid_sizes, Sound.SoundNetwork, Limits.most_nodes}
 use Rattle.network.specs.declared.header.Layout.{Layout}
 use Rattle.network.specs.Town.{partition_of}

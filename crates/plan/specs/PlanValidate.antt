@@ -16,7 +16,7 @@ use Rattle.file_forms.specs.Form.{formed, unformed_or, bad_length, run_taken, ru
 use Rattle.file_refusals.specs.declared.{Refusal.Refusal, Judged.Judged}
 use Rattle.file_refusals.specs.declared.Judged.TheVariants.{Sound, Faulty}
 use Rattle.network.specs.declared.header.Header.{Header}
-use Rattle.network.specs.{Network.Network, Network.nodes, Network.arcs, Town.partition_of}
+use Rattle.network.specs.{Network.Network, Town.partition_of}
 use Rattle.file_refusals.specs.Refusal.{refusal}
 use Rattle.plan.specs.declared.answer.Planning.{Planning}
 use Rattle.plan.specs.declared.answer.Planning.TheVariants.{WellFormed, Refused}

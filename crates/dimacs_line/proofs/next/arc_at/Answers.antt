@@ -13,8 +13,7 @@ pub returns-then-not-is_ended-3 : goal.returns-then-not-is_ended-3
 returns-then-not-is_ended-3 c = unmet _ _ c.nothing-then-not-is_ended-3.ensures
 
 pub returns : goal.returns
-returns c =
-    arc_next _ _ _ _ _ _ _ _ c.requires c.number_at-tail.ensures
+returns c = λ _. arc_next _ _ _ _ _ _ _ _ c.requires c.number_at-tail.ensures
     (c.is_ended.ensures (search (rules, not-false))) c.number_at-head.ensures
     (c.is_ended-2.ensures (search (rules, not-false))) c.number_at-weight.ensures
     (c.is_ended-3.ensures (search (rules, not-false)))

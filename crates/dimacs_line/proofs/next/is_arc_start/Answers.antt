@@ -10,4 +10,4 @@ pub returns-then-text-at-eq97 : goal.returns-then-text-at-eq97
 returns-then-text-at-eq97 c = starts_so _ _ (search rules) (search rules)
 
 pub returns-else-text-at-eq97 : goal.returns-else-text-at-eq97
-returns-else-text-at-eq97 c = absurd (c.if-text-at-eq97.false (eqb-true _ _ e))
+returns-else-text-at-eq97 c = λ e. absurd (c.if-text-at-eq97.false (eqb-true _ _ e))

@@ -8,4 +8,4 @@ pub returns-then-from-end : goal.returns-then-from-end
 returns-then-from-end c = ended_so _ _ _ _ (search rules)
 
 pub returns-else-from-end : goal.returns-else-from-end
-returns-else-from-end c = absurd (omega (arith, ltb-true c.args.from c.args.end e))
+returns-else-from-end c = λ e. absurd (omega (arith, ltb-true c.args.from c.args.end e))

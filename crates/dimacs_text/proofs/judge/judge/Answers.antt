@@ -1,0 +1,6 @@
+-- `dimacs_text::judge::judge` meets its contract.
+use Rattle.dimacs_text.specs.Noting.{judged_into}
+use Rattle.dimacs_text.proofs.judge.judge.Goals as goal
+
+pub returns : goal.returns
+returns c = search judged_into

@@ -1,0 +1,22 @@
+-- `network_encode::encode::points_block` meets its contract.
+use Prim.Native.Nat.{◌*◌, ◌≤◌}
+use native.Mathlib.Omega.{arith}
+use lib.Dec.{lit<}
+use Rattle.network_encode.specs.BlockWritten.{block_written}
+use Rattle.file_fields.specs.Block.{entries_size}
+use Rattle.file_blocks.specs.Kind.{point_kind, point_size, point_per}
+use Rattle.network_encode.proofs.encode.points_block.Goals as goal
+
+pub returns : goal.returns
+returns c =
+    let fit : point_size * c.entries_in-m.result ≤ entries_size =
+    omega (
+      arith,
+      c.entries_in-m.ensures,
+    ) in
+    block_written point_kind point_per point_size _ _ _ _ _ (lit< tt)
+    c.entries_in-m.ensures fit _ _ _ _ _ (lit< tt)
+    c.requires.in_run.whole
+    c.write_head.ensures
+    c.put_points.ensures c.write_zeros.ensures
+    c.write_check.ensures

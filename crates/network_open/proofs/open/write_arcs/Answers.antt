@@ -1,0 +1,16 @@
+-- `network_open::open::write_arcs` meets its contract.
+use Rattle.network.specs.Decode.{arcs_stored}
+use Rattle.network_open.specs.Open.{table_writes}
+use Rattle.network_open.proofs.open.write_arcs.Goals as goal
+
+pub decode16-requires-clause-run_in_file : goal.decode16-requires-clause-run_in_file
+decode16-requires-clause-run_in_file c = search arcs_stored
+
+pub decode16-requires-2-clause-run_in_file : goal.decode16-requires-2-clause-run_in_file
+decode16-requires-2-clause-run_in_file c = search arcs_stored
+
+pub decode16-requires-3-clause-run_in_file : goal.decode16-requires-3-clause-run_in_file
+decode16-requires-3-clause-run_in_file c = search arcs_stored
+
+pub returns : goal.returns
+returns c = (search table_writes, search table_writes, search table_writes)

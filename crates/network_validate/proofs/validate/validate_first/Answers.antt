@@ -1,0 +1,12 @@
+-- `network_validate::validate::validate_first` meets its contract.
+use Rattle.network.specs.Validate.{validated_first}
+use Rattle.theory_loops.specs.Pick.{picks}
+use Rattle.network_validate.proofs.validate.validate_first.Goals as goal
+
+pub returns-then-is_formed : goal.returns-then-is_formed
+unfolding validated_first
+returns-then-is_formed c = search picks
+
+pub returns : goal.returns
+unfolding validated_first
+returns c = search picks

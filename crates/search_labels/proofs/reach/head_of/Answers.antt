@@ -1,0 +1,7 @@
+-- `search_labels::reach::head_of` meets its contract: the table has the arc's head.
+use mathlib.Core.Path.{◌∙◌}
+use Rattle.search_labels.proofs.reach.head_of.Goals as goal
+
+pub returns : goal.returns
+returns c =
+    (c.wide.ensures.0 ∙ c.requires.ready.head_at _ c.requires.arc_lt_arcs, c.wide.ensures.1)
