@@ -1,6 +1,9 @@
 // The town's files: the network, packed from its tables, and plans, read from files.
 use file_refusals::writing::Writing;
 use network_pack::pack::pack_network;
+use std::fs;
+use std::io::Read;
+use std::rt::Files;
 
 // Both files have four blocks.
 pub const LONG: usize = 2048;
@@ -22,11 +25,21 @@ pub fn pack(travel: u16, out: &mut [u8; LONG]) -> Writing {
 }
 
 // Reads a file of the folder, as far as it goes and there is room; a missing one counts as empty.
-pub fn read(name: &[u8], out: &mut [u8; LONG]) {
-    let file = os::open_read(name);
-    if file < 0 {
-        return;
+pub fn read(rt: &impl Files, name: &str, out: &mut [u8; LONG]) {
+    match fs::open(rt, name) {
+        Ok(mut file) => read_full(&mut file, out),
+        Err(_) => (),
     }
-    io::read_full(file, out);
-    libc::close(file);
+}
+
+// Reads until there is no more room or nothing more comes. A read that fails counts as the end of the file.
+fn read_full(from: &mut impl Read, out: &mut [u8]) {
+    let mut done = 0;
+    while done < out.len() {
+        let count = from.read(&mut out[done..]).unwrap_or(0);
+        if count == 0 {
+            return;
+        }
+        done += count;
+    }
 }

@@ -1,7 +1,6 @@
 -- `network_tables::steady::pair_up` meets its contract.
 use native.Mathlib.Omega.{arith}
 use Rattle.network_tables.specs.{Pairs.pair_more, Pairs.pair_few, Pairs.pairs}
-use Prim.Native.Nat.{◌-◌}
 use borrow.Author.Rules.{rules}
 use Rattle.network_tables.proofs.steady.pair_up.Goals as goal
 

@@ -1,0 +1,60 @@
+-- `settle` meets its contract: the loop walks from each arc into v to the next, and those before have had
+-- their turn.
+use mathlib.Core.Path.{sym, ◌∙◌}
+use native.Mathlib.Omega.{arith}
+use Rattle.toward_list.specs.Seen.{seen_size}
+use Rattle.toward_node.specs.Turn.{walking_start, walking_held, walking_next, walking_less}
+use Rattle.toward_node.specs.Turn.{walking_end}
+use Rattle.toward_node.proofs.settle.Goals as goal
+
+pub copy_row-requires-clause-small : goal.copy_row-requires-clause-small
+copy_row-requires-clause-small c = c.requires.ready.0.primed.town.small
+
+pub copy_row-requires-clause-v_lt_nodes : goal.copy_row-requires-clause-v_lt_nodes
+copy_row-requires-clause-v_lt_nodes c = (c.requires.v_lt_nodes.0, seen_size _ c.requires.v_lt_nodes.1, c.requires.v_lt_nodes.4)
+
+pub loop-a-init : goal.loop-a-init
+loop-a-init c =
+    walking_start c.requires.ready.0 _ c.requires.v_lt_nodes.0 c.requires.v_lt_nodes.1 c.requires.v_lt_nodes.3 c.requires.v_lt_nodes.4
+    c.copy_row.ensures c.wide-a.ensures.0
+
+pub lower_tail-requires-clause-primed : goal.lower_tail-requires-clause-primed
+lower_tail-requires-clause-primed c = (c.requires.ready.0.primed, c.requires.ready.1)
+
+pub lower_tail-requires-clause-arc_lt_arcs : goal.lower_tail-requires-clause-arc_lt_arcs
+lower_tail-requires-clause-arc_lt_arcs c = (c.loop-a-test.true, c.loop-a.invariant.heights, walking_held c.requires.ready.0 c.loop-a.invariant c.loop-a-test.true)
+
+pub offset_bounds-next-a : goal.offset_bounds-next-a
+offset_bounds-next-a c =
+    omega (
+      arith,
+      c.loop-a.invariant.within,
+    )
+
+pub bounds-next-a : goal.bounds-next-a
+bounds-next-a c =
+    omega (
+      arith,
+      c.requires.ready.0.primed.town.small.arcs_most,
+    )
+
+pub loop-a-smaller : goal.loop-a-smaller
+loop-a-smaller c =
+    walking_less c.requires.ready.0 c.loop-a.invariant c.loop-a-test.true c.wide-a-in-loop-a.ensures.0
+
+pub loop-a-preserved : goal.loop-a-preserved
+loop-a-preserved c =
+    walking_next c.requires.ready.0 c.loop-a.invariant c.loop-a-test.true
+    c.lower_tail.ensures c.wide-a-in-loop-a.ensures.0
+
+pub shape_of-work : goal.shape_of-work
+shape_of-work c =
+    seen_size _ c.loop-a.invariant.heights ∙ sym (seen_size _ c.requires.v_lt_nodes.1)
+
+pub returns : goal.returns
+returns c =
+    (
+      walking_end c.requires.ready.0 _ c.requires.v_lt_nodes.0 c.requires.v_lt_nodes.1 c.requires.v_lt_nodes.2 c.requires.v_lt_nodes.3 c.loop-a.invariant
+          c.loop-a-test.false,
+      c.copy_row.ensures.long,
+    )
