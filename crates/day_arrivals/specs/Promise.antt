@@ -9,9 +9,12 @@ use lib.{Dec.eqb, ListN.length, ListN.get_or}
 use Rattle.std.proofs.lemmas.Bool.{eqb-false}
 use Rattle.theory_loops.specs.Fill.{Filled, length_tab, list_filled}
 use Rattle.theory_paths.specs.Graph.{Graph, all, stop, Reachable, EarliestArrival}
-use Rattle.theory_paths.specs.Drive.{earliest_later, earliest_shift, path_takes}
-use Rattle.theory_paths.specs.{Earliest.never, Earliest.earliest_unique, Least.least_earliest}
-use Rattle.theory_paths.specs.Least.{Modest, least_ticks, least_never, least_reach, least_capped}
+use Rattle.theory_paths.proofs.Drive.{earliest_later, earliest_shift, path_takes}
+use Rattle.theory_paths.specs.{Earliest.never}
+use Rattle.theory_paths.proofs.Earliest.{earliest_unique}
+use Rattle.theory_paths.proofs.Least.{least_earliest}
+use Rattle.theory_paths.specs.Least.{Modest, least_ticks}
+use Rattle.theory_paths.proofs.Least.{least_never, least_reach, least_capped}
 use Rattle.file_refusals.specs.declared.Refusal.{Refusal}
 use Rattle.file_refusals.specs.declared.listing.{Count.Count, Listing.Listing}
 use Rattle.file_refusals.specs.declared.listing.Listing.TheVariants as listing

@@ -9,7 +9,8 @@ use Rattle.std.proofs.lemmas.Bool.{lt-leb}
 use Rattle.theory_loops.specs.Fill.{Filled, tab, length_tab, fill_within, overwritten, filled_list}
 use Rattle.theory_loops.specs.{Grid.grid_at, Pick.passed_by_lem}
 use Rattle.theory_paths.specs.{Earliest.never, Graph.Graph}
-use Rattle.theory_paths.specs.Least.{least_ticks, least_reach, least_bound, least_capped}
+use Rattle.theory_paths.specs.Least.{least_ticks}
+use Rattle.theory_paths.proofs.Least.{least_reach, least_bound, least_capped}
 use Rattle.file_refusals.specs.declared.Refusal.{Refusal}
 use Rattle.file_refusals.specs.declared.listing.Listing.{Listing}
 use Rattle.file_refusals.specs.declared.listing.Listing.TheVariants as answer

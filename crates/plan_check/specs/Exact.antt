@@ -8,7 +8,8 @@ use Rattle.std.proofs.Common.{arith}
 use Rattle.theory_loops.specs.Pick.{passed_by_lem, rung_passed, rung_clear}
 use Rattle.theory_loops.specs.Triple.{first_triple_rung, triple_clear}
 use Rattle.theory_paths.specs.{Graph.Lawful, Partition.Partition}
-use Rattle.theory_paths.specs.Flags.{EnoughFlags, TrueProfiles, Checked, checked_exact}
+use Rattle.theory_paths.specs.Flags.{EnoughFlags, TrueProfiles, Checked}
+use Rattle.theory_paths.proofs.Flags.{checked_exact}
 use Rattle.file_refusals.specs.Refusal.{refusal}
 use Rattle.file_refusals.specs.declared.Refusal.{Refusal}
 use Rattle.plan_check.specs.declared.answer.Checking.{Checking}

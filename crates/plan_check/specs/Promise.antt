@@ -5,8 +5,10 @@
 use mathlib.Core.{Path.◌≡◌, Logic.◌↔◌, List.List}
 use Rattle.std.specs.Prelude.{ℕ, ◌≤◌}
 use Rattle.theory_paths.specs.Graph.{Lawful, all, IsPath, waited, EarliestArrival, Reachable}
-use Rattle.theory_paths.specs.{Drive.earliest_waiting, Partition.Partition}
-use Rattle.theory_paths.specs.Flags.{EnoughFlags, arc_flags, arc_flags_reach}
+use Rattle.theory_paths.specs.{Partition.Partition}
+use Rattle.theory_paths.proofs.Drive.{earliest_waiting}
+use Rattle.theory_paths.specs.Flags.{EnoughFlags}
+use Rattle.theory_paths.proofs.Flags.{arc_flags, arc_flags_reach}
 use Rattle.network.specs.{Decode.decode, Town.partition_of}
 use Rattle.plan.specs.{Plan.Plan, Plan.flag, Plan.towards, PlanDecode.decode_plan}
 use Rattle.plan_check.specs.declared.answer.Checking.TheVariants.{Accepted}

@@ -9,7 +9,8 @@ use lib.{ListN.length, ListN.get_or, Dec.eqb}
 use Rattle.std.proofs.Common.{eq-eqb, ne_eqb}
 use Rattle.theory_loops.specs.Fill.{Filled}
 use Rattle.theory_paths.specs.Least.{least_ticks}
-use Rattle.theory_paths.specs.Planned.{starts, planned, planned_none, planned_more}
+use Rattle.theory_paths.specs.Planned.{starts, planned}
+use Rattle.theory_paths.proofs.Planned.{planned_none, planned_more}
 use Rattle.network.specs.declared.header.Layout.{Layout}
 use Rattle.network.specs.{Limits.most_cells, Decode.decode, Town.graph_of, Town.partition_of}
 use Rattle.network.specs.Network.{Network, arcs, cell, tail, head}

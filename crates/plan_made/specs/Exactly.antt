@@ -13,8 +13,10 @@ use native.Mathlib.{Omega.arith, Decide.ℕ_discrete}
 use borrow.Author.Tests.{eq-eqb, ne_eqb}
 use Rattle.theory_loops.specs.{Count.count, Grid.grid_in}
 use Rattle.theory_paths.specs.{Graph.all, Graph.Reachable, Graph.EarliestArrival, Partition.Partition}
-use Rattle.theory_paths.specs.{Earliest.never, Planned.Earns, Planned.planned_exactly}
-use Rattle.theory_paths.specs.Least.{Modest, least_ticks, least_never, least_earliest, least_capped}
+use Rattle.theory_paths.specs.{Earliest.never, Planned.Earns}
+use Rattle.theory_paths.proofs.Planned.{planned_exactly}
+use Rattle.theory_paths.specs.Least.{Modest, least_ticks}
+use Rattle.theory_paths.proofs.Least.{least_never, least_earliest, least_capped}
 use Rattle.theory_travel.specs.Turns.{turns, turn_count, turn_tick, around, turn_at, turn_rank, turns_day}
 use Rattle.theory_travel.specs.Turns.{turn_is}
 use Rattle.plan.specs.{Border.border_count, Border.border_at, Word.word_bit}

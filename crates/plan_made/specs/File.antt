@@ -7,7 +7,8 @@ use lib.{Dec.lit<, ListN.length, ListN.get_or, ListN.get_or-eq_default}
 use Rattle.std.proofs.Math.Decide.{dec_lt, ℕ_discrete}
 use Rattle.theory_loops.specs.{Fill.tab, Fill.get_or_tab, Fill.length_tab, Total.total}
 use Rattle.theory_loops.specs.Joined.{joined, joined_length, joined_below}
-use Rattle.theory_paths.specs.{Partition.Partition, Earliest.never, Least.Modest, Least.least_capped}
+use Rattle.theory_paths.specs.{Partition.Partition, Earliest.never, Least.Modest}
+use Rattle.theory_paths.proofs.Least.{least_capped}
 use Rattle.theory_travel.specs.Turns.{turn_tick, turn_value, turns_few, turns_day}
 use Rattle.file_fields.specs.Fields.{Bytes}
 use Rattle.network.specs.declared.header.Header.{Header}

@@ -13,9 +13,11 @@ use Rattle.theory_loops.specs.Grid.{grid_in}
 use Rattle.theory_loops.specs.Joined.{joined, part_start, joined_length, joined_at}
 use Rattle.theory_paths.specs.{Partition.Partition, Earliest.never, Profiles.ticks, Profiles.TrueProfile}
 use Rattle.theory_paths.specs.Flags.{EnoughFlags, TrueProfiles}
-use Rattle.theory_paths.specs.Least.{Modest, least_ticks, least_travel, travel_never, travel_ticks}
-use Rattle.theory_paths.specs.Least.{least_capped, never_always, least_exactly}
-use Rattle.theory_paths.specs.Planned.{Borders, Flagged, planned, planned_enough}
+use Rattle.theory_paths.specs.Least.{Modest, least_ticks, least_travel}
+use Rattle.theory_paths.proofs.Least.{travel_never, travel_ticks}
+use Rattle.theory_paths.proofs.Least.{least_capped, never_always, least_exactly}
+use Rattle.theory_paths.specs.Planned.{Borders, Flagged, planned}
+use Rattle.theory_paths.proofs.Planned.{planned_enough}
 use Rattle.theory_travel.specs.{Day.Day, Table.entry_at}
 use Rattle.theory_travel.specs.Turns.{turn_count, turn_tick, turn_value, turns_few, turned_day, turned_value}
 use Rattle.network.specs.{Network.Network, Network.nodes, Town.partition_of}

@@ -5,7 +5,8 @@ use Rattle.std.specs.Prelude.{List, [], ◌∷◌, ℕ, zero, suc, ◌+◌, ◌-
 use native.Mathlib.{Decide.ℕ_discrete, Decide.dec_lt, Omega.arith}
 use Rattle.std.proofs.Common.{length-set, get_or-set_same, get_or-set_other}
 use Rattle.std.proofs.lemmas.List.{set-get_or}
-use Rattle.theory_paths.specs.{Earliest.never, Labels.label, Labels.label_at}
+use Rattle.theory_paths.specs.{Earliest.never, Labels.label}
+use Rattle.theory_paths.proofs.Labels.{label_at}
 use Rattle.network.specs.Limits.{most_nodes}
 use Rattle.search_frontier.specs.Frontier.{
   key_of,

@@ -6,7 +6,8 @@ use Rattle.std.proofs.Common.{inl, inr, true≢false, length-set, get_or-set_sam
 use native.Mathlib.{Nat.le_refl, Numerals.add-one, Omega.arith, Decide.ℕ_discrete, Decide.dec_le}
 use Rattle.std.proofs.lemmas.List.{set-get_or}
 use Rattle.theory_paths.specs.{Graph.Graph, Graph.ends, Graph.Permit, Graph.ArcFrom, Earliest.never}
-use Rattle.theory_paths.specs.Labels.{label, label_at, lowered}
+use Rattle.theory_paths.specs.Labels.{label, lowered}
+use Rattle.theory_paths.proofs.Labels.{label_at}
 use Rattle.search_chains.specs.Chain.{NextArc}
 
 -- Arc a, taken at tick y, lowers its head's label in N, if it is permitted.

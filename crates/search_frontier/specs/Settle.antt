@@ -7,8 +7,10 @@ use Rattle.std.specs.Prelude.{ℕ, zero, suc, ◌+◌, ◌-◌, ◌*◌, ◌≤�
 use native.Mathlib.{Nat.le_refl, Nat.le_trans, Nat.suc-mul, Numerals.sub-one, Omega.arith}
 use Rattle.std.proofs.Math.Decide.{ℕ_discrete, dec_lt}
 use Rattle.theory_paths.specs.Graph.{Graph, Lawful, Bounded, ends, Permit, ArcFrom, Arrival}
-use Rattle.theory_paths.specs.Drive.{arc_takes, arc_ends, arrival_start, arrival_then}
-use Rattle.theory_paths.specs.{Simple.arrive_bound, Earliest.never, Earliest.Exact, Earliest.closed_exact}
+use Rattle.theory_paths.proofs.Drive.{arc_takes, arc_ends, arrival_start, arrival_then}
+use Rattle.theory_paths.specs.{Earliest.never, Earliest.Exact}
+use Rattle.theory_paths.proofs.Simple.{arrive_bound}
+use Rattle.theory_paths.proofs.Earliest.{closed_exact}
 use Rattle.theory_paths.specs.Labels.{label}
 use Rattle.search_frontier.specs.Relax.{Relaxed}
 

@@ -8,7 +8,9 @@ use native.Mathlib.{Nat.le_refl, Numerals.add-one, Omega.arith, Decide.ℕ_discr
 use lib.{ListN.length, ListN.get_or, ListN.set, ListN.length-set, Dec.eqb, Dec.ltb}
 use Rattle.std.proofs.lemmas.List.{set-get_or}
 use Rattle.theory_paths.specs.Graph.{Graph, Lawful, ends, Permit, ArcFrom}
-use Rattle.theory_paths.specs.{Drive.arc_takes, Earliest.never, Labels.label, Labels.label_at, Labels.lowered}
+use Rattle.theory_paths.specs.{Earliest.never, Labels.label, Labels.lowered}
+use Rattle.theory_paths.proofs.Drive.{arc_takes}
+use Rattle.theory_paths.proofs.Labels.{label_at}
 use Rattle.network.specs.Limits.{most_nodes, most_arcs}
 use Rattle.search_chains.specs.Chain.{NextArc}
 use Rattle.search_frontier.specs.Relax.{relax_at, ByArc, Relaxed, NoArc, no_arc, extended, Walked}

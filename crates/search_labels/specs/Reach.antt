@@ -7,8 +7,10 @@ use Rattle.std.proofs.Common.{length-set, get_or-set_same, get_or-set_other}
 use Rattle.std.proofs.lemmas.List.{length-replicate, get_or-replicate}
 use Rattle.std.proofs.Math.ListN.{get_or-eq_default}
 use Rattle.theory_loops.specs.Fill.{Filled}
-use Rattle.theory_paths.specs.{Graph.Graph, Graph.Permit, Drive.path_takes, Earliest.never, Earliest.Exact}
-use Rattle.theory_paths.specs.{Labels.label, Labels.label_at, Hops.Known, Hops.Counted, Chosen.arc_into}
+use Rattle.theory_paths.specs.{Graph.Graph, Graph.Permit, Earliest.never, Earliest.Exact}
+use Rattle.theory_paths.proofs.Drive.{path_takes}
+use Rattle.theory_paths.specs.{Labels.label, Hops.Known, Hops.Counted, Chosen.arc_into}
+use Rattle.theory_paths.proofs.Labels.{label_at}
 use Rattle.network.specs.{Limits.most_nodes, Decode.decode, Town.graph_of}
 use Rattle.network.specs.declared.header.Layout.{Layout}
 use Rattle.search_labels.specs.{Walk.Spread, Notes.hops_in, Notes.arc_in}

@@ -7,9 +7,12 @@ use Rattle.std.specs.Prelude.{◌≢◌, ◌⊎◌, ℕ, ◌+◌, ◌*◌, ◌/�
 use Rattle.std.proofs.Common.{inl, inr, ⊎_elim}
 use native.Mathlib.{Nat.le_refl, Nat.le_trans, Nat.le_antisymm, Omega.arith, Decide.ℕ_discrete}
 use Rattle.theory_paths.specs.Graph.{Graph, Lawful, Bounded, ends, Permit, ArcFrom}
-use Rattle.theory_paths.specs.{Drive.arc_takes, Drive.path_takes, Earliest.never, Labels.label}
-use Rattle.theory_paths.specs.Hops.{Known, Tight, Last, Counted, tight_less}
-use Rattle.theory_paths.specs.Chosen.{arc_into, explains, explaining, lowest_passes, arc_into_lem, hop_few}
+use Rattle.theory_paths.specs.{Earliest.never, Labels.label}
+use Rattle.theory_paths.proofs.Drive.{arc_takes, path_takes}
+use Rattle.theory_paths.specs.Hops.{Known, Tight, Last, Counted}
+use Rattle.theory_paths.proofs.Hops.{tight_less}
+use Rattle.theory_paths.specs.Chosen.{arc_into, explains}
+use Rattle.theory_paths.proofs.Chosen.{explaining, lowest_passes, arc_into_lem, hop_few}
 use Rattle.network.specs.Limits.{most_arcs}
 use Rattle.search_frontier.specs.Relax.{ByArc, Relaxed}
 use Rattle.search_frontier.specs.Settle.{Settled, Nearest, Search, Moved, was}

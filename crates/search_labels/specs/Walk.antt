@@ -4,8 +4,10 @@ use mathlib.Core.{Path.◌≡◌, Path.refl, Path.sym, Path.◌∙◌, Bool.true
 use Rattle.std.specs.Prelude.{ℕ, ◌+◌, ◌-◌, ◌*◌, ◌≤◌, ◌<◌, length, get_or}
 use Rattle.std.proofs.Common.{arith}
 use mir.{Val.Fits, Syntax.w32, Syntax.w64}
-use Rattle.theory_paths.specs.{Graph.Graph, Graph.ends, Graph.Permit, Graph.ArcFrom, Drive.arc_ends}
-use Rattle.theory_paths.specs.Labels.{label, label_at}
+use Rattle.theory_paths.specs.{Graph.Graph, Graph.ends, Graph.Permit, Graph.ArcFrom}
+use Rattle.theory_paths.proofs.Drive.{arc_ends}
+use Rattle.theory_paths.specs.Labels.{label}
+use Rattle.theory_paths.proofs.Labels.{label_at}
 use Rattle.network.specs.{Limits.most_nodes, Limits.most_arcs, Network.tail, Decode.decode}
 use Rattle.network.specs.declared.header.Layout.{Layout}
 use Rattle.network.specs.Town.{graph_of, town_bounded}

@@ -9,9 +9,10 @@ use Rattle.std.proofs.Math.ListN.{get_or-eq_default, get_or-append}
 use lib.{Seq.get_or-append-add, Seq.get_or-drop, Seq.length_front, Dec.eqb, Dec.ltb}
 use Rattle.theory_loops.specs.Fill.{Filled, fill_none, fill_end}
 use Rattle.theory_paths.specs.{Graph.Graph, Graph.Permit, Earliest.never, Earliest.Exact, Hops.Known}
-use Rattle.theory_paths.specs.Labels.{label, label_at, labels, labels_exact, labels_capped}
+use Rattle.theory_paths.specs.Labels.{label, labels}
+use Rattle.theory_paths.proofs.Labels.{label_at, labels_exact, labels_capped}
 use Rattle.search_path.specs.Trim.{shown, target_same, shown_same}
-use Rattle.theory_paths.specs.Same.{chosen_same}
+use Rattle.theory_paths.proofs.Same.{chosen_same}
 use Rattle.search_chains.specs.Town.{Town}
 use Rattle.search_labels.specs.{Ready.Leaving, Ready.leaving, Ready.permit_of, Reach.Reached, Reach.small}
 use Rattle.network.specs.declared.header.Layout.{Layout}

@@ -8,18 +8,10 @@ use Prim.Native.Nat.{ℕ, zero, suc, ◌+◌, ◌-◌, ◌≤◌, ◌<◌}
 use native.Mathlib.Omega.{arith}
 use lib.{Dec.eqb, ListN.length, ListN.get_or, ListN.length-append, Seq.get_or_at}
 use Rattle.theory_paths.specs.{Graph.Graph, Graph.Lawful, Graph.Permit, Earliest.Exact, Labels.label}
-use Rattle.theory_paths.specs.{Hops.Known, Hops.Counted, Same.chosen_traced}
-use Rattle.theory_paths.specs.Chosen.{
-  arc_into,
-  back,
-  traced,
-  chosen,
-  chosen_path,
-  traced_fewest,
-  arc_into_lem,
-  last_tail,
-  hop_few,
-}
+use Rattle.theory_paths.specs.{Hops.Known, Hops.Counted}
+use Rattle.theory_paths.proofs.Same.{chosen_traced}
+use Rattle.theory_paths.specs.Chosen.{arc_into, back, traced, chosen}
+use Rattle.theory_paths.proofs.Chosen.{chosen_path, traced_fewest, arc_into_lem, last_tail, hop_few}
 use Rattle.network.specs.Limits.{most_nodes}
 use Rattle.search_labels.specs.{Notes.hops_in, Reach.Reached}
 use Rattle.search_path.specs.Trail.{node_back, arc_back, road_to, Trail}

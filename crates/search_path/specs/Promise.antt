@@ -7,9 +7,12 @@ use Rattle.std.specs.Prelude.{ℕ, ◌+◌, ◌-◌, ◌*◌, ◌≤◌, ◌<◌
 use native.Mathlib.{Nat.sub-le, Nat.mul-le-mul_right, Omega.arith}
 use Rattle.std.proofs.Common.{ne_eqb, le-ltb}
 use Rattle.theory_paths.specs.Graph.{Graph, Permit, driven, Reachable, EarliestArrival}
-use Rattle.theory_paths.specs.{Drive.arrival_reach, Labels.label, Labels.labels, Hops.Known}
-use Rattle.theory_paths.specs.Earliest.{never, earliest_unique, exact_bound, exact_never}
-use Rattle.theory_paths.specs.Chosen.{IsChosen, chosen_path, chosen_is, chosen_empty}
+use Rattle.theory_paths.specs.{Labels.label, Labels.labels, Hops.Known}
+use Rattle.theory_paths.proofs.Drive.{arrival_reach}
+use Rattle.theory_paths.specs.Earliest.{never}
+use Rattle.theory_paths.proofs.Earliest.{earliest_unique, exact_bound, exact_never}
+use Rattle.theory_paths.specs.Chosen.{IsChosen}
+use Rattle.theory_paths.proofs.Chosen.{chosen_path, chosen_is, chosen_empty}
 use Rattle.file_refusals.specs.Refusal.{refusal}
 use Rattle.search_labels.specs.Ready.{Leaving}
 use Rattle.search_chains.specs.Town.{last_tick}

@@ -8,7 +8,8 @@ use Rattle.std.proofs.Common.{arith, lt-ltb, le-ltb, eq-eqb, ne_eqb}
 use lib.{ListN.length, ListN.get_or, Dec.eqb, Dec.ltb}
 use Rattle.theory_loops.specs.Fill.{Filled}
 use Rattle.theory_paths.specs.Graph.{Graph, Permit, Reachable, EarliestArrival}
-use Rattle.theory_paths.specs.{Earliest.never, Earliest.exact_value, Labels.label, Labels.labels}
+use Rattle.theory_paths.specs.{Earliest.never, Labels.label, Labels.labels}
+use Rattle.theory_paths.proofs.Earliest.{exact_value}
 use Rattle.search_labels.specs.Ready.{Leaving}
 use Rattle.search_path.specs.Trim.{shown, shown_of, shown_all}
 use Rattle.search_path.specs.Answering.{true_exact, true_capped}

@@ -7,8 +7,10 @@ use native.Mathlib.{Nat.le_refl, Nat.le_of_lt, Omega.arith, Decide.dec_lt}
 use lib.{ListN.length, ListN.get_or, ListN.set, Dec.eqb, Dec.ltb}
 use Rattle.std.proofs.Common.{eqb-true, lt-ltb, le-ltb}
 use Rattle.theory_loops.specs.Fill.{Filled, fill_up}
-use Rattle.theory_paths.specs.{Graph.Graph, Graph.Permit, Labels.label, Labels.label_at}
-use Rattle.theory_paths.specs.Earliest.{never, Exact, exact_same, exact_equal}
+use Rattle.theory_paths.specs.{Graph.Graph, Graph.Permit, Labels.label}
+use Rattle.theory_paths.proofs.Labels.{label_at}
+use Rattle.theory_paths.specs.Earliest.{never, Exact}
+use Rattle.theory_paths.proofs.Earliest.{exact_same, exact_equal}
 
 -- v's label e where it is before b, or v is t; else never
 abbrev pub shown_of : ℕ → ℕ → ℕ → ℕ → ℕ

@@ -2,7 +2,6 @@
 -- order, what is used of them.
 pub mod Graph
 pub mod Partition
-pub mod Drive
 pub mod Simple
 pub mod Earliest
 pub mod Labels

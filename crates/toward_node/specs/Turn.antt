@@ -7,15 +7,18 @@ use native.Mathlib.{Nat.mul-le-mul, Nat.mul-le-mul_right, Nat.mod-lt, Omega.arit
 use Rattle.std.proofs.Math.Decide.{ℕ_discrete, dec_lt}
 use lib.{ListN.length, ListN.get_or, ListN.set, ListN.replicate, Seq.get_or-set_same, Seq.get_or-set_other}
 use Rattle.theory_loops.specs.{Fill.Filled, Grid.grid_at, Grid.grid_in}
-use Rattle.theory_paths.specs.{Graph.Graph, Earliest.never, Least.Travels, Least.Modest, Least.least_is}
-use Rattle.theory_paths.specs.{Settled.gives_ticks, Queue.queue_first, Queue.queue_bar, Queue.Lowering}
+use Rattle.theory_paths.specs.{Graph.Graph, Earliest.never, Least.Travels, Least.Modest}
+use Rattle.theory_paths.proofs.Least.{least_is}
+use Rattle.theory_paths.specs.{Settled.gives_ticks, Queue.Lowering}
+use Rattle.theory_paths.proofs.Queue.{queue_first, queue_bar}
 use Rattle.network.specs.declared.header.Layout.{Layout}
 use Rattle.network.specs.{Network.tail, Network.head, Decode.decode}
 use Rattle.network.specs.Town.{graph_of, travel_at, town_bounded}
 use Rattle.search_chains.specs.Town.{Town, lawful, tail_node, head_node}
 use Rattle.search_chains.specs.Chain.{Chained, NextArc}
 use Rattle.toward_row.specs.{Arcs.Primed, Cut.Cut, Lower.entries, Lower.offer, Lower.Numbers}
-use Rattle.theory_paths.specs.Queue.{Queue, queue_begin, queue_skip, queue_quiet, queue_lower, queue_least}
+use Rattle.theory_paths.specs.Queue.{Queue}
+use Rattle.theory_paths.proofs.Queue.{queue_begin, queue_skip, queue_quiet, queue_lower, queue_least}
 use Rattle.toward_list.specs.{Burden.burden, Burden.burden_clear, Burden.burden_lower, Leasts.LeastTravel}
 use Rattle.toward_list.specs.Heights.{Heights, Held, Near, NearFirst, Highest, numbered}
 use Rattle.toward_list.specs.Heights.{number_early, heights_held, held_capped}

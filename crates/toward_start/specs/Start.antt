@@ -6,9 +6,12 @@ use native.Mathlib.{Nat.mod-lt, Nat.le_antisymm, Nat.mul-le-mul, Omega.arith, De
 use lib.{ListN.length, ListN.get_or, ListN.take, ListN.drop, Dec.ltb}
 use borrow.Author.Tests.{eq-eqb, ne_eqb, lt-ltb, le-ltb}
 use Rattle.theory_loops.specs.{First.yes_any, First.any_clear, Fill.Filled, Grid.grid_at}
-use Rattle.theory_paths.specs.{Graph.Graph, Earliest.never, Least.least_reach, Least.least_bound}
-use Rattle.theory_paths.specs.Least.{Modest, least_ticks, least_travels_lem, least_capped, never_always}
-use Rattle.theory_paths.specs.{Settled.gives_ticks, Planned.starts, Planned.starts_at, Planned.gives_no_less}
+use Rattle.theory_paths.specs.{Graph.Graph, Earliest.never}
+use Rattle.theory_paths.proofs.Least.{least_reach, least_bound}
+use Rattle.theory_paths.specs.Least.{Modest, least_ticks}
+use Rattle.theory_paths.proofs.Least.{least_travels_lem, least_capped, never_always}
+use Rattle.theory_paths.specs.{Settled.gives_ticks, Planned.starts, Planned.starts_at}
+use Rattle.theory_paths.proofs.Planned.{gives_no_less}
 use Rattle.network.specs.declared.header.Layout.{Layout}
 use Rattle.network.specs.{Limits.most_period, Limits.most_nodes, Network.tail, Network.head, Decode.decode}
 use Rattle.network.specs.Town.{graph_of, travel_at}

@@ -6,7 +6,7 @@ use mathlib.Core.{Path.◌≡◌, Path.refl, Logic.◌↔◌, Logic.◌⊎◌, L
 use Rattle.std.specs.Prelude.{ℕ, ◌≤◌, ◌<◌, length, take}
 use Rattle.std.proofs.Common.{arith}
 use Rattle.theory_paths.specs.{Graph.Graph, Graph.Permit, Graph.all, Graph.Reachable, Chosen.IsChosen}
-use Rattle.theory_paths.specs.Drive.{path_all}
+use Rattle.theory_paths.proofs.Drive.{path_all}
 use Rattle.network.specs.declared.answer.Opening.{Opening}
 use Rattle.network.specs.declared.header.Header.{Header}
 use Rattle.network.specs.{Limits.most_nodes, Limits.most_roads, Network.nodes, Decode.decode}

@@ -7,7 +7,8 @@ use Rattle.std.specs.Prelude.{◌≢◌, ◌↔◌, ◌⊎◌, ℕ, ◌≤◌, �
 use Rattle.std.proofs.Common.{inl, inr, arith}
 use Rattle.theory_loops.specs.Fill.{Filled, length_tab, list_filled}
 use Rattle.theory_paths.specs.Graph.{Graph, Permit, IsPath, driven, waited, Reachable, EarliestArrival}
-use Rattle.theory_paths.specs.{Drive.earliest_waiting, Earliest.never, Labels.labels, Chosen.IsChosen}
+use Rattle.theory_paths.specs.{Earliest.never, Labels.labels, Chosen.IsChosen}
+use Rattle.theory_paths.proofs.Drive.{earliest_waiting}
 use Rattle.file_refusals.specs.declared.Refusal.{Refusal}
 use Rattle.file_refusals.specs.Numbered.{Between, Numbered}
 use Rattle.network.specs.declared.answer.Opening.{Opening}

@@ -6,7 +6,7 @@ use Rattle.std.proofs.Common.{arith}
 use lib.{ListN.length, ListN.take, ListN.drop, Seq.take-append_seam}
 use Rattle.theory_loops.specs.Fill.{tab, length_tab, tab_list, filled_none, filled_list, overwritten}
 use Rattle.theory_paths.specs.{Graph.Graph, Graph.Permit, Labels.label, Labels.labels, Chosen.chosen}
-use Rattle.theory_paths.specs.Agree.{labels_permit, chosen_permit}
+use Rattle.theory_paths.proofs.Agree.{labels_permit, chosen_permit}
 use Rattle.network.specs.declared.answer.Opening.{Opening}
 use Rattle.network.specs.declared.answer.Opening.TheVariants.{Opened, Refused}
 use Rattle.network.specs.declared.header.{Header.Header, Layout.Layout}

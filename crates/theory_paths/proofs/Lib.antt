@@ -1,0 +1,16 @@
+pub mod Agree
+pub mod Chosen
+pub mod Drive
+pub mod Earliest
+pub mod Flags
+pub mod FlaggedSearch
+pub mod Hops
+pub mod Labels
+pub mod Least
+pub mod Planned
+pub mod Profiles
+pub mod Queue
+pub mod Same
+pub mod Settled
+pub mod Simple
+pub mod Ties
