@@ -23,7 +23,7 @@ use Rattle.network.specs.declared.answer.Opening.{Opening}
 use Rattle.network.specs.declared.answer.Opening.TheVariants.{Opened, Refused}
 use Rattle.network.specs.declared.header.Header.{Header}
 use Rattle.network.specs.{Network.Network, Network.nodes, Decode.decode, Town.graph_of, Validate.validated}
-use Rattle.network.specs.Valid.{valid_exactly}
+use Rattle.network.proofs.Valid.{valid_exactly}
 use Rattle.plan_check.specs.declared.answer.Checking.TheVariants.{Accepted}
 use Rattle.plan_check.specs.CheckPlan.{checking}
 use Rattle.search_path.specs.declared.answer.{Arrival.Arrival, Answer.Answer}

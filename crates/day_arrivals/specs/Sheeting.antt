@@ -20,7 +20,8 @@ use Rattle.network.specs.declared.answer.Opening.TheVariants.{Opened, Refused}
 use Rattle.network.specs.declared.header.{Header.Header, Layout.Layout}
 use Rattle.network.specs.{Layout.layout_of, Limits.most_nodes, Limits.most_period, Decode.decode, Town.graph_of}
 use Rattle.network.specs.{Network.Network, Network.nodes, Validate.unopened, Validate.validated}
-use Rattle.network.specs.Valid.{ValidFile, valid_exactly}
+use Rattle.network.specs.Valid.{ValidFile}
+use Rattle.network.proofs.Valid.{valid_exactly}
 use Rattle.search_chains.specs.Town.{Town}
 use Rattle.toward_list.specs.{Rows.WorkedRow, Work.size_is, Work.work_cleared}
 use Rattle.toward_node.specs.Turn.{modest}

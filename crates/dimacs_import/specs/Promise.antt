@@ -17,7 +17,8 @@ use Rattle.network.specs.declared.answer.Opening.{Opening}
 use Rattle.network.specs.declared.answer.Opening.TheVariants.{Opened}
 use Rattle.network.specs.declared.header.Header.{Header}
 use Rattle.network.specs.{Limits.most_period, Decode.decode, Network.Network, Tables.Tables, Town.travel_at}
-use Rattle.network.specs.{Valid.valid_exactly, Validate.validated}
+use Rattle.network.specs.{Validate.validated}
+use Rattle.network.proofs.Valid.{valid_exactly}
 use Rattle.network_open.specs.Open.{too_short, tables_after, OpenCall}
 use Rattle.network_encode.specs.Encode.{header_of, encode}
 use Rattle.network_pack.specs.RoundTrip.{decode_encode, encode_valid}

@@ -16,7 +16,8 @@ use Rattle.network.specs.{Limits.WithinLimits, Layout.layout_of, Network.Network
 use Rattle.network.specs.{Node.node_size, Node.node_per, Decode.opens_there, Decode.closes_there}
 use Rattle.network.specs.Decode.{header_at, decode, Laid, laid_blocks, laid_sizes, opens_plain, closes_plain}
 use Rattle.network.specs.Validate.{unopened, validated}
-use Rattle.network.specs.Valid.{ValidFile, valid_laid, valid_exactly}
+use Rattle.network.specs.Valid.{ValidFile}
+use Rattle.network.proofs.Valid.{valid_laid, valid_exactly}
 
 -- 30: a table has no room for all nodes, arcs or points; by the lengths of the eight, and of the tables
 -- themselves

@@ -17,9 +17,11 @@ use Rattle.file_refusals.specs.declared.writing.Writing.TheVariants.{Written, Re
 use Rattle.network.specs.declared.header.Made.TheVariants.{Inside, Outside}
 use Rattle.network.specs.{Limits.WithinLimits, Limits.made_within, Limits.within_made, Layout.layout_of}
 use Rattle.network.specs.{Network.Network, Tables.Tables, Tables.each, Tables.network_of, Rules.judged}
-use Rattle.network.specs.{Decode.header_at, Decode.decode, Sound.sound_exactly, Validate.validated}
+use Rattle.network.specs.{Decode.header_at, Decode.decode, Validate.validated}
+use Rattle.network.proofs.Sound.{sound_exactly}
 use Rattle.file_refusals.specs.{Refusal.refusal, Writing.written_into}
-use Rattle.network.specs.Valid.{ValidFile, valid_exactly}
+use Rattle.network.specs.Valid.{ValidFile}
+use Rattle.network.proofs.Valid.{valid_exactly}
 use Rattle.network_open.specs.Open.{too_short_by, too_short, opened_in, opening}
 use Rattle.network_encode.specs.{Encode.header_of, Encode.encode, Encode.Proper, Packable.Packable}
 use Rattle.network_pack.specs.RoundTrip.{decode_encode, encode_valid, encode_decode}

@@ -14,7 +14,8 @@ use Rattle.network.specs.declared.header.Header.{Header}
 use Rattle.network.specs.{Layout.arc_block, Layout.point_block, Layout.all_blocks, Network.Network}
 use Rattle.network.specs.{Node.node_size, Node.node_per, Sound.SoundNetwork, Validate.validated}
 use Rattle.network.specs.Decode.{header_at, opens_in, closes_in, decode_by, decode}
-use Rattle.network.specs.Valid.{ValidFile, valid_exactly}
+use Rattle.network.specs.Valid.{ValidFile}
+use Rattle.network.proofs.Valid.{valid_exactly}
 use Rattle.network_encode.specs.Encode.{header_of, body_by, encode_by, encode, Words, Proper, held, held_same}
 use Rattle.network_pack.specs.Holds.{encode_holds, holds_encode}
 use Rattle.network_pack.specs.HoldsRead.{header_formed, nodes_formed, arcs_formed, points_formed}

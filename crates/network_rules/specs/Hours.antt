@@ -4,7 +4,8 @@ use Rattle.std.specs.Prelude.{ℕ, ◌<◌}
 use Rattle.std.proofs.Common.{arith}
 use Rattle.theory_loops.specs.First.{first, all_clear}
 use Rattle.network.specs.declared.header.Layout.{Layout}
-use Rattle.network.specs.{Network.opens_at, Network.closes_at, Rules.bad_hours_of, Sound.sound_hours}
+use Rattle.network.specs.{Network.opens_at, Network.closes_at, Rules.bad_hours_of}
+use Rattle.network.proofs.Sound.{sound_hours}
 use Rattle.network.specs.Decode.{decode, Laid, laid_sizes, laid_small, opens_all, closes_all}
 
 -- without hours every node is open all day

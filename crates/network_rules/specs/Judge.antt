@@ -10,7 +10,8 @@ use Rattle.file_refusals.specs.declared.Judged.TheVariants.{Sound}
 use Rattle.network.specs.declared.header.Layout.{Layout}
 use Rattle.network_scan.specs.declared.scan.Scan.{Scan}
 use Rattle.network.specs.Network.{Network, nodes, arcs, points, start}
-use Rattle.network.specs.{Decode.Sizes, Rules.judged_hours, Rules.judged, FirstPoint.Counted, Sound.arc_sound}
+use Rattle.network.specs.{Decode.Sizes, Rules.judged_hours, Rules.judged, FirstPoint.Counted}
+use Rattle.network.proofs.Sound.{arc_sound}
 use Rattle.file_refusals.specs.Refusal.{faulty}
 use Rattle.network.specs.Rules.{bad_cell, bad_hours_of, bad_arc, judged_points, judged_sum, judged_arcs}
 use Rattle.network_scan.specs.ScanAll.{ScannedAll}

@@ -12,7 +12,8 @@ use Rattle.theory_travel.specs.{Points.climbs, Table.entry_at}
 use Rattle.file_refusals.specs.declared.Judged.TheVariants.{Sound}
 use Rattle.network.specs.{Network.Network, Network.arcs, Network.points, Network.start, Limits.most_period}
 use Rattle.network.specs.Network as net
-use Rattle.network.specs.{Rules.ticks_of, Rules.travels_of, Rules.judged_points, Sound.points_clear}
+use Rattle.network.specs.{Rules.ticks_of, Rules.travels_of, Rules.judged_points}
+use Rattle.network.proofs.Sound.{points_clear}
 use Rattle.network.specs.FirstPoint.{Counted, points_in}
 use Rattle.network_steady.specs.Joins.{Follows}
 use Rattle.network_steady.specs.Steady as order

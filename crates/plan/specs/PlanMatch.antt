@@ -9,7 +9,8 @@ use Rattle.theory_loops.specs.Select.{select}
 use Rattle.theory_paths.specs.Partition.{Partition}
 use Rattle.network.specs.declared.header.Header.{Header}
 use Rattle.network.specs.{Limits.WithinLimits, Layout.layout_of, Network.Network, Network.nodes, Network.arcs}
-use Rattle.network.specs.{Decode.decode, Decode.laid_sizes, Valid.ValidFile, Valid.valid_laid}
+use Rattle.network.specs.{Decode.decode, Decode.laid_sizes, Valid.ValidFile}
+use Rattle.network.proofs.Valid.{valid_laid}
 use Rattle.network.specs.Town.{partition_of}
 use Rattle.plan.specs.declared.answer.Planning.{Planning}
 use Rattle.plan.specs.declared.header.PlanHeader.{PlanHeader}

@@ -18,7 +18,8 @@ use Rattle.file_refusals.specs.declared.Judged.{Judged}
 use Rattle.file_refusals.specs.declared.Judged.TheVariants.{Sound, Faulty}
 use Rattle.network.specs.declared.header.Header.{Header}
 use Rattle.network.specs.{Network.Network, Network.nodes, Network.arcs, Town.partition_of, Decode.decode}
-use Rattle.network.specs.Valid.{ValidFile, within_file}
+use Rattle.network.specs.Valid.{ValidFile}
+use Rattle.network.proofs.Valid.{within_file}
 use Rattle.plan.specs.declared.answer.Planning.TheVariants as planning
 use Rattle.plan.specs.declared.header.{PlanHeader.PlanHeader, PlanLayout.PlanLayout}
 use Rattle.plan.specs.{PlanLimits.most_plan_bytes, Border.border_count, PlanLayout.plan_few}

@@ -9,7 +9,8 @@ use Rattle.network.specs.declared.answer.Opening.TheVariants as opening
 use Rattle.network.specs.declared.header.{Header.Header, Layout.Layout}
 use Rattle.network.specs.{Layout.layout_of, Decode.decode, Decode.Laid, Decode.laid_sizes, Town.partition_of}
 use Rattle.network.specs.{Sound.SoundNetwork, Validate.validated}
-use Rattle.network.specs.Valid.{ValidFile, valid_laid, valid_exactly}
+use Rattle.network.specs.Valid.{ValidFile}
+use Rattle.network.proofs.Valid.{valid_laid, valid_exactly}
 use Rattle.search_chains.specs.Town.{town_of}
 use Rattle.plan.specs.declared.answer.Planning.{Planning}
 use Rattle.plan.specs.declared.answer.Planning.TheVariants as planning

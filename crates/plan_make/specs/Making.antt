@@ -17,7 +17,8 @@ use Rattle.network.specs.declared.answer.Opening.{Opening}
 use Rattle.network.specs.declared.answer.Opening.TheVariants as opening
 use Rattle.network.specs.declared.header.{Header.Header, Layout.Layout}
 use Rattle.network.specs.{Network.Network, Network.nodes, Network.arcs, Network.start, Decode.decode}
-use Rattle.network.specs.{Town.partition_of, Validate.validated, Valid.ValidFile, Valid.valid_exactly}
+use Rattle.network.specs.{Town.partition_of, Validate.validated, Valid.ValidFile}
+use Rattle.network.proofs.Valid.{valid_exactly}
 use Rattle.plan.specs.declared.header.{PlanHeader.PlanHeader, PlanLayout.PlanLayout}
 use Rattle.plan.specs.{Border.border_count, PlanDecode.point_total, PlanHeader.PlanWithin, Borders.listed_front}
 use Rattle.plan.specs.PlanLayout.{plan_layout_of, plan_few}

@@ -14,7 +14,8 @@ use Rattle.network.specs.declared.answer.Opening.{Opening}
 use Rattle.network.specs.declared.answer.Opening.TheVariants as opening
 use Rattle.network.specs.declared.header.Header.{Header}
 use Rattle.network.specs.{Network.Network, Decode.decode, Validate.validated}
-use Rattle.network.specs.Valid.{ValidFile, valid_exactly}
+use Rattle.network.specs.Valid.{ValidFile}
+use Rattle.network.proofs.Valid.{valid_exactly}
 use Rattle.plan.specs.{PlanDecode.decode_plan, PlanDecode.point_total, PlanLimits.most_profile_points}
 use Rattle.plan_check.specs.declared.answer.Checking.TheVariants.{Accepted}
 use Rattle.plan_check.specs.CheckPlan.{checking}

@@ -7,7 +7,8 @@ use lib.{ListN.length, ListN.take, ListN.drop, ListN.length-append, Seq.drop_at,
 use Rattle.theory_loops.specs.Fill.{Filled, tab, length_tab, overwritten, filled_list}
 use Rattle.network.specs.declared.header.{Header.Header, Layout.Layout}
 use Rattle.network.specs.{Network.Network, Network.nodes, Network.start, Layout.layout_of, Decode.decode}
-use Rattle.network.specs.Valid.{ValidFile, valid_laid}
+use Rattle.network.specs.Valid.{ValidFile}
+use Rattle.network.proofs.Valid.{valid_laid}
 use Rattle.search_chains.specs.Town.{Town, town_of}
 use Rattle.toward_row.specs.Arcs.{Primed}
 

@@ -12,7 +12,8 @@ use Rattle.network.specs.declared.answer.Opening.TheVariants.{Opened, Refused}
 use Rattle.network.specs.declared.header.Header.{Header}
 use Rattle.network.specs.{Limits.most_arcs, Limits.most_cells, Network.arcs, Network.cell, Decode.decode}
 use Rattle.network.specs.{Town.graph_of, Town.partition_of, Validate.validated}
-use Rattle.network.specs.Valid.{ValidFile, valid_exactly}
+use Rattle.network.specs.Valid.{ValidFile}
+use Rattle.network.proofs.Valid.{valid_exactly}
 use Rattle.plan.specs.declared.answer.Planning.{Planning}
 use Rattle.plan.specs.declared.answer.Planning.TheVariants as planning
 use Rattle.plan.specs.declared.header.{PlanHeader.PlanHeader, PlanLayout.PlanLayout}

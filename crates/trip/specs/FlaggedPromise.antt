@@ -10,7 +10,8 @@ use Rattle.theory_paths.proofs.Drive.{path_all}
 use Rattle.network.specs.declared.answer.Opening.{Opening}
 use Rattle.network.specs.declared.header.Header.{Header}
 use Rattle.network.specs.{Limits.most_nodes, Limits.most_roads, Network.nodes, Decode.decode}
-use Rattle.network.specs.{Town.graph_of, Town.partition_of, Valid.ValidFile, Valid.valid_exactly}
+use Rattle.network.specs.{Town.graph_of, Town.partition_of, Valid.ValidFile}
+use Rattle.network.proofs.Valid.{valid_exactly}
 use Rattle.plan.specs.declared.header.PlanHeader.{PlanHeader}
 use Rattle.plan.specs.{PlanDecode.decode_plan, PlanValid.ValidPlan, PlanValid.plan_exactly}
 use Rattle.plan_check.specs.declared.answer.Checking.TheVariants.{Accepted}

@@ -10,7 +10,8 @@ use Rattle.network.specs.declared.answer.Opening.TheVariants.{Opened}
 use Rattle.network.specs.declared.header.Header.{Header}
 use Rattle.network.specs.{Limits.most_nodes, Limits.most_roads, Decode.decode, Town.partition_of, Town.travel_at}
 use Rattle.network.specs.Network.{Network, nodes, arcs, points, start}
-use Rattle.network.specs.{Validate.unopened, Validate.validated, Valid.ValidFile, Valid.valid_exactly}
+use Rattle.network.specs.{Validate.unopened, Validate.validated, Valid.ValidFile}
+use Rattle.network.proofs.Valid.{valid_exactly}
 use Rattle.network_hours.specs.Hours.{FirstOpen}
 use Rattle.plan.specs.declared.answer.Planning.{Planning}
 use Rattle.plan.specs.declared.answer.Planning.TheVariants as planning

@@ -15,7 +15,8 @@ use Rattle.network.specs.declared.answer.Opening.{Opening}
 use Rattle.network.specs.declared.answer.Opening.TheVariants.{Opened, Refused}
 use Rattle.network.specs.declared.header.Header.{Header}
 use Rattle.network.specs.{Limits.most_nodes, Limits.most_roads, Decode.decode, Town.graph_of, Validate.validated}
-use Rattle.network.specs.{Valid.valid_exactly, Numbers.NetworkNumber, Numbers.validated_numbers}
+use Rattle.network.specs.{Numbers.NetworkNumber, Numbers.validated_numbers}
+use Rattle.network.proofs.Valid.{valid_exactly}
 use Rattle.plan.specs.declared.answer.Planning.{Planning}
 use Rattle.plan.specs.declared.answer.Planning.TheVariants as planning
 use Rattle.plan.specs.{PlanValidate.planned, Numbers.planned_numbers}

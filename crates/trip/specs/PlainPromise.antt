@@ -9,7 +9,8 @@ use Rattle.network.specs.declared.answer.Opening.{Opening}
 use Rattle.network.specs.declared.answer.Opening.TheVariants.{Opened}
 use Rattle.network.specs.declared.header.Header.{Header}
 use Rattle.network.specs.{Limits.most_nodes, Limits.most_roads, Network.nodes, Decode.decode, Town.graph_of}
-use Rattle.network.specs.{Validate.validated, Valid.valid_exactly}
+use Rattle.network.specs.{Validate.validated}
+use Rattle.network.proofs.Valid.{valid_exactly}
 use Rattle.search_path.specs.{Says.trip_says, Shows.ShowsBefore, Shows.ShowsAll}
 use Rattle.search_path.specs.declared.answer.{Arrival.Arrival, Answer.Answer}
 use Rattle.search_path.specs.declared.answer.Answer.TheVariants as answer

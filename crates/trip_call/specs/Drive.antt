@@ -11,7 +11,8 @@ use Rattle.network.specs.declared.answer.Opening.{Opening}
 use Rattle.network.specs.declared.answer.Opening.TheVariants.{Opened, Refused}
 use Rattle.network.specs.declared.header.{Header.Header, Layout.Layout}
 use Rattle.network.specs.{Network.nodes, Network.arcs, Network.points, Layout.layout_of, Sound.SoundNetwork}
-use Rattle.network.specs.{Decode.decode, Decode.Laid, Valid.ValidFile, Valid.valid_laid, Town.graph_of}
+use Rattle.network.specs.{Decode.decode, Decode.Laid, Valid.ValidFile, Town.graph_of}
+use Rattle.network.proofs.Valid.{valid_laid}
 use Rattle.search_chains.specs.Town.{town_of}
 use Rattle.search_labels.specs.Ready.{Leaving, leaving}
 use Rattle.search_path.specs.Answer.{Answered, answer_of, path_of, searched, entry_of, count_is, not_both}

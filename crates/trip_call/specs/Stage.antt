@@ -10,7 +10,8 @@ use Rattle.file_refusals.specs.declared.Refusal.{Refusal}
 use Rattle.network.specs.declared.answer.Opening.{Opening}
 use Rattle.network.specs.declared.answer.Opening.TheVariants.{Opened, Refused}
 use Rattle.network.specs.declared.header.Header.{Header}
-use Rattle.network.specs.{Validate.unopened, Validate.validated, Valid.ValidFile, Valid.valid_exactly}
+use Rattle.network.specs.{Validate.unopened, Validate.validated, Valid.ValidFile}
+use Rattle.network.proofs.Valid.{valid_exactly}
 use Rattle.search_path.specs.declared.answer.Answer.{Answer}
 use Rattle.search_path.specs.declared.answer.Answer.TheVariants as answer
 use Rattle.trip_call.specs.Trip.{asked, and_then, TripCall}

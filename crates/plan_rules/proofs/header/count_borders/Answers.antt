@@ -1,5 +1,5 @@
 -- `plan_rules::header::count_borders` meets its contract: a valid network is laid out and sound.
-use Rattle.network.specs.Valid.{valid_laid}
+use Rattle.network.proofs.Valid.{valid_laid}
 use Rattle.plan_rules.proofs.header.count_borders.Goals as goal
 
 pub count_borders-requires-clause-laid : goal.count_borders-requires-clause-laid
