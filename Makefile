@@ -1,7 +1,8 @@
 # The desk's command and what is installed with it. The library is proved and built by the Rattle kit
-# (`rt staticlib varnwalnut`); everything else here is plain C, and nothing of it is proved.
+# (`rt lib` in crates/varnwalnut); everything else here is plain C, and nothing of it is proved.
 #
-#   make                              the library, the command and its manual page, in target/
+#   make                              the library, the command and its manual page, in target/desk
+#   make library                      the library alone, where the kit builds it
 #   make install PREFIX=.. DESTDIR=.. command, headers, libraries, manual page, pkg-config file
 #   make dist                         an archive of these, for people without the kit
 #   make shared                       target/desk/libvarnwalnut.so, for callers such as examples/trip.py
@@ -15,21 +16,24 @@ FLAGS = -std=c99 -Wall -Wextra -Wpedantic -Wconversion -Iinclude -Itools
 VERSION := $(shell sed -n 's/^\#define VARNWALNUT_VERSION "\(.*\)"$$/\1/p' include/varnwalnut.h)
 NAME = varnwalnut-$(VERSION)-x86_64-linux
 OUT = target/desk
-LIBRARY = target/staticlib/libvarnwalnut.a
+LIBRARY = crates/varnwalnut/out/libvarnwalnut.a
 
 SOURCES = $(wildcard tools/*.c)
 HEADERS = $(wildcard tools/*.h tools/*.def include/*.h)
 OBJECTS = $(SOURCES:tools/%.c=$(OUT)/%.o)
-PROVED := crates.txt $(shell find crates -type f \( -name '*.rt' -o -name '*.antt' \))
+PROVED := crates.txt $(shell find crates -path 'crates/*/out' -prune \
+    -o -type f \( -name '*.rt' -o -name '*.antt' \) -print)
 
-.PHONY: all install uninstall dist shared check clean
+.PHONY: all library install uninstall dist shared check clean
 
 all: $(OUT)/varnwalnut $(OUT)/varnwalnut.1 $(OUT)/libvarnwalnut_text.a
+
+library: $(LIBRARY)
 
 $(LIBRARY): $(PROVED)
 	@command -v rt > /dev/null || { echo 'The Rattle kit is not installed: there is no command rt.'; exit 1; }
 	@echo 'The library is proved and built. The first time that takes about ten minutes on two processors.'
-	rt staticlib varnwalnut
+	cd crates/varnwalnut && rt lib
 
 $(OUT)/%.o: tools/%.c $(HEADERS)
 	@mkdir -p $(OUT)

@@ -5,7 +5,7 @@ use std::path::PathBuf;
 fn folder() -> PathBuf {
     match env::var_os("VARNWALNUT_LIB") {
         Some(folder) => PathBuf::from(folder),
-        None => PathBuf::from(env::var_os("CARGO_MANIFEST_DIR").expect("cargo sets it")).join("../target/staticlib"),
+        None => PathBuf::from(env::var_os("CARGO_MANIFEST_DIR").expect("cargo sets it")).join("../crates/varnwalnut/out"),
     }
 }
 

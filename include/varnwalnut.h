@@ -19,7 +19,7 @@
  * varnwalnut_make_plan below 56 KB, varnwalnut_day_sheet below 32 KB, and varnwalnut_import_dimacs below
  * 26 KB. varnwalnut_pack_network needs below 2 KB.
  *
- * Link with libvarnwalnut.a: cc program.c -Iinclude target/staticlib/libvarnwalnut.a
+ * Link with libvarnwalnut.a: cc program.c -Iinclude crates/varnwalnut/out/libvarnwalnut.a
  */
 #ifndef VARNWALNUT_H
 #define VARNWALNUT_H

@@ -38,7 +38,7 @@ pub enum Kind {
 pub enum Section {
     /// The parameters of a `module _`.
     Module(Vec<Tree>),
-    /// An `open`: the record and its value, and the names that it brings.
+    /// An `open`: a record's value, and the names that it brings.
     Open(Vec<Tree>, Vec<String>),
 }
 
@@ -189,17 +189,17 @@ impl Spec {
         self.block(rest, &sections)
     }
 
-    /// `open Record value using (field, field as name)`.
+    /// `open value use {field, field as name}`.
     fn open(&mut self, item: &[Line]) -> Result<usize, String> {
         let text = trees(item)?;
-        let using = text.iter().position(|tree| tree.is("using")).unwrap_or(text.len());
+        let brings = text.iter().position(|tree| tree.is("use")).unwrap_or(text.len());
         let mut names = Vec::new();
-        if let Some(Tree::Group(_, fields)) = text.get(using + 1) {
+        if let Some(Tree::Group(_, fields)) = text.get(brings + 1) {
             for field in tree::parts(fields, |tree| *tree == Tree::Mark(',')) {
                 names.extend(field.last().and_then(Tree::bare).map(str::to_string));
             }
         }
-        self.sections.push((Section::Open(text[1..using].to_vec(), names), numbers(item)));
+        self.sections.push((Section::Open(text[1..brings].to_vec(), names), numbers(item)));
         Ok(self.sections.len() - 1)
     }
 
@@ -240,10 +240,10 @@ fn is_clause_of(definition: &Definition, text: &[Tree]) -> bool {
     text.first().is_some_and(|tree| tree.is(&definition.name)) || left.iter().any(part)
 }
 
-/// The words of an operator: of `_gives_` it is `gives`. A name that is no operator has none.
+/// The words of an operator: of `◌gives◌` it is `gives`. A name that is no operator has none.
 pub fn operator_parts(name: &str) -> Vec<&str> {
-    match name.contains('_') {
-        true => name.split('_').filter(|part| !part.is_empty()).collect(),
+    match name.contains('◌') {
+        true => name.split('◌').filter(|part| !part.is_empty()).collect(),
         false => Vec::new(),
     }
 }

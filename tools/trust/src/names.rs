@@ -57,8 +57,8 @@ impl<'a> Names<'a> {
         for section in &definition.sections {
             match &spec.sections[*section].0 {
                 Section::Module(parameters) => self.open_text(parameters),
-                Section::Open(record, names) => {
-                    self.term(record);
+                Section::Open(value, names) => {
+                    self.term(value);
                     names.iter().for_each(|name| self.bind(name));
                 }
             }

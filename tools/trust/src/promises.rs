@@ -4,6 +4,7 @@ use crate::antt::Kind;
 use crate::reach::Reached;
 use crate::repository::{load, Repository, Target};
 use std::collections::BTreeSet;
+use std::path::Path;
 
 const PROMISES: &str = "docs/PROMISES.md";
 
@@ -36,7 +37,8 @@ fn is_field(repository: &Repository, word: &str, row: &[&str]) -> bool {
 }
 
 /// The public definitions of a name. Of several, those in a file that the row names; else those that the
-/// contracts reach; else all.
+/// contracts reach; else all. A name that a function or a wrong engine has too is theirs, unless the row
+/// names the definition's file.
 fn meant(repository: &Repository, contracts: &Reached, word: &str, row: &str) -> Vec<Place> {
     let mut all = Vec::new();
     for (i, file) in repository.specs.iter().enumerate() {
@@ -52,6 +54,10 @@ fn meant(repository: &Repository, contracts: &Reached, word: &str, row: &str) ->
     };
     let in_contracts = |(i, j): &Place| contracts.contains_key(&Target::Spec(*i, *j));
     let choices: [&dyn Fn(&Place) -> bool; 2] = [&in_row, &in_contracts];
+    if is_function(repository, word) || is_wrong_engine(repository, word) {
+        all.retain(in_row);
+        return all;
+    }
     for is_chosen in choices.into_iter().filter(|_| all.len() > 1) {
         let chosen: Vec<Place> = all.iter().copied().filter(is_chosen).collect();
         if !chosen.is_empty() {
@@ -59,4 +65,13 @@ fn meant(repository: &Repository, contracts: &Reached, word: &str, row: &str) ->
         }
     }
     all
+}
+
+fn is_function(repository: &Repository, word: &str) -> bool {
+    repository.codes.iter().any(|file| file.text.functions.iter().any(|known| known.name == word))
+}
+
+fn is_wrong_engine(repository: &Repository, word: &str) -> bool {
+    let edit = |name: &str| format!("crates/{name}/must-fail/{word}.edit");
+    repository.crates.iter().any(|known| Path::new(&edit(&known.name)).exists())
 }

@@ -7,13 +7,16 @@ use crate::tree::{self, Tree};
 pub struct Code {
     /// The `ghost use` lines, for the contracts.
     pub ghosts: Vec<Use>,
-    /// The `use` lines, each by the parts of its path.
+    /// What the `use` lines bring, each by the parts of its path.
     pub uses: Vec<Vec<String>>,
+    /// What its `using(crate::specs::Runs::larger)` and `unfolding(..)` name, each by the parts of its path.
+    pub cited: Vec<Vec<String>>,
     pub functions: Vec<Function>,
     pub types: Vec<Type>,
 }
 
 pub struct Function {
+    pub name: String,
     pub public: bool,
     /// It is called from C.
     pub exported: bool,
@@ -34,18 +37,18 @@ pub struct Type {
 /// Reads a file of Rattle, laid out by the formatter; an error begins with the number of the line.
 pub fn read(text: &str) -> Result<Code, String> {
     let lines = lines(text);
-    let mut code = Code::default();
+    let mut code = Code { cited: cited(text), ..Code::default() };
     for (i, line) in lines.iter().enumerate() {
         let rest = without_marks(&line.text);
-        if let Some(used) = rest.strip_prefix("ghost use ") {
-            code.ghosts.extend(read_use(used));
-        } else if let Some(used) = rest.strip_prefix("use ") {
-            if used.contains('{') || used.contains(" as ") {
-                return Err(format!("{}: a `use` line of one path is expected", line.number));
-            }
-            code.uses.push(words(used));
+        if rest.starts_with("ghost use ") {
+            let text = joined(&lines[i..i + balanced(&lines[i..])]);
+            code.ghosts.extend(read_use(&without_marks(&text)["ghost use ".len()..]));
+        } else if rest.starts_with("use ") {
+            let text = joined(&lines[i..i + balanced(&lines[i..])]);
+            let used = &without_marks(&text)["use ".len()..];
+            code.uses.extend(paths(used).map_err(|e| format!("{}: {e}", line.number))?);
         } else if rest.starts_with("struct ") || rest.starts_with("enum ") {
-            code.types.push(read_type(&lines[i..i + balanced(&lines[i..])]));
+            code.types.push(read_type(&lines[i..i + balanced(&lines[i..])])?);
         } else if rest.starts_with("fn ") {
             code.functions.push(read_function(&lines[i..])?);
         }
@@ -87,14 +90,39 @@ fn balanced(lines: &[Line]) -> usize {
     lines.len()
 }
 
+/// The paths through `specs` that are written with `::`: only tactics are given such ones.
+fn cited(text: &str) -> Vec<Vec<String>> {
+    let paths = text.split(|c: char| c.is_whitespace() || "(),;".contains(c));
+    let parts = |path: &str| path.split("::").map(str::to_string).collect();
+    paths.filter(|path| path.contains("::specs::")).map(parts).collect()
+}
+
+/// The paths of `use a::b;` or `use a::{b, c::d};`, without the word `use`.
+fn paths(used: &str) -> Result<Vec<Vec<String>>, String> {
+    let (path, items) = used.split_once('{').unwrap_or((used, ""));
+    if items.contains('{') || used.contains(" as ") {
+        return Err("a `use` line of a path, or of one with names in braces, is expected".to_string());
+    }
+    let path = words(path);
+    if items.is_empty() {
+        return Ok(vec![path]);
+    }
+    let items = items.split(',').map(words).filter(|item| !item.is_empty());
+    Ok(items.map(|item| [&path[..], &item[..]].concat()).collect())
+}
+
 fn words(text: &str) -> Vec<String> {
     let parts = text.split(|c: char| !c.is_alphanumeric() && c != '_');
     parts.filter(|word| !word.is_empty()).map(str::to_string).collect()
 }
 
-fn read_type(lines: &[Line]) -> Type {
+/// What a ghost field says would have to be followed as a contract is: no type of this repository has one.
+fn read_type(lines: &[Line]) -> Result<Type, String> {
+    if let Some(line) = lines.iter().find(|line| without_marks(&line.text).starts_with("ghost ")) {
+        return Err(format!("{}: a ghost field is not read", line.number));
+    }
     let mut words = words(without_marks(&joined(lines))).split_off(1);
-    Type { name: words.remove(0), words, lines: lines.iter().map(|line| line.number).collect() }
+    Ok(Type { name: words.remove(0), words, lines: lines.iter().map(|line| line.number).collect() })
 }
 
 /// A signature runs up to its first clause or to the body's brace, and each clause to its closing brace.
@@ -116,12 +144,14 @@ fn read_function(lines: &[Line]) -> Result<Function, String> {
     }
     let public = signature.starts_with("pub ");
     let exported = signature.starts_with("pub extern");
-    Ok(Function { public, exported, parameters: parameters(signature), words: words(signature), clauses })
+    let words = words(signature);
+    let name = words.iter().skip_while(|word| *word != "fn").nth(1).cloned().unwrap_or_default();
+    Ok(Function { name, public, exported, parameters: parameters(signature), words, clauses })
 }
 
-/// The names before the colons of `f(name: type, name: type)`.
+/// The names before the colons of `f(name: type, name: type)`, and those that each contract may use besides.
 fn parameters(signature: &str) -> Vec<String> {
     let inner = signature.split_once('(').map_or("", |(_, rest)| rest);
     let named = inner.split(',').filter_map(|part| part.split_once(": ")).map(|(name, _)| name);
-    named.chain(["self"]).filter_map(|name| words(name).pop()).collect()
+    named.chain(["self", "result"]).filter_map(|name| words(name).pop()).collect()
 }

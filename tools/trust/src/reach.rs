@@ -11,9 +11,9 @@ use std::collections::{BTreeMap, BTreeSet};
 pub type Reached = BTreeMap<Target, Extent>;
 
 /// What no `use` line brings: the words of the language and of contracts, and names of the prelude.
-const WORDS: [&str; 20] = [
-    ":", "=", "→", "×", "Type", "elim", "in", "record", "unfold", "⌜", "⌝", "now", "¬", "⊥", "Dec", "Unit",
-    "absurd", "no", "tt", "yes",
+const WORDS: [&str; 17] = [
+    ":", "=", "→", "×", "Type", "elim", "in", "record", "unfold", "¬", "⊥", "Dec", "Unit", "absurd", "no",
+    "tt", "yes",
 ];
 
 /// From the contracts of the public functions of the crates on top: those that C calls, or the others.

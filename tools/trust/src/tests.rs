@@ -41,8 +41,8 @@ fn constructors_are_cited_in_patterns() {
 
 #[test]
 fn labels_and_fields_are_no_names() {
-    let text = "f : T\nf h = record { nodes = h .nodes; arcs = count {A = h} \"quoted\" }";
-    assert_eq!(free(text, Extent::Whole), "T count record");
+    let text = "f : T\nf h = record { nodes = h.nodes; arcs = (k h).arcs + count {A = h} \"quoted\" }";
+    assert_eq!(free(text, Extent::Whole), "+ T count k record");
 }
 
 #[test]
@@ -62,7 +62,10 @@ fn a_section_is_part_of_a_statement() {
 
 #[test]
 fn operators_and_records() {
-    assert_eq!(free("infix 10 _gives_\nabbrev _gives_ : T\nq gives a = pair q a", Extent::Whole), "T pair");
+    assert_eq!(
+        free("infix 10 ◌gives◌\nabbrev ◌gives◌ : T\nq gives a_b = pair q a_b", Extent::Whole),
+        "T pair"
+    );
     assert_eq!(
         free("pub record R (n : A) : Type 0 where\n  pub a : B n\n  b : C a", Extent::Whole),
         ": A B C Type"
@@ -91,7 +94,7 @@ fn a_use_line_names_modules() {
         uses.iter().map(one).collect::<Vec<_>>().join(" ")
     };
     assert_eq!(said(" a.B.{x, y as z}"), "a.B/x=x a.B/y=z");
-    assert_eq!(said(" a.{B._+_, C.D.x as y, z};"), "a.B/_+_=_+_ a.C.D/x=y a/z=z");
+    assert_eq!(said(" a.{B.◌+◌, C.D.x as y, z};"), "a.B/◌+◌=◌+◌ a.C.D/x=y a/z=z");
     assert_eq!(said(" a.B as b"), "a.B=b");
     assert_eq!(said(" a.B"), "a.B=B");
 }
@@ -99,13 +102,30 @@ fn a_use_line_names_modules() {
 #[test]
 fn contracts_and_types_of_code() {
     let types = "pub struct U;\n\npub enum E {\n    A(S),\n}\n";
-    let function = "pub fn f(\n    of: &[u8],\n) -> E\n    ensures a\n    { λ r. { r of } }\n{\n}\n";
+    let head = "#[unsafe(no_mangle)]\npub extern \"C\" fn f(\n    of: &mut [u8],\n) -> E\n";
+    let clauses = "    requires laid { p of.old }\n    ensures { q of.new\n        ≡ r result }\n";
+    let function = format!("{head}{clauses}{{\n}}\n");
     let code = rattle::read(&format!("{types}\n{function}")).expect("it can be read");
     assert_eq!((code.types[0].name.as_str(), &code.types[0].lines[..]), ("U", &[1][..]));
     assert_eq!((code.types[1].name.as_str(), &code.types[1].lines[..]), ("E", &[3, 4, 5][..]));
-    assert_eq!((code.functions[0].public, code.functions[0].clauses.len()), (true, 1));
-    assert_eq!(code.functions[0].clauses[0].len(), 4);
-    assert_eq!(code.functions[0].parameters, ["of", "self"]);
+    let function = &code.functions[0];
+    assert_eq!((function.name.as_str(), function.public, function.exported), ("f", true, true));
+    assert_eq!(function.clauses.iter().map(Vec::len).collect::<Vec<_>>(), [2, 5]);
+    assert_eq!(function.parameters, ["of", "self", "result"]);
+}
+
+#[test]
+fn what_code_brings_and_cites() {
+    let uses = "use a::b;\nuse c::{\n    D,\n    e::F,\n};\nghost use Rattle.a.specs.B.{x, y};\n";
+    let tactic = "#[tactic(auto, using(crate::specs::A::b, std::proofs::c), unfolding(d::specs::E::f))]\n";
+    let code = rattle::read(&format!("{uses}\n{tactic}")).expect("it can be read");
+    let joined =
+        |paths: &[Vec<String>]| paths.iter().map(|path| path.join(".")).collect::<Vec<_>>().join(" ");
+    assert_eq!(joined(&code.uses), "a.b c.D c.e.F");
+    assert_eq!(code.ghosts.len(), 2);
+    assert_eq!(joined(&code.cited), "crate.specs.A.b d.specs.E.f");
+    assert!(rattle::read("use a::{b, c::{d}};\n").is_err());
+    assert!(rattle::read("struct S {\n    n: u8,\n    pub ghost low: { n < 9 },\n}\n").is_err());
 }
 
 #[test]

@@ -5,7 +5,8 @@
 pub enum Tree {
     /// A name, or names joined by dots with no space (`answer.Refused`). Operators and words are names too.
     Name(Vec<String>),
-    /// A projection, ` .field`: it names a field and no definition.
+    /// A projection behind a bracket, `(g x).field`: it names a field and no definition. One behind a name is
+    /// joined to it as above.
     Field,
     /// A comma, a semicolon, or the dot that ends the binders of a λ.
     Mark(char),

@@ -15,13 +15,14 @@ pub fn list(repository: &Repository, contracts: &Reached) -> Result<String, Stri
     for (i, file) in repository.specs.iter().enumerate() {
         cite_all(repository, file, |place| Target::Spec(i, place), &mut cited)?;
     }
-    for file in &repository.proofs {
+    for file in &repository.proofs()? {
         cite_all(repository, file, |_| Target::Kit, &mut cited)?;
     }
     for file in &repository.codes {
         for function in &file.text.functions {
             cited.extend(meanings(repository, file, in_contract(function, &file.scope))?);
         }
+        cited.extend(file.text.cited.iter().filter_map(|path| repository.cited(file.of, path)));
     }
     let mut text = String::new();
     for (i, file) in repository.specs.iter().enumerate() {
