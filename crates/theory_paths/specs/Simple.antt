@@ -5,9 +5,7 @@ use Rattle.std.specs.Prelude.{List, [], ◌∷◌, ℕ, ◌≤◌, ◌<◌, leng
 use Rattle.theory_paths.specs.Graph.{Graph, Permit, IsPath, driven}
 
 infix 20 ◌∉◌
-
 abbrev pub ◌∉◌ : ℕ → List ℕ → Type 0
-
 v ∉ [] = Unit {0}
 v ∉ (u ∷ l) = (v ≢ u) × (v ∉ l)
 

@@ -7,12 +7,12 @@ use Rattle.day_merge.proofs.merge.Goals as goal
 
 pub loop-p-init : goal.loop-p-init
 loop-p-init c = let o : 0 < c.args.period = c.requires.period_nonzero.0 in (
-      omega arith,
-      λ _. at_first _ _ _ c.requires.listed.0.grid o,
-      λ _. at_first _ _ _ c.requires.listed.1.grid o,
-      omega arith,
-      walked_none _ _ _ _ _ _ _ _ _ _ _ _ _,
-    )
+  omega arith,
+  λ _. at_first _ _ _ c.requires.listed.0.grid o,
+  λ _. at_first _ _ _ c.requires.listed.1.grid o,
+  omega arith,
+  walked_none _ _ _ _ _ _ _ _ _ _ _ _ _,
+)
 
 pub sweep-p-requires-clause-listed : goal.sweep-p-requires-clause-listed
 sweep-p-requires-clause-listed c = c.requires.listed

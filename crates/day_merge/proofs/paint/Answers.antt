@@ -14,11 +14,11 @@ loop-x-init c = (search rules, search rules, search fills)
 pub loop-x-preserved : goal.loop-x-preserved
 unfolding painted always
 loop-x-preserved c = (
-      search rules,
-      search rules,
-      fill_up _ _ _ _ _ _ c.loop-x.invariant.2 c.loop-x.invariant.0 (omega arith)
-          (ap (λ (y : ℕ). bit_or y c.args.more) (c.loop-x.invariant.2.after c.loop-x.x (omega arith))),
-    )
+  search rules,
+  search rules,
+  fill_up _ _ _ _ _ _ c.loop-x.invariant.2 c.loop-x.invariant.0 (omega arith)
+      (ap (λ (y : ℕ). bit_or y c.args.more) (c.loop-x.invariant.2.after c.loop-x.x (omega arith))),
+)
 
 pub returns : goal.returns
 returns c = search fills

@@ -9,10 +9,10 @@ use Rattle.day_merge.proofs.sweep.Goals as goal
 
 pub ends-e-requires : goal.ends-e-requires
 ends-e-requires c = (
-      c.requires.t_lt_period.0,
-      omega (arith, c.wide.ensures, c.requires.short.0.most _ c.requires.t_lt_period.2.below),
-      c.requires.short.1,
-    )
+  c.requires.t_lt_period.0,
+  omega (arith, c.wide.ensures, c.requires.short.0.most _ c.requires.t_lt_period.2.below),
+  c.requires.short.1,
+)
 
 pub loop-t-init : goal.loop-t-init
 loop-t-init c =

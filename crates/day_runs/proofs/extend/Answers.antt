@@ -8,9 +8,9 @@ use Rattle.day_runs.proofs.extend.Goals as goal
 
 pub returns-then-v-w : goal.returns-then-v-w
 returns-then-v-w c = let e : c.args.v ≡ c.args.w = omega (arith, c.if-v-w.true) in (
-      flat_held c.requires.room _ _ e,
-      search rules,
-    )
+  flat_held c.requires.room _ _ e,
+  search rules,
+)
 
 pub returns-then-b-a : goal.returns-then-b-a
 returns-then-b-a c =

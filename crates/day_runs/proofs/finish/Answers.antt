@@ -8,6 +8,6 @@ close-requires c = finish_ending c.requires.room c.requires.leading c.piece-m.en
 
 pub returns : goal.returns
 returns c = (
-      finish_added c.requires.room c.requires.leading c.piece-m.ensures c.close.ensures,
-      search rules,
-    )
+  finish_added c.requires.room c.requires.leading c.piece-m.ensures c.close.ensures,
+  search rules,
+)

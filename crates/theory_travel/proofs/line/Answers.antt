@@ -11,28 +11,28 @@ pub overflow_mul-result : goal.overflow_mul-result
 overflow_mul-result c =
     let products : (c.args.v * (c.args.b - c.args.x) ≤ c.args.v * 65535)
     × (c.args.w * (c.args.x - c.args.a) ≤ c.args.w * 65535) =
-        (mul-le-mul_left c.args.v (omega arith), mul-le-mul_left c.args.w (omega arith)) in
+    (mul-le-mul_left c.args.v (omega arith), mul-le-mul_left c.args.w (omega arith)) in
     omega (arith, products)
 
 pub overflow_mul-result-2 : goal.overflow_mul-result-2
 overflow_mul-result-2 c =
     let products : (c.args.v * (c.args.b - c.args.x) ≤ c.args.v * 65535)
     × (c.args.w * (c.args.x - c.args.a) ≤ c.args.w * 65535) =
-        (mul-le-mul_left c.args.v (omega arith), mul-le-mul_left c.args.w (omega arith)) in
+    (mul-le-mul_left c.args.v (omega arith), mul-le-mul_left c.args.w (omega arith)) in
     omega (arith, products)
 
 pub overflow_add-result : goal.overflow_add-result
 overflow_add-result c =
     let products : (c.args.v * (c.args.b - c.args.x) ≤ c.args.v * 65535)
     × (c.args.w * (c.args.x - c.args.a) ≤ c.args.w * 65535) =
-        (mul-le-mul_left c.args.v (omega arith), mul-le-mul_left c.args.w (omega arith)) in
+    (mul-le-mul_left c.args.v (omega arith), mul-le-mul_left c.args.w (omega arith)) in
     omega (arith, products)
 
 pub overflow_add-result-2 : goal.overflow_add-result-2
 overflow_add-result-2 c =
     let products : (c.args.v * (c.args.b - c.args.x) ≤ c.args.v * 65535)
     × (c.args.w * (c.args.x - c.args.a) ≤ c.args.w * 65535) =
-        (mul-le-mul_left c.args.v (omega arith), mul-le-mul_left c.args.w (omega arith)) in
+    (mul-le-mul_left c.args.v (omega arith), mul-le-mul_left c.args.w (omega arith)) in
     omega (arith, products)
 
 pub overflow_cast-result-7 : goal.overflow_cast-result-7

@@ -20,10 +20,10 @@ brief_of-requires-clause-arc_lt_arcs c = let h : c.loop-a.a < c.args.l.arcs = om
 
 pub loop-a-preserved : goal.loop-a-preserved
 loop-a-preserved c = (
-      search rules,
-      length-set c.loop-a.briefs c.loop-a.a _ ∙ c.loop-a.invariant.1,
-      briefs_more _ c.loop-a.invariant.2 (omega (arith, c.loop-a.invariant.1, c.requires.arcs_in_bounds)) c.brief_of.ensures,
-    )
+  search rules,
+  length-set c.loop-a.briefs c.loop-a.a _ ∙ c.loop-a.invariant.1,
+  briefs_more _ c.loop-a.invariant.2 (omega (arith, c.loop-a.invariant.1, c.requires.arcs_in_bounds)) c.brief_of.ensures,
+)
 
 pub returns : goal.returns
 returns c = let e : c.loop-a.a ≡ c.args.l.arcs = omega arith in

@@ -7,13 +7,12 @@ use borrow.Author.Rules.{rules}
 use Rattle.day_slopes.proofs.slopes.falling.Goals as goal
 
 pub loop-j-init : goal.loop-j-init
-loop-j-init c =
-    (
-      search rules,
-      search rules,
-      fall_start c.requires.room _ _ _ c.requires.w_lt_v.0 c.requires.w_lt_v.1
-          c.step_down-step.ensures,
-    )
+loop-j-init c = (
+  search rules,
+  search rules,
+  fall_start c.requires.room _ _ _ c.requires.w_lt_v.0 c.requires.w_lt_v.1
+      c.step_down-step.ensures,
+)
 
 pub overflow_add-parts : goal.overflow_add-parts
 overflow_add-parts c =
@@ -49,18 +48,17 @@ put-requires c =
     )
 
 pub loop-j-preserved : goal.loop-j-preserved
-loop-j-preserved c =
-    (
-      search rules,
-      search rules,
-      fall_more c.requires.room _ _ _ c.requires.w_lt_v.0 c.requires.w_lt_v.1
-          c.step_down-step.ensures _ _
-          _ _ c.loop-j.j c.loop-j.invariant.2 _ _ c.loop-j.invariant.1
-          c.loop-j-test.true
-          c.wholes.ensures
-          c.put.ensures.0
-          c.put.ensures.1,
-    )
+loop-j-preserved c = (
+  search rules,
+  search rules,
+  fall_more c.requires.room _ _ _ c.requires.w_lt_v.0 c.requires.w_lt_v.1
+      c.step_down-step.ensures _ _
+      _ _ c.loop-j.j c.loop-j.invariant.2 _ _ c.loop-j.invariant.1
+      c.loop-j-test.true
+      c.wholes.ensures
+      c.put.ensures.0
+      c.put.ensures.1,
+)
 
 pub put-requires-2 : goal.put-requires-2
 put-requires-2 c =

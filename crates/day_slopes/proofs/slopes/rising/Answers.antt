@@ -6,13 +6,12 @@ use borrow.Author.Rules.{rules}
 use Rattle.day_slopes.proofs.slopes.rising.Goals as goal
 
 pub loop-j-init : goal.loop-j-init
-loop-j-init c =
-    (
-      search rules,
-      search rules,
-      rise_start c.requires.room _ _ _ c.requires.v_lt_w.0 c.requires.v_lt_w.1
-          c.step_up-step.ensures,
-    )
+loop-j-init c = (
+  search rules,
+  search rules,
+  rise_start c.requires.room _ _ _ c.requires.v_lt_w.0 c.requires.v_lt_w.1
+      c.step_up-step.ensures,
+)
 
 pub overflow_add-e-in-loop-j : goal.overflow_add-e-in-loop-j
 overflow_add-e-in-loop-j c =
@@ -48,17 +47,16 @@ overflow_add-parts c =
     c.loop-j.j _ c.loop-j.invariant.1 c.loop-j-test.true
 
 pub loop-j-preserved : goal.loop-j-preserved
-loop-j-preserved c =
-    (
-      search rules,
-      search rules,
-      rise_more c.requires.room _ _ _ c.requires.v_lt_w.0 c.requires.v_lt_w.1
-          c.step_up-step.ensures _ _ c.loop-j.j c.loop-j.invariant.2 _ _ _ _ c.loop-j.invariant.1
-          c.loop-j-test.true
-          c.wholes.ensures
-          c.put.ensures.0
-          c.put.ensures.1,
-    )
+loop-j-preserved c = (
+  search rules,
+  search rules,
+  rise_more c.requires.room _ _ _ c.requires.v_lt_w.0 c.requires.v_lt_w.1
+      c.step_up-step.ensures _ _ c.loop-j.j c.loop-j.invariant.2 _ _ _ _ c.loop-j.invariant.1
+      c.loop-j-test.true
+      c.wholes.ensures
+      c.put.ensures.0
+      c.put.ensures.1,
+)
 
 pub returns : goal.returns
 returns c =

@@ -9,13 +9,12 @@ use borrow.Author.Rules.{rules}
 use Rattle.day_slopes.proofs.slopes.sink.Goals as goal
 
 pub loop-x-init : goal.loop-x-init
-loop-x-init c =
-    (
-      search rules,
-      search rules,
-      search walks,
-      steep_start c.requires.room _ _ (c.args.v * 4294967296 + 4294967295) 0 refl,
-    )
+loop-x-init c = (
+  search rules,
+  search rules,
+  search walks,
+  steep_start c.requires.room _ _ (c.args.v * 4294967296 + 4294967295) 0 refl,
+)
 
 pub put-requires : goal.put-requires
 put-requires c =

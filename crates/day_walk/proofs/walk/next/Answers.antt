@@ -18,7 +18,7 @@ overflow_add-result c = let f = starts_few _ _ _ c.requires.listed.grid c.args.i
 
 pub returns : goal.returns
 returns c = (
-      omega (arith, c.requires.at.below, reached_most c.reached.ensures),
-      step_next c.requires.listed.grid _ _ _ _ _ c.requires.at c.requires.t_le_to.0 c.requires.t_le_to.1 c.start.ensures
-          c.reached.ensures,
-    )
+  omega (arith, c.requires.at.below, reached_most c.reached.ensures),
+  step_next c.requires.listed.grid _ _ _ _ _ c.requires.at c.requires.t_le_to.0 c.requires.t_le_to.1 c.start.ensures
+      c.reached.ensures,
+)

@@ -22,52 +22,50 @@ loop-j-init c = (zero-le, search wholes)
 pub entries_in-m-requires : goal.entries_in-m-requires
 entries_in-m-requires c =
     let below : c.loop-j.j < blocks c.args.per c.args.n =
-        omega arith in
+    omega arith in
     let starts : c.args.per * c.loop-j.j ≤ c.args.n =
-        block_starts _ _ _ _ _ c.requires.run_in_file _ below in
+    block_starts _ _ _ _ _ c.requires.run_in_file _ below in
     starts
 
 pub overflow_mul-per : goal.overflow_mul-per
 overflow_mul-per c =
     let below : c.loop-j.j < blocks c.args.per c.args.n =
-        omega arith in
+    omega arith in
     let starts : c.args.per * c.loop-j.j ≤ c.args.n =
-        block_starts _ _ _ _ _ c.requires.run_in_file _ below in
+    block_starts _ _ _ _ _ c.requires.run_in_file _ below in
     omega (arith, starts)
 
 pub decode_part16-requires : goal.decode_part16-requires
 decode_part16-requires c =
     let below : c.loop-j.j < blocks c.args.per c.args.n =
-        omega arith in
+    omega arith in
     let starts : c.args.per * c.loop-j.j ≤ c.args.n =
-        block_starts _ _ _ _ _ c.requires.run_in_file _ below in
+    block_starts _ _ _ _ _ c.requires.run_in_file _ below in
     let inside : block_size * (c.args.from + c.loop-j.j) + block_size ≤ length c.args.file.now =
-        block_in _ _ _ _ _ c.requires.run_in_file _ below in
+    block_in _ _ _ _ _ c.requires.run_in_file _ below in
     let fits : (m : ℕ)
     → m ≡ entries_in c.args.per c.args.n c.loop-j.j
     → c.args.size * m ≤ entries_size =
-        λ m e. block_fits _ _ _ _ _ c.requires.run_in_file _ below m e in
-    (
-  c.requires.at_bound.0,
-  omega (
-    arith,
-    inside,
-    fits c.entries_in-m.result c.entries_in-m.ensures,
-  ),
-  omega (arith, starts, c.loop-j.invariant.1.long),
-)
+    λ m e. block_fits _ _ _ _ _ c.requires.run_in_file _ below m e in (
+      c.requires.at_bound.0,
+      omega (
+        arith,
+        inside,
+        fits c.entries_in-m.result c.entries_in-m.ensures,
+      ),
+      omega (arith, starts, c.loop-j.invariant.1.long),
+    )
 
 pub loop-j-preserved : goal.loop-j-preserved
 loop-j-preserved c =
     let below : c.loop-j.j < blocks c.args.per c.args.n =
-        omega arith in
-    (
-  omega (arith, below),
-  whole_more _ _ _ _ _ _ c.requires.run_in_file _ _ _ _ _
-      c.loop-j.invariant.1
-      below
-      c.entries_in-m.ensures c.decode_part16.ensures,
-)
+    omega arith in (
+      omega (arith, below),
+      whole_more _ _ _ _ _ _ c.requires.run_in_file _ _ _ _ _
+          c.loop-j.invariant.1
+          below
+          c.entries_in-m.ensures c.decode_part16.ensures,
+    )
 
 pub returns : goal.returns
 returns c = whole_end _ _ _ _ _ _ c.requires.run_in_file _ _ _

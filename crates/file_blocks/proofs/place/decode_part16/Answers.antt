@@ -13,28 +13,28 @@ pub overflow_mul-size : goal.overflow_mul-size
 overflow_mul-size c =
     let within : c.args.base + c.args.size * c.loop-e.e
     + c.args.size ≤ length c.args.file.now =
-        omega (arith, mul-le-mul_left c.args.size c.loop-e-test.true) in
+    omega (arith, mul-le-mul_left c.args.size c.loop-e-test.true) in
     omega (arith, within)
 
 pub overflow_add-base : goal.overflow_add-base
 overflow_add-base c =
     let within : c.args.base + c.args.size * c.loop-e.e
     + c.args.size ≤ length c.args.file.now =
-        omega (arith, mul-le-mul_left c.args.size c.loop-e-test.true) in
+    omega (arith, mul-le-mul_left c.args.size c.loop-e-test.true) in
     omega (arith, within)
 
 pub overflow_add-base-in-loop-e : goal.overflow_add-base-in-loop-e
 overflow_add-base-in-loop-e c =
     let within : c.args.base + c.args.size * c.loop-e.e
     + c.args.size ≤ length c.args.file.now =
-        omega (arith, mul-le-mul_left c.args.size c.loop-e-test.true) in
+    omega (arith, mul-le-mul_left c.args.size c.loop-e-test.true) in
     omega (arith, within)
 
 pub le16-requires : goal.le16-requires
 le16-requires c =
     let within : c.args.base + c.args.size * c.loop-e.e
     + c.args.size ≤ length c.args.file.now =
-        omega (arith, mul-le-mul_left c.args.size c.loop-e-test.true) in
+    omega (arith, mul-le-mul_left c.args.size c.loop-e-test.true) in
     omega (arith, within)
 
 pub loop-e-preserved : goal.loop-e-preserved

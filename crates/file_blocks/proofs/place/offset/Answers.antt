@@ -11,7 +11,7 @@ pub overflow_mul-result-2 : goal.overflow_mul-result-2
 overflow_mul-result-2 c =
     let small : block_size * c.args.from + head_size + c.args.size * c.args.i
     + (block_size - c.args.size * c.args.per) * (c.args.i / c.args.per) < 2 ^ 64 =
-        omega (
+    omega (
       arith,
       offset_apart c.args.from c.args.per c.args.size c.requires.0 c.requires.1 c.args.i _ refl,
       offset_in c.args.from c.args.per c.args.size c.requires.0 c.requires.1 c.args.i,
@@ -22,7 +22,7 @@ pub overflow_add-result-2 : goal.overflow_add-result-2
 overflow_add-result-2 c =
     let small : block_size * c.args.from + head_size + c.args.size * c.args.i
     + (block_size - c.args.size * c.args.per) * (c.args.i / c.args.per) < 2 ^ 64 =
-        omega (
+    omega (
       arith,
       offset_apart c.args.from c.args.per c.args.size c.requires.0 c.requires.1 c.args.i _ refl,
       offset_in c.args.from c.args.per c.args.size c.requires.0 c.requires.1 c.args.i,
@@ -33,7 +33,7 @@ pub overflow_mul-result-3 : goal.overflow_mul-result-3
 overflow_mul-result-3 c =
     let small : block_size * c.args.from + head_size + c.args.size * c.args.i
     + (block_size - c.args.size * c.args.per) * (c.args.i / c.args.per) < 2 ^ 64 =
-        omega (
+    omega (
       arith,
       offset_apart c.args.from c.args.per c.args.size c.requires.0 c.requires.1 c.args.i _ refl,
       offset_in c.args.from c.args.per c.args.size c.requires.0 c.requires.1 c.args.i,
@@ -44,7 +44,7 @@ pub overflow_add-result-3 : goal.overflow_add-result-3
 overflow_add-result-3 c =
     let small : block_size * c.args.from + head_size + c.args.size * c.args.i
     + (block_size - c.args.size * c.args.per) * (c.args.i / c.args.per) < 2 ^ 64 =
-        omega (
+    omega (
       arith,
       offset_apart c.args.from c.args.per c.args.size c.requires.0 c.requires.1 c.args.i _ refl,
       offset_in c.args.from c.args.per c.args.size c.requires.0 c.requires.1 c.args.i,

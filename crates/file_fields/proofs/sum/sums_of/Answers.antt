@@ -31,19 +31,18 @@ pub overflow_cast-a3 : goal.overflow_cast-a3
 overflow_cast-a3 c = Fits-under _ _ _ c.le16-in-loop-i-3.type_inv tt
 
 pub loop-i-preserved : goal.loop-i-preserved
-loop-i-preserved c =
-    (
-      search rules,
-      search columns_more,
-      column_more _ _ _ c.loop-i.invariant.2 c.le16.type_inv,
-      column_more _ _ _ c.loop-i.invariant.3 c.le16-in-loop-i.type_inv,
-      column_more _ _ _ c.loop-i.invariant.4 c.le16-in-loop-i-2.type_inv,
-      column_more _ _ _ c.loop-i.invariant.5 c.le16-in-loop-i-3.type_inv,
-      column_again _ _ _ _ c.loop-i.invariant.6 c.loop-i.invariant.2 c.le16.type_inv c.loop-i-test.true,
-      column_again _ _ _ _ c.loop-i.invariant.7 c.loop-i.invariant.3 c.le16-in-loop-i.type_inv c.loop-i-test.true,
-      column_again _ _ _ _ c.loop-i.invariant.8 c.loop-i.invariant.4 c.le16-in-loop-i-2.type_inv c.loop-i-test.true,
-      column_again _ _ _ _ c.loop-i.invariant.9 c.loop-i.invariant.5 c.le16-in-loop-i-3.type_inv c.loop-i-test.true,
-    )
+loop-i-preserved c = (
+  search rules,
+  search columns_more,
+  column_more _ _ _ c.loop-i.invariant.2 c.le16.type_inv,
+  column_more _ _ _ c.loop-i.invariant.3 c.le16-in-loop-i.type_inv,
+  column_more _ _ _ c.loop-i.invariant.4 c.le16-in-loop-i-2.type_inv,
+  column_more _ _ _ c.loop-i.invariant.5 c.le16-in-loop-i-3.type_inv,
+  column_again _ _ _ _ c.loop-i.invariant.6 c.loop-i.invariant.2 c.le16.type_inv c.loop-i-test.true,
+  column_again _ _ _ _ c.loop-i.invariant.7 c.loop-i.invariant.3 c.le16-in-loop-i.type_inv c.loop-i-test.true,
+  column_again _ _ _ _ c.loop-i.invariant.8 c.loop-i.invariant.4 c.le16-in-loop-i-2.type_inv c.loop-i-test.true,
+  column_again _ _ _ _ c.loop-i.invariant.9 c.loop-i.invariant.5 c.le16-in-loop-i-3.type_inv c.loop-i-test.true,
+)
 
 pub overflow_cast-x : goal.overflow_cast-x
 overflow_cast-x c = Fits-under _ _ _ c.le16-x.type_inv tt

@@ -14,9 +14,9 @@ write_tables-requires-clause-laid c = search open_laid
 
 pub write_tables-requires-clause-room : goal.write_tables-requires-clause-room
 write_tables-requires-clause-room c = open_room _ _ _ _
-      c.is_short.ensures
-      c.if-is_short.false
-      c.layout.ensures
+    c.is_short.ensures
+    c.if-is_short.false
+    c.layout.ensures
 
 pub returns-in-Refused : goal.returns-in-Refused
 returns-in-Refused c = search open_refused

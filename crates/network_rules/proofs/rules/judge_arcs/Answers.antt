@@ -25,11 +25,11 @@ returns-then-found-l c =
 
 pub judge_points-requires-clause-counted : goal.judge_points-requires-clause-counted
 judge_points-requires-clause-counted c = counted (laid_sizes c.requires) _ _
-      c.scan_arcs-found.ensures.0
-      c.if-a-l.false
-      (c.scan_arcs-found.ensures.1
-      c.if-a-l.false)
-      c.if-found-l.false
+    c.scan_arcs-found.ensures.0
+    c.if-a-l.false
+    (c.scan_arcs-found.ensures.1
+    c.if-a-l.false)
+    c.if-found-l.false
 
 pub returns : goal.returns
 returns c =

@@ -32,13 +32,12 @@ returns-then-found-j c =
     (arcs_found _ _ _ _ c.scan_block-found.ensures c.if-found-j.true (search rules), λ h. absurd (search rules))
 
 pub loop-j-preserved : goal.loop-j-preserved
-loop-j-preserved c =
-    (
-      search rules,
-      search rules,
-      search rules,
-      arcs_at (c.scan_block-found.ensures.passed c.if-found-j.false) _ (search rules),
-    )
+loop-j-preserved c = (
+  search rules,
+  search rules,
+  search rules,
+  arcs_at (c.scan_block-found.ensures.passed c.if-found-j.false) _ (search rules),
+)
 
 pub returns : goal.returns
 returns c =

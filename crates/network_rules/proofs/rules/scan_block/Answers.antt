@@ -17,7 +17,7 @@ returns-then-bad_ends c =
     let judged : c.bad_ends.result
     ≡ bad_arc (decode c.args.file.now)
     (arc_per * c.args.j + c.loop-e.e) =
-        arc_judged c.requires.laid _ c.entry_in-arc.ensures.tail c.entry_in-arc.ensures.head c.entry_in-arc.ensures.count
+    arc_judged c.requires.laid _ c.entry_in-arc.ensures.tail c.entry_in-arc.ensures.head c.entry_in-arc.ensures.count
     c.bad_ends.ensures in
     arcs_stop c.loop-e.invariant.1 _ (search rules)
     (sym judged ∙ c.if-bad_ends.true)
@@ -31,9 +31,8 @@ loop-e-preserved c =
     let judged : c.bad_ends.result
     ≡ bad_arc (decode c.args.file.now)
     (arc_per * c.args.j + c.loop-e.e) =
-        arc_judged c.requires.laid _ c.entry_in-arc.ensures.tail c.entry_in-arc.ensures.head c.entry_in-arc.ensures.count
-    c.bad_ends.ensures in
-    (
+    arc_judged c.requires.laid _ c.entry_in-arc.ensures.tail c.entry_in-arc.ensures.head c.entry_in-arc.ensures.count
+    c.bad_ends.ensures in (
       search rules,
       arcs_more c.loop-e.invariant.1 _ _ (sym judged ∙ c.if-bad_ends.false)
           c.entry_in-arc.ensures.count c.entry_in-arc.ensures.small (search rules),

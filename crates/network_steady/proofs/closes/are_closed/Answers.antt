@@ -12,13 +12,12 @@ pub blocks-j-end-requires : goal.blocks-j-end-requires
 blocks-j-end-requires c = omega (arith, (laid_small c.requires.laid).arcs_most)
 
 pub loop-j-init : goal.loop-j-init
-loop-j-init c =
-    (
-      search rules,
-      search rules,
-      omega (arith, (laid_small c.requires.laid).arcs_most),
-      closing_at _ _ _ _ _ (closing_none _ _ c.requires.counted (laid_sizes c.requires.laid) (laid_small c.requires.laid)) (search rules),
-    )
+loop-j-init c = (
+  search rules,
+  search rules,
+  omega (arith, (laid_small c.requires.laid).arcs_most),
+  closing_at _ _ _ _ _ (closing_none _ _ c.requires.counted (laid_sizes c.requires.laid) (laid_small c.requires.laid)) (search rules),
+)
 
 pub close_block-found-requires-clause-laid : goal.close_block-found-requires-clause-laid
 close_block-found-requires-clause-laid c = c.requires.laid

@@ -18,7 +18,7 @@ pub is_closed-closed-requires-clause-count_bound : goal.is_closed-closed-require
 is_closed-closed-requires-clause-count_bound c =
     let here : arc_per * c.args.j + c.loop-e.e
     < c.args.l.arcs =
-        omega arith in
+    omega arith in
     (closing_room _ _ _ _ _ c.loop-e.invariant.1 here c.entry_in-arc.ensures.count, closing_some _ _ _ _ _ c.loop-e.invariant.1 here c.entry_in-arc.ensures.count)
 
 pub returns-then-not-closed : goal.returns-then-not-closed
@@ -28,7 +28,7 @@ pub overflow_add-sum : goal.overflow_add-sum
 overflow_add-sum c =
     let here : arc_per * c.args.j + c.loop-e.e
     < c.args.l.arcs =
-        omega arith in
+    omega arith in
     omega (
       arith,
       closing_few _ _ _ _ _ c.loop-e.invariant.1 here c.entry_in-arc.ensures.count,
@@ -38,8 +38,7 @@ pub loop-e-preserved : goal.loop-e-preserved
 loop-e-preserved c =
     let here : arc_per * c.args.j + c.loop-e.e
     < c.args.l.arcs =
-        omega arith in
-    (
+    omega arith in (
       search rules,
       closing_more _ _ _ _ _ c.loop-e.invariant.1 here c.entry_in-arc.ensures.count _ _
           c.is_closed-closed.ensures (ap not c.if-not-closed.false) (search rules),

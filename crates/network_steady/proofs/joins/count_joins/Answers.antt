@@ -21,7 +21,7 @@ pub overflow_sub-m : goal.overflow_sub-m
 overflow_sub-m c =
     let here : BlockAt c.args.file.now c.args.l c.loop-j.j
     c.entries_in-m.result =
-        block_at c.requires _ _ _ _ c.loop-j.invariant c.loop-j-test.true _
+    block_at c.requires _ _ _ _ c.loop-j.invariant c.loop-j-test.true _
     c.entries_in-m.ensures in
     omega (arith, here)
 
@@ -29,7 +29,7 @@ pub overflow_add-base : goal.overflow_add-base
 overflow_add-base c =
     let here : BlockAt c.args.file.now c.args.l c.loop-j.j
     c.entries_in-m.result =
-        block_at c.requires _ _ _ _ c.loop-j.invariant c.loop-j-test.true _
+    block_at c.requires _ _ _ _ c.loop-j.invariant c.loop-j-test.true _
     c.entries_in-m.ensures in
     omega (arith, here)
 
@@ -37,7 +37,7 @@ pub overflow_mul-base : goal.overflow_mul-base
 overflow_mul-base c =
     let here : BlockAt c.args.file.now c.args.l c.loop-j.j
     c.entries_in-m.result =
-        block_at c.requires _ _ _ _ c.loop-j.invariant c.loop-j-test.true _
+    block_at c.requires _ _ _ _ c.loop-j.invariant c.loop-j-test.true _
     c.entries_in-m.ensures in
     omega (arith, here)
 
@@ -45,7 +45,7 @@ pub overflow_add-base-in-loop-j : goal.overflow_add-base-in-loop-j
 overflow_add-base-in-loop-j c =
     let here : BlockAt c.args.file.now c.args.l c.loop-j.j
     c.entries_in-m.result =
-        block_at c.requires _ _ _ _ c.loop-j.invariant c.loop-j-test.true _
+    block_at c.requires _ _ _ _ c.loop-j.invariant c.loop-j-test.true _
     c.entries_in-m.ensures in
     omega (arith, here)
 
@@ -53,7 +53,7 @@ pub point_at-next-requires : goal.point_at-next-requires
 point_at-next-requires c =
     let here : BlockAt c.args.file.now c.args.l c.loop-j.j
     c.entries_in-m.result =
-        block_at c.requires _ _ _ _ c.loop-j.invariant c.loop-j-test.true _
+    block_at c.requires _ _ _ _ c.loop-j.invariant c.loop-j-test.true _
     c.entries_in-m.ensures in
     omega (arith, here)
 
@@ -62,33 +62,33 @@ joins-count-requires c = omega (arith, laid_small c.requires)
 
 pub overflow_add-count : goal.overflow_add-count
 overflow_add-count c = omega (
-      arith,
-      counting_few c.requires _ _ _ _ c.loop-j.invariant c.loop-j-test.true _
-          c.entries_in-m.ensures _ _ _ c.joins-count.ensures refl,
-    )
+  arith,
+  counting_few c.requires _ _ _ _ c.loop-j.invariant c.loop-j-test.true _
+      c.entries_in-m.ensures _ _ _ c.joins-count.ensures refl,
+)
 
 pub joins_beside-count-requires : goal.joins_beside-count-requires
 joins_beside-count-requires c =
     let here : BlockAt c.args.file.now c.args.l c.loop-j.j
     c.entries_in-m.result =
-        block_at c.requires _ _ _ _ c.loop-j.invariant c.loop-j-test.true _
+    block_at c.requires _ _ _ _ c.loop-j.invariant c.loop-j-test.true _
     c.entries_in-m.ensures in
     let b = here in
     (omega arith, omega arith, omega (arith, laid_small c.requires))
 
 pub overflow_add-count-in-loop-j : goal.overflow_add-count-in-loop-j
 overflow_add-count-in-loop-j c = omega (
-      arith,
-      counting_few c.requires _ _ _ _ c.loop-j.invariant c.loop-j-test.true _
-          c.entries_in-m.ensures _ _ _ c.joins-count.ensures
-          c.joins_beside-count.ensures,
-    )
+  arith,
+  counting_few c.requires _ _ _ _ c.loop-j.invariant c.loop-j-test.true _
+      c.entries_in-m.ensures _ _ _ c.joins-count.ensures
+      c.joins_beside-count.ensures,
+)
 
 pub overflow_add-base-in-loop-j-2 : goal.overflow_add-base-in-loop-j-2
 overflow_add-base-in-loop-j-2 c =
     let here : BlockAt c.args.file.now c.args.l c.loop-j.j
     c.entries_in-m.result =
-        block_at c.requires _ _ _ _ c.loop-j.invariant c.loop-j-test.true _
+    block_at c.requires _ _ _ _ c.loop-j.invariant c.loop-j-test.true _
     c.entries_in-m.ensures in
     omega (arith, here)
 
@@ -96,7 +96,7 @@ pub point_at-last-requires : goal.point_at-last-requires
 point_at-last-requires c =
     let here : BlockAt c.args.file.now c.args.l c.loop-j.j
     c.entries_in-m.result =
-        block_at c.requires _ _ _ _ c.loop-j.invariant c.loop-j-test.true _
+    block_at c.requires _ _ _ _ c.loop-j.invariant c.loop-j-test.true _
     c.entries_in-m.ensures in
     omega (arith, here)
 

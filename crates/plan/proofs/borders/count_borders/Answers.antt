@@ -23,21 +23,20 @@ pub overflow_add-count : goal.overflow_add-count
 overflow_add-count c = omega (arith, c.loop-v.invariant.4.few)
 
 pub loop-v-preserved : goal.loop-v-preserved
-loop-v-preserved c =
-    (
-      search rules,
-      c.loop-v.invariant.1,
-      c.loop-v.invariant.2,
-      c.loop-v.invariant.3,
-      elim c.if-marks-v-ne0.branch [
-        | then-marks-v-ne0 w ↦
-            rw w.count-is (count_yes _ _ _ c.loop-v.invariant.4
-                (border_yes _ _ c.loop-v.invariant.3 _ (omega arith) w.if-marks-v-ne0.true))
-        | else-marks-v-ne0 w ↦
-            rw w.count-is (count_no _ _ _ c.loop-v.invariant.4
-                (border_no _ _ c.loop-v.invariant.3 _ (omega arith) w.if-marks-v-ne0.false))
-      ],
-    )
+loop-v-preserved c = (
+  search rules,
+  c.loop-v.invariant.1,
+  c.loop-v.invariant.2,
+  c.loop-v.invariant.3,
+  elim c.if-marks-v-ne0.branch [
+    | then-marks-v-ne0 w ↦
+        rw w.count-is (count_yes _ _ _ c.loop-v.invariant.4
+        (border_yes _ _ c.loop-v.invariant.3 _ (omega arith) w.if-marks-v-ne0.true))
+    | else-marks-v-ne0 w ↦
+        rw w.count-is (count_no _ _ _ c.loop-v.invariant.4
+        (border_no _ _ c.loop-v.invariant.3 _ (omega arith) w.if-marks-v-ne0.false))
+  ],
+)
 
 pub returns : goal.returns
 returns c = count_end _ _ _ _ c.loop-v.invariant.4 c.loop-v.invariant.0 c.loop-v-test.false c.loop-v.invariant.1

@@ -22,24 +22,23 @@ loop-v-init c = (
 )
 
 pub loop-v-preserved : goal.loop-v-preserved
-loop-v-preserved c =
-    (
-      search rules,
-      c.loop-v.invariant.1,
-      c.loop-v.invariant.2,
-      c.loop-v.invariant.3,
-      c.loop-v.invariant.4,
-      elim c.if-marks-v-ne0.branch [
-        | then-marks-v-ne0 w ↦
-            rw (w.out-is, w.count-is)
-            (choose_yes _ _ _ _ _ c.loop-v.invariant.5 (omega (arith, c.loop-v.invariant.5.few))
-                (border_yes _ _ c.loop-v.invariant.3 _ (omega arith) w.if-marks-v-ne0.true))
-        | else-marks-v-ne0 w ↦
-            rw (w.out-is, w.count-is)
-            (choose_no _ _ _ _ _ c.loop-v.invariant.5
-                (border_no _ _ c.loop-v.invariant.3 _ (omega arith) w.if-marks-v-ne0.false))
-      ],
-    )
+loop-v-preserved c = (
+  search rules,
+  c.loop-v.invariant.1,
+  c.loop-v.invariant.2,
+  c.loop-v.invariant.3,
+  c.loop-v.invariant.4,
+  elim c.if-marks-v-ne0.branch [
+    | then-marks-v-ne0 w ↦
+        rw (w.out-is, w.count-is)
+        (choose_yes _ _ _ _ _ c.loop-v.invariant.5 (omega (arith, c.loop-v.invariant.5.few))
+        (border_yes _ _ c.loop-v.invariant.3 _ (omega arith) w.if-marks-v-ne0.true))
+    | else-marks-v-ne0 w ↦
+        rw (w.out-is, w.count-is)
+        (choose_no _ _ _ _ _ c.loop-v.invariant.5
+        (border_no _ _ c.loop-v.invariant.3 _ (omega arith) w.if-marks-v-ne0.false))
+  ],
+)
 
 pub returns : goal.returns
 returns c = borders_listed _ _ _ _ (choose_end _ _ _ _ _ _ c.loop-v.invariant.5 (omega arith) (omega arith))

@@ -15,15 +15,15 @@ cell-requires-2-clause-v_lt_nodes c = search markings
 -- the head has a mark
 pub bounds-marks-head : goal.bounds-marks-head
 bounds-marks-head c = omega (
-      arith,
-      head_below c.requires.laid c.requires.sound_network c.requires.a_lt_arcs c.head-head.ensures.0,
-      laid_small c.requires.laid,
-    )
+  arith,
+  head_below c.requires.laid c.requires.sound_network c.requires.a_lt_arcs c.head-head.ensures.0,
+  laid_small c.requires.laid,
+)
 
 pub returns-then-cell : goal.returns-then-cell
 returns-then-cell c =
     let below : c.head-head.result < most_nodes =
-        omega (
+    omega (
       arith,
       head_below c.requires.laid c.requires.sound_network c.requires.a_lt_arcs c.head-head.ensures.0,
       laid_small c.requires.laid,

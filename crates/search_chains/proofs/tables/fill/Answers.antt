@@ -6,12 +6,11 @@ use borrow.Author.Rules.{rules}
 use Rattle.search_chains.proofs.tables.fill.Goals as goal
 
 pub loop-k-init : goal.loop-k-init
-loop-k-init c =
-    (
-      search rules,
-      search rules,
-      filling_at (filling_none c.requires.town c.requires.unchained.0 c.requires.unchained.1 c.requires.unchained.2) _ (omega arith),
-    )
+loop-k-init c = (
+  search rules,
+  search rules,
+  filling_at (filling_none c.requires.town c.requires.unchained.0 c.requires.unchained.1 c.requires.unchained.2) _ (omega arith),
+)
 
 pub fill_block-sum-requires-clause-town : goal.fill_block-sum-requires-clause-town
 fill_block-sum-requires-clause-town c = c.requires.town

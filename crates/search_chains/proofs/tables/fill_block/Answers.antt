@@ -17,9 +17,8 @@ offset_bounds-first-v c =
     let below : arc_per * c.args.j
     + (c.args.m - 1 - c.loop-k.k)
     < c.args.l.arcs =
-        omega arith in
-    let ends : (c.entry_in-arc.result.tail < most_nodes) × (c.entry_in-arc.result.head < most_nodes) =
-        (
+    omega arith in
+    let ends : (c.entry_in-arc.result.tail < most_nodes) × (c.entry_in-arc.result.head < most_nodes) = (
       omega (arith, tail_node c.requires.town _ _ below c.entry_in-arc.ensures.tail, c.requires.town.small.nodes_most),
       omega (arith, head_node c.requires.town _ _ below c.entry_in-arc.ensures.head, c.requires.town.small.nodes_most),
     ) in
@@ -30,9 +29,8 @@ bounds-first-v c =
     let below : arc_per * c.args.j
     + (c.args.m - 1 - c.loop-k.k)
     < c.args.l.arcs =
-        omega arith in
-    let ends : (c.entry_in-arc.result.tail < most_nodes) × (c.entry_in-arc.result.head < most_nodes) =
-        (
+    omega arith in
+    let ends : (c.entry_in-arc.result.tail < most_nodes) × (c.entry_in-arc.result.head < most_nodes) = (
       omega (arith, tail_node c.requires.town _ _ below c.entry_in-arc.ensures.tail, c.requires.town.small.nodes_most),
       omega (arith, head_node c.requires.town _ _ below c.entry_in-arc.ensures.head, c.requires.town.small.nodes_most),
     ) in
@@ -43,9 +41,8 @@ offset_bounds-first-v-in-loop-k c =
     let below : arc_per * c.args.j
     + (c.args.m - 1 - c.loop-k.k)
     < c.args.l.arcs =
-        omega arith in
-    let ends : (c.entry_in-arc.result.tail < most_nodes) × (c.entry_in-arc.result.head < most_nodes) =
-        (
+    omega arith in
+    let ends : (c.entry_in-arc.result.tail < most_nodes) × (c.entry_in-arc.result.head < most_nodes) = (
       omega (arith, tail_node c.requires.town _ _ below c.entry_in-arc.ensures.tail, c.requires.town.small.nodes_most),
       omega (arith, head_node c.requires.town _ _ below c.entry_in-arc.ensures.head, c.requires.town.small.nodes_most),
     ) in
@@ -56,9 +53,8 @@ bounds-first-v-in-loop-k c =
     let below : arc_per * c.args.j
     + (c.args.m - 1 - c.loop-k.k)
     < c.args.l.arcs =
-        omega arith in
-    let ends : (c.entry_in-arc.result.tail < most_nodes) × (c.entry_in-arc.result.head < most_nodes) =
-        (
+    omega arith in
+    let ends : (c.entry_in-arc.result.tail < most_nodes) × (c.entry_in-arc.result.head < most_nodes) = (
       omega (arith, tail_node c.requires.town _ _ below c.entry_in-arc.ensures.tail, c.requires.town.small.nodes_most),
       omega (arith, head_node c.requires.town _ _ below c.entry_in-arc.ensures.head, c.requires.town.small.nodes_most),
     ) in
@@ -69,9 +65,8 @@ overflow_cast-heads c =
     let below : arc_per * c.args.j
     + (c.args.m - 1 - c.loop-k.k)
     < c.args.l.arcs =
-        omega arith in
-    let ends : (c.entry_in-arc.result.tail < most_nodes) × (c.entry_in-arc.result.head < most_nodes) =
-        (
+    omega arith in
+    let ends : (c.entry_in-arc.result.tail < most_nodes) × (c.entry_in-arc.result.head < most_nodes) = (
       omega (arith, tail_node c.requires.town _ _ below c.entry_in-arc.ensures.tail, c.requires.town.small.nodes_most),
       omega (arith, head_node c.requires.town _ _ below c.entry_in-arc.ensures.head, c.requires.town.small.nodes_most),
     ) in
@@ -82,7 +77,7 @@ overflow_sub-sum c =
     let below : arc_per * c.args.j
     + (c.args.m - 1 - c.loop-k.k)
     < c.args.l.arcs =
-        omega arith in
+    omega arith in
     count_held c.requires.town _ _ _
     (filling_at c.loop-k.invariant.1 _ (omega arith)) below c.entry_in-arc.ensures
 
@@ -91,8 +86,7 @@ loop-k-preserved c =
     let below : arc_per * c.args.j
     + (c.args.m - 1 - c.loop-k.k)
     < c.args.l.arcs =
-        omega arith in
-    (
+    omega arith in (
       search rules,
       filling_at
           (filling_more c.requires.town _ _ _

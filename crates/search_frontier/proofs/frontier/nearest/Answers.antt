@@ -14,18 +14,17 @@ pub is_before-requires : goal.is_before-requires
 is_before-requires c = (c.requires.2.below _ c.loop-i-test.true, least_small c.requires.2 c.loop-i.invariant.1 c.loop-i.invariant.0)
 
 pub loop-i-preserved : goal.loop-i-preserved
-loop-i-preserved c =
-    (
-      rw add-one c.loop-i-test.true,
-      elim c.if-is_before.branch [
-        | then-is_before w ↦
-            rw w.least-is (least_less _ _ _ _ c.loop-i.invariant.1 refl
-                (ltb-true _ _ (sym c.is_before.ensures ∙ w.if-is_before.true)))
-        | else-is_before w ↦
-            rw w.least-is (least_more _ _ _ _ c.loop-i.invariant.1 refl
-                (ltb-false _ _ (sym c.is_before.ensures ∙ w.if-is_before.false)))
-      ],
-    )
+loop-i-preserved c = (
+  rw add-one c.loop-i-test.true,
+  elim c.if-is_before.branch [
+    | then-is_before w ↦
+        rw w.least-is (least_less _ _ _ _ c.loop-i.invariant.1 refl
+        (ltb-true _ _ (sym c.is_before.ensures ∙ w.if-is_before.true)))
+    | else-is_before w ↦
+        rw w.least-is (least_more _ _ _ _ c.loop-i.invariant.1 refl
+        (ltb-false _ _ (sym c.is_before.ensures ∙ w.if-is_before.false)))
+  ],
+)
 
 pub returns : goal.returns
 returns c = search (least_end, rules)

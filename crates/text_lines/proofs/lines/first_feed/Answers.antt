@@ -12,13 +12,12 @@ returns-then-text-i-eq10 c =
     ended_at _ _ _ c.loop-i.invariant.2 (search rules) (search rules) (search rules)
 
 pub loop-i-preserved : goal.loop-i-preserved
-loop-i-preserved c =
-    (
-      search rules,
-      search rules,
-      unended_more c.args.text.now c.args.at c.loop-i.i c.loop-i.invariant.2
-          (search rules),
-    )
+loop-i-preserved c = (
+  search rules,
+  search rules,
+  unended_more c.args.text.now c.args.at c.loop-i.i c.loop-i.invariant.2
+      (search rules),
+)
 
 pub returns : goal.returns
 returns c = ended_last _ _ _ c.loop-i.invariant.2 (search rules) (search rules) (search rules)

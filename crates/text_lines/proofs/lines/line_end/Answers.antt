@@ -13,13 +13,12 @@ returns-then-may_end c =
     c.loop-i.invariant.2 (search rules) c.first_feed.ensures
 
 pub loop-i-preserved : goal.loop-i-preserved
-loop-i-preserved c =
-    (
-      search rules,
-      search rules,
-      unended_join c.args.text.now c.args.at c.loop-i.i _
-          c.loop-i.invariant.2 (c.may_end.ensures (search rules)),
-    )
+loop-i-preserved c = (
+  search rules,
+  search rules,
+  unended_join c.args.text.now c.args.at c.loop-i.i _
+      c.loop-i.invariant.2 (c.may_end.ensures (search rules)),
+)
 
 pub returns : goal.returns
 returns c =

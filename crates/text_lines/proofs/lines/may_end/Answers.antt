@@ -8,11 +8,10 @@ pub loop-k-init : goal.loop-k-init
 loop-k-init c = (search rules, λ _ k l m. absurd (omega arith))
 
 pub loop-k-preserved : goal.loop-k-preserved
-loop-k-preserved c =
-    (
-      search rules,
-      unfound_more c.args.text.now c.args.at _ c.loop-k.k c.loop-k.invariant.1,
-    )
+loop-k-preserved c = (
+  search rules,
+  unfound_more c.args.text.now c.args.at _ c.loop-k.k c.loop-k.invariant.1,
+)
 
 pub returns : goal.returns
 returns c =

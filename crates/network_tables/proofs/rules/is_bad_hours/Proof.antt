@@ -1,0 +1,14 @@
+-- `network_tables::rules::is_bad_hours` meets its contract.
+use Rattle.network_tables.specs.Cut.{reads}
+use borrow.Author.Rules.{rules}
+use Rattle.network_tables.proofs.rules.is_bad_hours.Statement.{statement}
+use Rattle.network_tables.proofs.rules.is_bad_hours.Tie as tie
+
+pub is_bad_hours_spec : {M : Type 1} → statement M
+is_bad_hours_spec =
+    tie.close
+    (tie.spec
+    (λ c κs. search rules)
+    (λ c κs. search rules)
+    (λ c κs. search rules)
+    (λ c. search reads))
