@@ -7,7 +7,7 @@ use Rattle.theory_loops.specs.{First.first, Total.total}
 use Rattle.file_refusals.specs.declared.Judged.{Judged}
 use Rattle.network.specs.declared.header.{Header.Header, Layout.Layout}
 use Rattle.network.specs.{Layout.layout_of, Layout.LaidBlocks, Layout.layout_blocks, Rules.judged}
-use Rattle.network.specs.{Network.Network, Network.nodes, Network.arcs, Network.start, FirstPoint.Counted}
+use Rattle.network.specs.{Network.Network, Network.nodes, Network.start, FirstPoint.Counted}
 use Rattle.network.specs.Tables.{Tables, tables, network_of}
 use Rattle.network.specs.Decode.{Sizes, Small, layout_small}
 use Rattle.network.specs.Rules.{bad_cell, bad_hours, bad_hours_of, bad_ends, bad_arc, first_point, judged_points}

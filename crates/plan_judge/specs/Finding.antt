@@ -2,10 +2,10 @@
 use mathlib.Core.{Path.◌≡◌, Path.◌∙◌, List.List}
 use Rattle.std.specs.Prelude.{ℕ, ◌+◌, ◌*◌, ◌≤◌, ◌<◌, length, get_or}
 use Rattle.std.proofs.Common.{arith}
-use Rattle.theory_loops.specs.{First.first, Fill.Filled, Total.total_none}
+use Rattle.theory_loops.specs.{Fill.Filled, Total.total_none}
 use Rattle.network.specs.declared.header.Layout.{Layout}
 use Rattle.network.specs.{Limits.most_nodes, Limits.most_period, Decode.decode, Town.partition_of}
-use Rattle.network.specs.Network.{arcs, cell, tail, start}
+use Rattle.network.specs.Network.{cell, tail, start}
 use Rattle.search_chains.specs.{Chain.Chained, Town.Town}
 use Rattle.plan_tests.specs.declared.tests.{Layouts.Layouts, Target.Target}
 use Rattle.plan.specs.{Border.border_count, Border.Listed, Plan.Plan, Plan.point_count, Plan.point_start}

@@ -30,14 +30,14 @@ fill_profile-n-requires-clause-started c = c.requires.started
 
 pub fill_profile-n-requires-clause-i_lt_borders : goal.fill_profile-n-requires-clause-i_lt_borders
 fill_profile-n-requires-clause-i_lt_borders c = (
-        c.requires.i_lt_borders.0,
-        c.requires.i_lt_borders.1,
-        (omega (
-          arith,
-          c.point_count.ensures.0,
-          c.if-point_count-eq0.false,
-        )),
-      )
+  c.requires.i_lt_borders.0,
+  c.requires.i_lt_borders.1,
+  (omega (
+    arith,
+    c.point_count.ensures.0,
+    c.if-point_count-eq0.false,
+  )),
+)
 
 pub fill_profile-n-requires-clause-space : goal.fill_profile-n-requires-clause-space
 fill_profile-n-requires-clause-space c = c.requires.space.0
@@ -50,10 +50,10 @@ mark_runs-requires-clause-grid c = c.fill_profile-n.ensures.0.grid
 
 pub mark_runs-requires-clause-n_in_bounds : goal.mark_runs-requires-clause-n_in_bounds
 mark_runs-requires-clause-n_in_bounds c = (
-        omega (arith, runs_few c.fill_profile-n.ensures.0.grid, c.fill_profile-n.auto.starts, c.requires.space.0.in_s),
-        omega (arith, runs_few c.fill_profile-n.ensures.0.grid, c.fill_profile-n.auto.values, c.requires.space.0.in_v),
-        c.requires.space.1,
-      )
+  omega (arith, runs_few c.fill_profile-n.ensures.0.grid, c.fill_profile-n.auto.starts, c.requires.space.0.in_s),
+  omega (arith, runs_few c.fill_profile-n.ensures.0.grid, c.fill_profile-n.auto.values, c.requires.space.0.in_v),
+  c.requires.space.1,
+)
 
 pub returns : goal.returns
 returns c = (

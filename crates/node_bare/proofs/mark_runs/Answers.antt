@@ -12,22 +12,22 @@ loop-k-init c = (search rules, refl, painted_none _ c.requires.grid.begun)
 
 pub fill-requires : goal.fill-requires
 fill-requires c = (
-      omega (
-        arith,
-        c.wide.ensures.0,
-        c.wide-in-loop-k.ensures.0,
-        c.requires.grid.rise c.loop-k.k c.loop-k-test.true,
-      ),
-      omega (arith, c.wide-in-loop-k.ensures.0, starts_within c.requires.grid (c.loop-k.k + 1) (omega arith), c.loop-k.invariant.1),
-    )
+  omega (
+    arith,
+    c.wide.ensures.0,
+    c.wide-in-loop-k.ensures.0,
+    c.requires.grid.rise c.loop-k.k c.loop-k-test.true,
+  ),
+  omega (arith, c.wide-in-loop-k.ensures.0, starts_within c.requires.grid (c.loop-k.k + 1) (omega arith), c.loop-k.invariant.1),
+)
 
 pub loop-k-preserved : goal.loop-k-preserved
 loop-k-preserved c = (
-      omega arith,
-      c.fill.ensures.long ∙ c.loop-k.invariant.1,
-      painted_more c.loop-k.invariant.2 c.wide.ensures.0
-          c.wide-in-loop-k.ensures.0 c.home_byte.ensures c.fill.ensures,
-    )
+  omega arith,
+  c.fill.ensures.long ∙ c.loop-k.invariant.1,
+  painted_more c.loop-k.invariant.2 c.wide.ensures.0
+      c.wide-in-loop-k.ensures.0 c.home_byte.ensures c.fill.ensures,
+)
 
 pub returns : goal.returns
 returns c = let e : c.loop-k.k ≡ c.args.n = omega arith in

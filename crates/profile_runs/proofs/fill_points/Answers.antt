@@ -17,26 +17,25 @@ use Rattle.profile_runs.proofs.fill_points.Goals as goal
 pub point_at-at-requires : goal.point_at-at-requires
 point_at-at-requires c =
     let first : c.args.from < c.args.l.points =
-        omega (arith, c.requires.day.0.some, c.requires.day.1) in
+    omega (arith, c.requires.day.0.some, c.requires.day.1) in
     point_near c.requires.plan_laid first
 
 pub field32-begin-requires : goal.field32-begin-requires
 field32-begin-requires c =
     let first : c.args.from < c.args.l.points =
-        omega (arith, c.requires.day.0.some, c.requires.day.1) in
+    omega (arith, c.requires.day.0.some, c.requires.day.1) in
     travel_there c.requires.plan_laid first c.point_at-at.ensures
 
 pub loop-k-init : goal.loop-k-init
 loop-k-init c =
     let first : c.args.from < c.args.l.points =
-        omega (arith, c.requires.day.0.some, c.requires.day.1) in
+    omega (arith, c.requires.day.0.some, c.requires.day.1) in
     let begun : c.field32-begin.result
     ≡ entry_at (decode_plan c.args.plan.now).travels
     c.args.from 0 =
-        entry_start _ c.args.from _
+    entry_start _ c.args.from _
     (travel_read c.requires.plan_laid first c.point_at-at.ensures c.field32-begin.ensures) in
-    let z = length-set c.args.starts.now 0 0 in
-    (
+    let z = length-set c.args.starts.now 0 0 in (
       search rules,
       refl,
       refl,
@@ -50,48 +49,48 @@ loop-k-init c =
 pub next-at-requires : goal.next-at-requires
 next-at-requires c =
     let here : c.args.from + c.loop-k.k < c.args.l.points =
-        omega arith in
+    omega arith in
     point_may c.requires.plan_laid _ c.loop-k.k here c.loop-k.invariant.6
 
 pub field16-b-requires : goal.field16-b-requires
 field16-b-requires c =
     let inside : c.args.from + (c.loop-k.k + 1) < c.args.l.points =
-        omega arith in
+    omega arith in
     let here : c.args.from + c.loop-k.k < c.args.l.points =
-        omega arith in
+    omega arith in
     let stands : c.next-at.result
     ≡ point_at c.args.l.pointblock
     (c.args.from + (c.loop-k.k + 1)) =
-        point_on c.requires.plan_laid _ c.loop-k.k here c.loop-k.invariant.6 c.next-at.ensures in
+    point_on c.requires.plan_laid _ c.loop-k.k here c.loop-k.invariant.6 c.next-at.ensures in
     tick_there c.requires.plan_laid inside stands
 
 pub field32-w-requires : goal.field32-w-requires
 field32-w-requires c =
     let inside : c.args.from + (c.loop-k.k + 1) < c.args.l.points =
-        omega arith in
+    omega arith in
     let here : c.args.from + c.loop-k.k < c.args.l.points =
-        omega arith in
+    omega arith in
     let stands : c.next-at.result
     ≡ point_at c.args.l.pointblock
     (c.args.from + (c.loop-k.k + 1)) =
-        point_on c.requires.plan_laid _ c.loop-k.k here c.loop-k.invariant.6 c.next-at.ensures in
+    point_on c.requires.plan_laid _ c.loop-k.k here c.loop-k.invariant.6 c.next-at.ensures in
     travel_there c.requires.plan_laid inside stands
 
 pub extend-n-requires-clause-room : goal.extend-n-requires-clause-room
 unfolding entry_at
 extend-n-requires-clause-room c =
     let inside : c.args.from + (c.loop-k.k + 1) < c.args.l.points =
-        omega arith in
+    omega arith in
     let here : c.args.from + c.loop-k.k < c.args.l.points =
-        omega arith in
+    omega arith in
     let stands : c.next-at.result
     ≡ point_at c.args.l.pointblock
     (c.args.from + (c.loop-k.k + 1)) =
-        point_on c.requires.plan_laid _ c.loop-k.k here c.loop-k.invariant.6 c.next-at.ensures in
+    point_on c.requires.plan_laid _ c.loop-k.k here c.loop-k.invariant.6 c.next-at.ensures in
     let tick-told : c.field16-b.result
     ≡ point_tick (decode_plan c.args.plan.now)
     (c.args.from + (c.loop-k.k + 1)) =
-        tick_read c.requires.plan_laid inside stands
+    tick_read c.requires.plan_laid inside stands
     c.field16-b.ensures.0 in
     let t = tick-told in
     let h : c.loop-k.k + 1 < c.args.count = omega arith in room_next c.requires.day.0 _ c.loop-k.invariant.4 _ c.loop-k.invariant.3 t h
@@ -100,17 +99,17 @@ pub extend-n-requires-clause-finds_bound : goal.extend-n-requires-clause-finds_b
 unfolding entry_at
 extend-n-requires-clause-finds_bound c =
     let inside : c.args.from + (c.loop-k.k + 1) < c.args.l.points =
-        omega arith in
+    omega arith in
     let here : c.args.from + c.loop-k.k < c.args.l.points =
-        omega arith in
+    omega arith in
     let stands : c.next-at.result
     ≡ point_at c.args.l.pointblock
     (c.args.from + (c.loop-k.k + 1)) =
-        point_on c.requires.plan_laid _ c.loop-k.k here c.loop-k.invariant.6 c.next-at.ensures in
+    point_on c.requires.plan_laid _ c.loop-k.k here c.loop-k.invariant.6 c.next-at.ensures in
     let tick-told : c.field16-b.result
     ≡ point_tick (decode_plan c.args.plan.now)
     (c.args.from + (c.loop-k.k + 1)) =
-        tick_read c.requires.plan_laid inside stands
+    tick_read c.requires.plan_laid inside stands
     c.field16-b.ensures.0 in
     let t = tick-told in
     let h : c.loop-k.k + 1 < c.args.count = omega arith in omega (arith, c.loop-k.invariant.5, c.requires.space.1)
@@ -122,22 +121,22 @@ pub loop-k-preserved : goal.loop-k-preserved
 unfolding entry_at
 loop-k-preserved c =
     let here : c.args.from + c.loop-k.k < c.args.l.points =
-        omega arith in
+    omega arith in
     let stands : c.next-at.result
     ≡ point_at c.args.l.pointblock
     (c.args.from + (c.loop-k.k + 1)) =
-        point_on c.requires.plan_laid _ c.loop-k.k here c.loop-k.invariant.6 c.next-at.ensures in
+    point_on c.requires.plan_laid _ c.loop-k.k here c.loop-k.invariant.6 c.next-at.ensures in
     let inside : c.args.from + (c.loop-k.k + 1) < c.args.l.points =
-        omega arith in
+    omega arith in
     let tick-told : c.field16-b.result
     ≡ point_tick (decode_plan c.args.plan.now)
     (c.args.from + (c.loop-k.k + 1)) =
-        tick_read c.requires.plan_laid inside stands
+    tick_read c.requires.plan_laid inside stands
     c.field16-b.ensures.0 in
     let travel-told : c.field32-w.result
     ≡ point_travel (decode_plan c.args.plan.now)
     (c.args.from + (c.loop-k.k + 1)) =
-        travel_read c.requires.plan_laid inside
+    travel_read c.requires.plan_laid inside
     stands c.field32-w.ensures in
     let h : c.loop-k.k + 1 < c.args.count = omega arith in (
       search rules,
@@ -156,11 +155,11 @@ finish-requires-clause-room c = let h : c.loop-k.k < c.args.count = omega (arith
 pub finish-requires-clause-leading : goal.finish-requires-clause-leading
 finish-requires-clause-leading c =
     let first : c.args.from < c.args.l.points =
-        omega (arith, c.requires.day.0.some, c.requires.day.1) in
+    omega (arith, c.requires.day.0.some, c.requires.day.1) in
     let begun : c.field32-begin.result
     ≡ entry_at (decode_plan c.args.plan.now).travels
     c.args.from 0 =
-        entry_start _ c.args.from _
+    entry_start _ c.args.from _
     (travel_read c.requires.plan_laid first c.point_at-at.ensures c.field32-begin.ensures) in
     let h : c.loop-k.k < c.args.count = omega (arith, c.requires.day.0.some, c.loop-k.invariant.0) in
     let o : c.args.count ≤ c.loop-k.k + 1 = omega (arith, c.loop-k-test.false) in filling_leads c.requires.day.0 _ c.loop-k.invariant.4 refl begun h o
@@ -176,15 +175,14 @@ shape_of-starts c = c.finish.ensures.0.long_s ∙ c.loop-k.invariant.1
 pub returns : goal.returns
 returns c =
     let first : c.args.from < c.args.l.points =
-        omega (arith, c.requires.day.0.some, c.requires.day.1) in
+    omega (arith, c.requires.day.0.some, c.requires.day.1) in
     let begun : c.field32-begin.result
     ≡ entry_at (decode_plan c.args.plan.now).travels
     c.args.from 0 =
-        entry_start _ c.args.from _
+    entry_start _ c.args.from _
     (travel_read c.requires.plan_laid first c.point_at-at.ensures c.field32-begin.ensures) in
     let h : c.loop-k.k < c.args.count = omega (arith, c.requires.day.0.some, c.loop-k.invariant.0) in
-    let o : c.args.count ≤ c.loop-k.k + 1 = omega (arith, c.loop-k-test.false) in
-    (
+    let o : c.args.count ≤ c.loop-k.k + 1 = omega (arith, c.loop-k-test.false) in (
       filling_last c.requires.day.0 _ c.loop-k.invariant.4 refl begun h o c.finish.ensures.0,
       omega (arith, c.loop-k.invariant.5, c.finish.ensures.1),
     )

@@ -14,19 +14,19 @@ use Rattle.profile_runs.proofs.least_point.Goals as goal
 pub point_at-at-requires : goal.point_at-at-requires
 point_at-at-requires c =
     let first : c.args.from < c.args.l.points =
-        omega arith in
+    omega arith in
     point_near c.requires.plan_laid first
 
 pub field32-least-requires : goal.field32-least-requires
 field32-least-requires c =
     let first : c.args.from < c.args.l.points =
-        omega arith in
+    omega arith in
     travel_there c.requires.plan_laid first c.point_at-at.ensures
 
 pub loop-k-init : goal.loop-k-init
 loop-k-init c =
     let first : c.args.from < c.args.l.points =
-        omega arith in
+    omega arith in
     let e = travel_read c.requires.plan_laid first c.point_at-at.ensures c.field32-least.ensures in (
       search rules,
       least_one _ _ (entry_start _ c.args.from _ e),
@@ -36,32 +36,32 @@ loop-k-init c =
 pub next-at-requires : goal.next-at-requires
 next-at-requires c =
     let here : c.args.from + c.loop-k.k < c.args.l.points =
-        omega arith in
+    omega arith in
     point_may c.requires.plan_laid _ c.loop-k.k here c.loop-k.invariant.2
 
 pub field32-requires : goal.field32-requires
 field32-requires c =
     let inside : c.args.from + (c.loop-k.k + 1) < c.args.l.points =
-        omega arith in
+    omega arith in
     let here : c.args.from + c.loop-k.k < c.args.l.points =
-        omega arith in
+    omega arith in
     let stands : c.next-at.result
     ≡ point_at c.args.l.pointblock
     (c.args.from + (c.loop-k.k + 1)) =
-        point_on c.requires.plan_laid _ c.loop-k.k here c.loop-k.invariant.2 c.next-at.ensures in
+    point_on c.requires.plan_laid _ c.loop-k.k here c.loop-k.invariant.2 c.next-at.ensures in
     travel_there c.requires.plan_laid inside stands
 
 pub loop-k-preserved : goal.loop-k-preserved
 unfolding entry_at
 loop-k-preserved c =
     let inside : c.args.from + (c.loop-k.k + 1) < c.args.l.points =
-        omega arith in
+    omega arith in
     let here : c.args.from + c.loop-k.k < c.args.l.points =
-        omega arith in
+    omega arith in
     let stands : c.next-at.result
     ≡ point_at c.args.l.pointblock
     (c.args.from + (c.loop-k.k + 1)) =
-        point_on c.requires.plan_laid _ c.loop-k.k here c.loop-k.invariant.2 c.next-at.ensures in
+    point_on c.requires.plan_laid _ c.loop-k.k here c.loop-k.invariant.2 c.next-at.ensures in
     let e = travel_read c.requires.plan_laid inside stands c.field32.ensures in (
       search rules,
       least_more _ _ _ _ _ c.loop-k.invariant.1 e c.lesser-least.ensures,

@@ -9,12 +9,11 @@ pub loop-v-init : goal.loop-v-init
 loop-v-init c = (search rules, search rules, search fills)
 
 pub loop-v-preserved : goal.loop-v-preserved
-loop-v-preserved c =
-    (
-      search rules,
-      search rules,
-      trim_more _ _ _ _ _ _ c.loop-v.invariant.2 c.requires (search rules) refl c.shown_label.ensures,
-    )
+loop-v-preserved c = (
+  search rules,
+  search rules,
+  trim_more _ _ _ _ _ _ c.loop-v.invariant.2 c.requires (search rules) refl c.shown_label.ensures,
+)
 
 pub returns : goal.returns
 returns c = search (fills, rules)

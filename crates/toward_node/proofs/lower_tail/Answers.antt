@@ -33,10 +33,10 @@ lower_row-fell-requires-clause-arc_lt_arcs c = let node = tail_node c.requires.p
 pub lower_row-fell-requires-clause-capped : goal.lower_row-fell-requires-clause-capped
 lower_row-fell-requires-clause-capped c = let node = tail_node c.requires.primed.0.town _ _ c.requires.arc_lt_arcs.0 c.tail-u.ensures.0 in
     let met = head_node c.requires.primed.0.town _ _ c.requires.arc_lt_arcs.0 refl in (
-          held_capped c.requires.primed.0.town.small c.requires.arc_lt_arcs.1 c.requires.arc_lt_arcs.2 met,
-          seen_known _ _ _ _ (λ t. eqb-false _ _ t)
-              (heights_known c.requires.primed.0.town.small c.requires.arc_lt_arcs.1 node (λ t. eqb-false _ _ t)),
-        )
+      held_capped c.requires.primed.0.town.small c.requires.arc_lt_arcs.1 c.requires.arc_lt_arcs.2 met,
+      seen_known _ _ _ _ (λ t. eqb-false _ _ t)
+          (heights_known c.requires.primed.0.town.small c.requires.arc_lt_arcs.1 node (λ t. eqb-false _ _ t)),
+    )
 
 pub returns-then-fell-eq0 : goal.returns-then-fell-eq0
 returns-then-fell-eq0 c =
@@ -49,12 +49,12 @@ nearness_after-requires-clause-small c = let w = c.requires.primed.1.arc _ c.req
 
 pub nearness_after-requires-clause-u_lt_nodes : goal.nearness_after-requires-clause-u_lt_nodes
 nearness_after-requires-clause-u_lt_nodes c = let w = c.requires.primed.1.arc _ c.requires.arc_lt_arcs.0 in (
-        tail_node c.requires.primed.0.town _ _ c.requires.arc_lt_arcs.0 c.tail-u.ensures.0,
-        c.lower_row-fell.ensures.filled.long ∙ seen_size _ c.requires.arc_lt_arcs.1,
-        least_near c.requires.primed.0 c.requires.arc_lt_arcs.0 c.requires.arc_lt_arcs.1 c.requires.arc_lt_arcs.2 c.tail-u.ensures.0 w,
-        near_first c.requires.primed.0 c.requires.arc_lt_arcs.0 c.requires.arc_lt_arcs.1 c.requires.arc_lt_arcs.2 c.tail-u.ensures.0 c.lower_row-fell.ensures w,
-        tail_numbers c.requires.primed.0 c.requires.arc_lt_arcs.0 c.requires.arc_lt_arcs.1 c.requires.arc_lt_arcs.2 c.tail-u.ensures.0 c.lower_row-fell.ensures,
-      )
+  tail_node c.requires.primed.0.town _ _ c.requires.arc_lt_arcs.0 c.tail-u.ensures.0,
+  c.lower_row-fell.ensures.filled.long ∙ seen_size _ c.requires.arc_lt_arcs.1,
+  least_near c.requires.primed.0 c.requires.arc_lt_arcs.0 c.requires.arc_lt_arcs.1 c.requires.arc_lt_arcs.2 c.tail-u.ensures.0 w,
+  near_first c.requires.primed.0 c.requires.arc_lt_arcs.0 c.requires.arc_lt_arcs.1 c.requires.arc_lt_arcs.2 c.tail-u.ensures.0 c.lower_row-fell.ensures w,
+  tail_numbers c.requires.primed.0 c.requires.arc_lt_arcs.0 c.requires.arc_lt_arcs.1 c.requires.arc_lt_arcs.2 c.tail-u.ensures.0 c.lower_row-fell.ensures,
+)
 
 pub bounds-near-u : goal.bounds-near-u
 bounds-near-u c =
@@ -69,10 +69,10 @@ highest-requires-clause-small c = c.requires.primed.0.town.small
 
 pub highest-requires-clause-u_lt_nodes : goal.highest-requires-clause-u_lt_nodes
 highest-requires-clause-u_lt_nodes c = (
-        tail_node c.requires.primed.0.town _ _ c.requires.arc_lt_arcs.0 c.tail-u.ensures.0,
-        c.lower_row-fell.ensures.filled.long ∙ seen_size _ c.requires.arc_lt_arcs.1,
-        tail_numbers c.requires.primed.0 c.requires.arc_lt_arcs.0 c.requires.arc_lt_arcs.1 c.requires.arc_lt_arcs.2 c.tail-u.ensures.0 c.lower_row-fell.ensures,
-      )
+  tail_node c.requires.primed.0.town _ _ c.requires.arc_lt_arcs.0 c.tail-u.ensures.0,
+  c.lower_row-fell.ensures.filled.long ∙ seen_size _ c.requires.arc_lt_arcs.1,
+  tail_numbers c.requires.primed.0 c.requires.arc_lt_arcs.0 c.requires.arc_lt_arcs.1 c.requires.arc_lt_arcs.2 c.tail-u.ensures.0 c.lower_row-fell.ensures,
+)
 
 pub bounds-room-u-2 : goal.bounds-room-u-2
 bounds-room-u-2 c =

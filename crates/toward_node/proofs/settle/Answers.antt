@@ -52,9 +52,8 @@ shape_of-work c =
     seen_size _ c.loop-a.invariant.heights ∙ sym (seen_size _ c.requires.v_lt_nodes.1)
 
 pub returns : goal.returns
-returns c =
-    (
-      walking_end c.requires.ready.0 _ c.requires.v_lt_nodes.0 c.requires.v_lt_nodes.1 c.requires.v_lt_nodes.2 c.requires.v_lt_nodes.3 c.loop-a.invariant
-          c.loop-a-test.false,
-      c.copy_row.ensures.long,
-    )
+returns c = (
+  walking_end c.requires.ready.0 _ c.requires.v_lt_nodes.0 c.requires.v_lt_nodes.1 c.requires.v_lt_nodes.2 c.requires.v_lt_nodes.3 c.loop-a.invariant
+      c.loop-a-test.false,
+  c.copy_row.ensures.long,
+)

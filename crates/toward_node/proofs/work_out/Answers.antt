@@ -13,13 +13,12 @@ pub bar_of-bar-requires : goal.bar_of-bar-requires
 bar_of-bar-requires c = c.requires.ready.0.primed.town.small.nodes_most
 
 pub loop-v-init : goal.loop-v-init
-loop-v-init c =
-    (
-      rw (c.requires.b_lt_nodes.3, c.requires.b_lt_nodes.4)
-          (waiting_start c.requires.ready.0 c.requires.b_lt_nodes.0 c.requires.b_lt_nodes.1 c.fill_row.ensures
-          (rw c.requires.b_lt_nodes.4 at c.bar_of-bar.ensures)),
-      refl,
-    )
+loop-v-init c = (
+  rw (c.requires.b_lt_nodes.3, c.requires.b_lt_nodes.4)
+      (waiting_start c.requires.ready.0 c.requires.b_lt_nodes.0 c.requires.b_lt_nodes.1 c.fill_row.ensures
+      (rw c.requires.b_lt_nodes.4 at c.bar_of-bar.ensures)),
+  refl,
+)
 
 pub settle-requires-clause-ready : goal.settle-requires-clause-ready
 settle-requires-clause-ready c = let long : c.args.l.period ≤ length c.loop-v.hs = omega (arith, c.loop-v.invariant.1, c.requires.b_lt_nodes.2) in
@@ -41,11 +40,10 @@ pub loop-v-smaller : goal.loop-v-smaller
 loop-v-smaller c = c.settle.ensures.0.lighter
 
 pub loop-v-preserved : goal.loop-v-preserved
-loop-v-preserved c =
-    (
-      waiting_next c.requires.ready.0 c.loop-v.invariant.0 c.settle.ensures.0 c.bar_of-bar-in-loop-v.ensures c.nearest-v.ensures,
-      c.settle.ensures.1 ∙ c.loop-v.invariant.1,
-    )
+loop-v-preserved c = (
+  waiting_next c.requires.ready.0 c.loop-v.invariant.0 c.settle.ensures.0 c.bar_of-bar-in-loop-v.ensures c.nearest-v.ensures,
+  c.settle.ensures.1 ∙ c.loop-v.invariant.1,
+)
 
 pub show_wanted-requires-clause-small : goal.show_wanted-requires-clause-small
 show_wanted-requires-clause-small c = c.requires.ready.0.primed.town.small
@@ -59,10 +57,9 @@ shape_of-work c =
     ∙ sym c.requires.b_lt_nodes.1
 
 pub returns : goal.returns
-returns c =
-    (
-      shown_worked c.show_wanted.ensures c.requires.ready.0.primed.town.sizes.nodes c.requires.ready.0.primed.town.sizes.period
-          (waiting_end c.requires.ready.0 c.loop-v.invariant.0 c.loop-v-test.false),
-      λ all. shown_bounds c.show_wanted.ensures all (waiting_bounds c.requires.ready.0 c.loop-v.invariant.0 c.loop-v-test.false all),
-      c.loop-v.invariant.1,
-    )
+returns c = (
+  shown_worked c.show_wanted.ensures c.requires.ready.0.primed.town.sizes.nodes c.requires.ready.0.primed.town.sizes.period
+      (waiting_end c.requires.ready.0 c.loop-v.invariant.0 c.loop-v-test.false),
+  λ all. shown_bounds c.show_wanted.ensures all (waiting_bounds c.requires.ready.0 c.loop-v.invariant.0 c.loop-v-test.false all),
+  c.loop-v.invariant.1,
+)

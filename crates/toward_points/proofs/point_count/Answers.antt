@@ -23,12 +23,11 @@ overflow_add-result c =
     )
 
 pub turn-requires : goal.turn-requires
-turn-requires c =
-    (
-      c.requires.entry _ (omega (arith, c.requires.some)),
-      c.requires.entry _ (omega (arith, c.requires.some)),
-      c.requires.entry 0 c.requires.some,
-    )
+turn-requires c = (
+  c.requires.entry _ (omega (arith, c.requires.some)),
+  c.requires.entry _ (omega (arith, c.requires.some)),
+  c.requires.entry 0 c.requires.some,
+)
 
 pub overflow_add-result-2 : goal.overflow_add-result-2
 overflow_add-result-2 c =

@@ -42,16 +42,15 @@ overflow_add-count c =
     )
 
 pub loop-j-preserved : goal.loop-j-preserved
-loop-j-preserved c =
-    (
-      search rules,
-      search falls,
-      fall_run c.requires.ready c.requires.w_lt_v
-          c.step_down-step.ensures c.loop-j.invariant.1
-          c.loop-j-test.true
-          c.wholes.ensures c.loop-j.invariant.2
-          c.lower_span-count.ensures,
-    )
+loop-j-preserved c = (
+  search rules,
+  search falls,
+  fall_run c.requires.ready c.requires.w_lt_v
+      c.step_down-step.ensures c.loop-j.invariant.1
+      c.loop-j-test.true
+      c.wholes.ensures c.loop-j.invariant.2
+      c.lower_span-count.ensures,
+)
 
 pub returns : goal.returns
 returns c = search falls

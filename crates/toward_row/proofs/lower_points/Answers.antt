@@ -15,20 +15,18 @@ use Rattle.toward_row.proofs.lower_points.Goals as goal
 
 pub loop-k-init : goal.loop-k-init
 unfolding entry_at
-loop-k-init c =
-    (
-      search rules,
-      tick_first c.requires.arc.day,
-      entry_start (decode c.args.file.now).travels c.args.from _ c.travel-begin.ensures.0,
-      search flat_none,
-      search cut_none,
-    )
+loop-k-init c = (
+  search rules,
+  tick_first c.requires.arc.day,
+  entry_start (decode c.args.file.now).travels c.args.from _ c.travel-begin.ensures.0,
+  search flat_none,
+  search cut_none,
+)
 
 pub loop-k-preserved-then-v-w : goal.loop-k-preserved-then-v-w
 unfolding entry_at
 loop-k-preserved-then-v-w c =
-    let h : c.loop-k.k + 1 < c.args.count = omega arith in
-    (
+    let h : c.loop-k.k + 1 < c.args.count = omega arith in (
       search rules,
       c.tick-b.ensures.0,
       c.if-v-w.true ∙ c.travel-w.ensures.0,
@@ -41,21 +39,21 @@ pub lower_span-fallen-requires-clause-a_le_b : goal.lower_span-fallen-requires-c
 unfolding entry_at
 lower_span-fallen-requires-clause-a_le_b c = let h : c.loop-k.k < c.args.count = omega arith in
     let m : c.args.l.period ≤ length c.loop-k.row = omega (arith, c.loop-k.invariant.4.filled.long) in (
-        c.loop-k.invariant.3.order,
-        omega (arith, tick_below c.requires.arc.day c.loop-k.k _ c.loop-k.invariant.1 h),
-        omega (arith, c.requires.arc.most c.loop-k.k h, c.loop-k.invariant.2),
-        c.requires.arc.short,
-        m,
-      )
+      c.loop-k.invariant.3.order,
+      omega (arith, tick_below c.requires.arc.day c.loop-k.k _ c.loop-k.invariant.1 h),
+      omega (arith, c.requires.arc.most c.loop-k.k h, c.loop-k.invariant.2),
+      c.requires.arc.short,
+      m,
+    )
 
 pub lower_span-fallen-requires-clause-capped : goal.lower_span-fallen-requires-clause-capped
 unfolding entry_at
 lower_span-fallen-requires-clause-capped c = let h : c.loop-k.k < c.args.count = omega arith in
     let m : c.args.l.period ≤ length c.loop-k.row = omega (arith, c.loop-k.invariant.4.filled.long) in (
-        c.requires.period_in_bounds.1,
-        known_on c.requires.period_in_bounds.2 c.loop-k.invariant.4.filled (omega arith)
-            (omega (arith, tick_below c.requires.arc.day c.loop-k.k _ c.loop-k.invariant.1 h)),
-      )
+      c.requires.period_in_bounds.1,
+      known_on c.requires.period_in_bounds.2 c.loop-k.invariant.4.filled (omega arith)
+          (omega (arith, tick_below c.requires.arc.day c.loop-k.k _ c.loop-k.invariant.1 h)),
+    )
 
 pub overflow_add-fallen : goal.overflow_add-fallen
 unfolding entry_at
@@ -126,21 +124,21 @@ pub lower_span-fallen-requires-2-clause-a_le_b : goal.lower_span-fallen-requires
 unfolding entry_at
 lower_span-fallen-requires-2-clause-a_le_b c = let h : c.loop-k.k < c.args.count = omega arith in
     let m : c.args.l.period ≤ length c.loop-k.row = omega (arith, c.loop-k.invariant.4.filled.long) in (
-        c.loop-k.invariant.3.order,
-        omega (arith, tick_below c.requires.arc.day c.loop-k.k _ c.loop-k.invariant.1 h),
-        omega (arith, c.requires.arc.most c.loop-k.k h, c.loop-k.invariant.2),
-        c.requires.arc.short,
-        m,
-      )
+      c.loop-k.invariant.3.order,
+      omega (arith, tick_below c.requires.arc.day c.loop-k.k _ c.loop-k.invariant.1 h),
+      omega (arith, c.requires.arc.most c.loop-k.k h, c.loop-k.invariant.2),
+      c.requires.arc.short,
+      m,
+    )
 
 pub lower_span-fallen-requires-2-clause-capped : goal.lower_span-fallen-requires-2-clause-capped
 unfolding entry_at
 lower_span-fallen-requires-2-clause-capped c = let h : c.loop-k.k < c.args.count = omega arith in
     let m : c.args.l.period ≤ length c.loop-k.row = omega (arith, c.loop-k.invariant.4.filled.long) in (
-        c.requires.period_in_bounds.1,
-        known_on c.requires.period_in_bounds.2 c.loop-k.invariant.4.filled (omega arith)
-            (omega (arith, tick_below c.requires.arc.day c.loop-k.k _ c.loop-k.invariant.1 h)),
-      )
+      c.requires.period_in_bounds.1,
+      known_on c.requires.period_in_bounds.2 c.loop-k.invariant.4.filled (omega arith)
+          (omega (arith, tick_below c.requires.arc.day c.loop-k.k _ c.loop-k.invariant.1 h)),
+    )
 
 pub overflow_add-fallen-2 : goal.overflow_add-fallen-2
 unfolding entry_at

@@ -73,26 +73,25 @@ pub loop-j-smaller : goal.loop-j-smaller
 loop-j-smaller c = shrinks _ _ c.loop-j-test.true
 
 pub loop-j-preserved : goal.loop-j-preserved
-loop-j-preserved c =
-    (
-      search rules,
-      rise_next c.requires.ready c.requires.v_lt_w c.loop-j.invariant.1
-          c.step_up-step.ensures c.loop-j-test.true
-          c.wholes.ensures,
-      rise_run c.requires.ready c.requires.v_lt_w c.loop-j.invariant.1
-          c.step_up-step.ensures c.loop-j-test.true
-          c.wholes.ensures c.loop-j.invariant.2
-          c.lower_span-count.ensures,
-    )
+loop-j-preserved c = (
+  search rules,
+  rise_next c.requires.ready c.requires.v_lt_w c.loop-j.invariant.1
+      c.step_up-step.ensures c.loop-j-test.true
+      c.wholes.ensures,
+  rise_run c.requires.ready c.requires.v_lt_w c.loop-j.invariant.1
+      c.step_up-step.ensures c.loop-j-test.true
+      c.wholes.ensures c.loop-j.invariant.2
+      c.lower_span-count.ensures,
+)
 
 pub lower_span-ended-requires-clause-a_le_b : goal.lower_span-ended-requires-clause-a_le_b
 lower_span-ended-requires-clause-a_le_b c = let known = known_on {e = c.args.b} c.requires.ready.known c.lower_span-begun.ensures.filled (omega arith) (omega arith) in (
-        rise_still c.requires.ready c.requires.v_lt_w c.loop-j.invariant.1 c.loop-j.invariant.0,
-        omega arith,
-        omega arith,
-        omega arith,
-        omega arith,
-      )
+  rise_still c.requires.ready c.requires.v_lt_w c.loop-j.invariant.1 c.loop-j.invariant.0,
+  omega arith,
+  omega arith,
+  omega arith,
+  omega arith,
+)
 
 pub lower_span-ended-requires-clause-capped : goal.lower_span-ended-requires-clause-capped
 lower_span-ended-requires-clause-capped c = let known = known_on {e = c.args.b} c.requires.ready.known c.lower_span-begun.ensures.filled (omega arith) (omega arith) in (c.requires.ready.capped, known_on known c.loop-j.invariant.2.filled (omega (arith, c.loop-j.invariant.1.at)) (omega arith))

@@ -33,10 +33,10 @@ lower_run-tomorrow-requires-clause-a_le_b c = search rules
 
 pub lower_run-tomorrow-requires-clause-capped : goal.lower_run-tomorrow-requires-clause-capped
 lower_run-tomorrow-requires-clause-capped c = (
-        capped_part c.requires.capped.0 (omega arith),
-        known_on c.requires.capped.1 c.lower_run-today.ensures.filled (omega arith)
-            (omega arith),
-      )
+  capped_part c.requires.capped.0 (omega arith),
+  known_on c.requires.capped.1 c.lower_run-today.ensures.filled (omega arith)
+      (omega arith),
+)
 
 pub returns : goal.returns
 returns c = search spans

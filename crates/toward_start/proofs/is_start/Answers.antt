@@ -14,14 +14,13 @@ pub row_place-p-requires-clause-u_lt_nodes : goal.row_place-p-requires-clause-u_
 row_place-p-requires-clause-u_lt_nodes c = head_node c.requires.primed.town _ _ c.requires.arc_lt_arcs.0 c.head-v.ensures.0
 
 pub returns-then-work-p : goal.returns-then-work-p
-returns-then-work-p c =
-    (
-      no_start c.requires.primed c.requires.worked c.requires.arc_lt_arcs.0
-          c.tail-u.ensures.0
-          c.head-v.ensures.0
-          _ _ c.row_place-p.ensures.0 refl c.if-work-p.true,
-      refl,
-    )
+returns-then-work-p c = (
+  no_start c.requires.primed c.requires.worked c.requires.arc_lt_arcs.0
+      c.tail-u.ensures.0
+      c.head-v.ensures.0
+      _ _ c.row_place-p.ensures.0 refl c.if-work-p.true,
+  refl,
+)
 
 pub raise_row-requires-clause-small : goal.raise_row-requires-clause-small
 raise_row-requires-clause-small c = c.requires.primed.town.small
@@ -31,7 +30,7 @@ raise_row-requires-clause-u_lt_nodes c = (tail_node c.requires.primed.town _ _ c
 
 pub raise_row-requires-clause-has_numbers : goal.raise_row-requires-clause-has_numbers
 raise_row-requires-clause-has_numbers c = tail_row c.requires.primed c.requires.worked c.requires.arc_lt_arcs.0 c.tail-u.ensures.0 c.head-v.ensures.0
-            _ _ c.row_place-p.ensures.0 refl c.if-work-p.false
+    _ _ c.row_place-p.ensures.0 refl c.if-work-p.false
 
 pub lower_arc-requires-clause-primed : goal.lower_arc-requires-clause-primed
 lower_arc-requires-clause-primed c = let fits : c.row_place-p.result + c.args.l.period ≤ length c.args.work.now =
@@ -40,13 +39,13 @@ lower_arc-requires-clause-primed c = let fits : c.row_place-p.result + c.args.l.
 pub lower_arc-requires-clause-arc_lt_arcs : goal.lower_arc-requires-clause-arc_lt_arcs
 lower_arc-requires-clause-arc_lt_arcs c = let fits : c.row_place-p.result + c.args.l.period ≤ length c.args.work.now =
     omega (arith, c.row_place-p.ensures.1, c.requires.arc_lt_arcs.2) in (
-        c.requires.arc_lt_arcs.0,
-        omega (arith, c.raise_row.ensures.long, c.requires.primed.town.small.period_most),
-        head_capped c.requires.primed c.requires.worked c.requires.arc_lt_arcs.0 c.tail-u.ensures.0
-            c.head-v.ensures.0 _ _ c.row_place-p.ensures.0 refl c.if-work-p.false refl fits,
-        raised_known c.requires.primed c.requires.worked c.requires.arc_lt_arcs.0 c.tail-u.ensures.0
-            c.head-v.ensures.0 _ _ c.row_place-p.ensures.0 refl c.if-work-p.false c.raise_row.ensures,
-      )
+      c.requires.arc_lt_arcs.0,
+      omega (arith, c.raise_row.ensures.long, c.requires.primed.town.small.period_most),
+      head_capped c.requires.primed c.requires.worked c.requires.arc_lt_arcs.0 c.tail-u.ensures.0
+          c.head-v.ensures.0 _ _ c.row_place-p.ensures.0 refl c.if-work-p.false refl fits,
+      raised_known c.requires.primed c.requires.worked c.requires.arc_lt_arcs.0 c.tail-u.ensures.0
+          c.head-v.ensures.0 _ _ c.row_place-p.ensures.0 refl c.if-work-p.false c.raise_row.ensures,
+    )
 
 pub returns : goal.returns
 returns c =

@@ -14,13 +14,13 @@ returns-then-not-room c = search keeps
 pub returns-then-count-lt1 : goal.returns-then-count-lt1
 returns-then-count-lt1 c =
     let room : (c.args.count ≤ c.args.l.period) × (c.args.from + c.args.count ≤ c.args.l.points) =
-        c.has_room-room.ensures (c.if-not-room.false) in
+    c.has_room-room.ensures (c.if-not-room.false) in
     let (f, r) = room in search rules
 
 pub tick-requires-clause-q_lt_points : goal.tick-requires-clause-q_lt_points
 tick-requires-clause-q_lt_points c =
     let room : (c.args.count ≤ c.args.l.period) × (c.args.from + c.args.count ≤ c.args.l.points) =
-        c.has_room-room.ensures (c.if-not-room.false) in
+    c.has_room-room.ensures (c.if-not-room.false) in
     omega (arith, room)
 
 pub returns-then-tick-gt0 : goal.returns-then-tick-gt0
@@ -29,17 +29,17 @@ returns-then-tick-gt0 c = search keeps
 pub overflow_add-from : goal.overflow_add-from
 overflow_add-from c =
     let room : (c.args.count ≤ c.args.l.period) × (c.args.from + c.args.count ≤ c.args.l.points) =
-        c.has_room-room.ensures (c.if-not-room.false) in
+    c.has_room-room.ensures (c.if-not-room.false) in
     let (f, r) = room in search rules
 
 pub tick-requires-2-clause-q_lt_points : goal.tick-requires-2-clause-q_lt_points
 tick-requires-2-clause-q_lt_points c =
     let room : (c.args.count ≤ c.args.l.period) × (c.args.from + c.args.count ≤ c.args.l.points) =
-        c.has_room-room.ensures (c.if-not-room.false) in
+    c.has_room-room.ensures (c.if-not-room.false) in
     omega (arith, room)
 
 pub returns : goal.returns
 returns c =
     let room : (c.args.count ≤ c.args.l.period) × (c.args.from + c.args.count ≤ c.args.l.points) =
-        c.has_room-room.ensures (c.if-not-room.false) in
+    c.has_room-room.ensures (c.if-not-room.false) in
     let (f, r) = room in search keeps

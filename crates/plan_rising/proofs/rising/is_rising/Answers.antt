@@ -32,7 +32,7 @@ overflow_add-from c =
     let kept : Kept c.args.l
     (entry_at (decode_plan c.args.plan.now).ticks c.loop-k.from)
     c.loop-k.from c.field16-count.result =
-        c.is_kept-kept.ensures (c.if-not-kept.false) in
+    c.is_kept-kept.ensures (c.if-not-kept.false) in
     omega (arith, kept.room, (plan_small c.requires).points_most)
 
 pub blocks-until-requires : goal.blocks-until-requires
@@ -40,18 +40,17 @@ blocks-until-requires c =
     let kept : Kept c.args.l
     (entry_at (decode_plan c.args.plan.now).ticks c.loop-k.from)
     c.loop-k.from c.field16-count.result =
-        c.is_kept-kept.ensures (c.if-not-kept.false) in
-    (
-  search rules,
-  omega (arith, kept.room, (plan_small c.requires).points_most),
-)
+    c.is_kept-kept.ensures (c.if-not-kept.false) in (
+      search rules,
+      omega (arith, kept.room, (plan_small c.requires).points_most),
+    )
 
 pub advance-progress-requires-clause-plan_laid : goal.advance-progress-requires-clause-plan_laid
 advance-progress-requires-clause-plan_laid c =
     let kept : Kept c.args.l
     (entry_at (decode_plan c.args.plan.now).ticks c.loop-k.from)
     c.loop-k.from c.field16-count.result =
-        c.is_kept-kept.ensures (c.if-not-kept.false) in
+    c.is_kept-kept.ensures (c.if-not-kept.false) in
     let r = kept.room in
     c.requires
 
@@ -60,7 +59,7 @@ advance-progress-requires-clause-walked c =
     let kept : Kept c.args.l
     (entry_at (decode_plan c.args.plan.now).ticks c.loop-k.from)
     c.loop-k.from c.field16-count.result =
-        c.is_kept-kept.ensures (c.if-not-kept.false) in
+    c.is_kept-kept.ensures (c.if-not-kept.false) in
     let r = kept.room in
     c.loop-k.invariant.walked.walked
 
@@ -69,7 +68,7 @@ advance-progress-requires-clause-done_le_until c =
     let kept : Kept c.args.l
     (entry_at (decode_plan c.args.plan.now).ticks c.loop-k.from)
     c.loop-k.from c.field16-count.result =
-        c.is_kept-kept.ensures (c.if-not-kept.false) in
+    c.is_kept-kept.ensures (c.if-not-kept.false) in
     let r = kept.room in
     (omega (arith, c.loop-k.invariant.walked.done_is), omega arith)
 
@@ -96,12 +95,12 @@ pub loop-k-preserved : goal.loop-k-preserved
 loop-k-preserved c =
     let read : c.field16-count.result
     ≡ point_count (decode_plan c.args.plan.now) c.loop-k.k =
-        count_read c.requires c.loop-k-test.true
+    count_read c.requires c.loop-k-test.true
     c.loop-k.invariant.counts_at c.field16-count.ensures.0 in
     let kept : Kept c.args.l
     (entry_at (decode_plan c.args.plan.now).ticks c.loop-k.from)
     c.loop-k.from c.field16-count.result =
-        c.is_kept-kept.ensures (c.if-not-kept.false) in
+    c.is_kept-kept.ensures (c.if-not-kept.false) in
     holding_more c.requires _ _ _ _ _ c.loop-k.invariant _ _ _ _ _ c.loop-k-test.true
     read kept c.blocks-until.ensures
     c.advance-progress.ensures c.if-done-until.false

@@ -29,11 +29,11 @@ put_parts-next-requires-clause-le_last c = let first = first_put c.args.k c.args
     c.put_point.ensures in
     let last : 1 ≤ length c.args.row.now - 1 = omega arith in
     let below : length c.args.row.now - 1 ≤ length c.args.row.now = omega arith in (
-        last,
-        omega (arith, c.requires.low.0.some),
-        part_room (length c.args.row.now - 1) (length c.args.row.now) first (omega arith) last below
-            (all_room c.args.k c.args.row.now c.args.q c.requires.low.0.some c.requires.row_bound),
-      )
+      last,
+      omega (arith, c.requires.low.0.some),
+      part_room (length c.args.row.now - 1) (length c.args.row.now) first (omega arith) last below
+          (all_room c.args.k c.args.row.now c.args.q c.requires.low.0.some c.requires.row_bound),
+    )
 
 pub turn-turned-requires : goal.turn-turned-requires
 turn-turned-requires c =

@@ -17,18 +17,18 @@ returns-then-work-p c =
 pub put_points-next-requires-clause-low : goal.put_points-next-requires-clause-low
 put_points-next-requires-clause-low c = let ne : grid_at c.args.l.period c.args.work.now c.args.u 0 ≢ never =
     λ z. c.if-work-p.false (at_row c.args.l.period c.args.work.now c.args.u _ c.row_place-p.ensures.0 z) in (
-        row_low c.args.l.period c.args.work.now c.args.u _ _ c.row_place-p.ensures.0 refl (omega arith) c.requires.u_lt_nodes.2
-            c.requires.u_lt_nodes.0 ne,
-        c.requires.small.1,
-      )
+      row_low c.args.l.period c.args.work.now c.args.u _ _ c.row_place-p.ensures.0 refl (omega arith) c.requires.u_lt_nodes.2
+          c.requires.u_lt_nodes.0 ne,
+      c.requires.small.1,
+    )
 
 pub put_points-next-requires-clause-row_bound : goal.put_points-next-requires-clause-row_bound
 put_points-next-requires-clause-row_bound c = let ne : grid_at c.args.l.period c.args.work.now c.args.u 0 ≢ never =
     λ z. c.if-work-p.false (at_row c.args.l.period c.args.work.now c.args.u _ c.row_place-p.ensures.0 z) in omega (
-        arith,
-        row_turns c.args.l.period c.args.work.now c.args.u _ _ c.row_place-p.ensures.0 refl (omega arith) ne,
-        c.requires.c_lt_profiles.1,
-      )
+      arith,
+      row_turns c.args.l.period c.args.work.now c.args.u _ _ c.row_place-p.ensures.0 refl (omega arith) ne,
+      c.requires.c_lt_profiles.1,
+    )
 
 pub overflow_sub-next : goal.overflow_sub-next
 overflow_sub-next c =

@@ -14,17 +14,17 @@ loop-i-init c = search scans
 pub field16-t-requires : goal.field16-t-requires
 field16-t-requires c =
     let inside : c.args.from + c.loop-i.i < c.args.l.points =
-        omega arith in
+    omega arith in
     tick_there c.requires.plan_laid inside c.loop-i.invariant.at
 
 pub returns-then-is_outside : goal.returns-then-is_outside
 returns-then-is_outside c =
     let inside : c.args.from + c.loop-i.i < c.args.l.points =
-        omega arith in
+    omega arith in
     let read : c.field16-t.result
     ≡ point_tick (decode_plan c.args.plan.now)
     (c.args.from + c.loop-i.i) =
-        tick_read c.requires.plan_laid inside c.loop-i.invariant.at
+    tick_read c.requires.plan_laid inside c.loop-i.invariant.at
     c.field16-t.ensures.0 in
     scan_stop _ _ _ _ _ _ _ _ _ _ (plan_small c.requires.plan_laid).period_some c.loop-i.invariant
     c.loop-i-test.true read c.is_outside.ensures c.if-is_outside.true
@@ -33,17 +33,17 @@ returns-then-is_outside c =
 pub next-next-requires : goal.next-next-requires
 next-next-requires c =
     let inside : c.args.from + c.loop-i.i < c.args.l.points =
-        omega arith in
+    omega arith in
     point_may c.requires.plan_laid _ _ inside c.loop-i.invariant.at
 
 pub loop-i-preserved : goal.loop-i-preserved
 loop-i-preserved c =
     let inside : c.args.from + c.loop-i.i < c.args.l.points =
-        omega arith in
+    omega arith in
     let read : c.field16-t.result
     ≡ point_tick (decode_plan c.args.plan.now)
     (c.args.from + c.loop-i.i) =
-        tick_read c.requires.plan_laid inside c.loop-i.invariant.at
+    tick_read c.requires.plan_laid inside c.loop-i.invariant.at
     c.field16-t.ensures.0 in
     scan_more _ _ _ _ _ _ _ _ _ _ (plan_small c.requires.plan_laid).period_some c.loop-i.invariant
     c.loop-i-test.true read c.is_outside.ensures _

@@ -31,14 +31,14 @@ field16-count-requires c = count_there c.requires c.loop-k-test.true c.loop-k.in
 pub overflow_cast-k : goal.overflow_cast-k
 overflow_cast-k c =
     let few : c.args.l.profiles ≤ most_profiles =
-        (plan_small c.requires).profiles_most in
+    (plan_small c.requires).profiles_most in
     omega (arith, few)
 
 pub returns-then-l-count : goal.returns-then-l-count
 returns-then-l-count c =
     let read : c.field16-count.result
     ≡ point_count (decode_plan c.args.plan.now) c.loop-k.k =
-        count_read c.requires c.loop-k-test.true
+    count_read c.requires c.loop-k-test.true
     c.loop-k.invariant.counts_at c.field16-count.ensures.0 in
     count_taken _ _ _ _ _ _ _ c.loop-k.invariant c.loop-k-test.true
     read _ c.if-l-count.true c.faulty.ensures
@@ -49,7 +49,7 @@ scan_on-scan-requires-clause-plan_laid c = search rules
 pub scan_on-scan-requires-clause-from_bound : goal.scan_on-scan-requires-clause-from_bound
 scan_on-scan-requires-clause-from_bound c =
     let few : c.args.l.profiles ≤ most_profiles =
-        (plan_small c.requires).profiles_most in
+    (plan_small c.requires).profiles_most in
     (omega (arith, few, c.loop-k.invariant.small), search rules)
 
 pub scan_on-scan-requires-clause-standing : goal.scan_on-scan-requires-clause-standing
@@ -58,7 +58,7 @@ scan_on-scan-requires-clause-standing c = c.loop-k.invariant.stands
 pub overflow_add-from : goal.overflow_add-from
 overflow_add-from c =
     let few : c.args.l.profiles ≤ most_profiles =
-        (plan_small c.requires).profiles_most in
+    (plan_small c.requires).profiles_most in
     omega (arith, few, c.loop-k.invariant.small)
 
 pub next-counts-requires : goal.next-counts-requires
@@ -68,7 +68,7 @@ pub loop-k-preserved : goal.loop-k-preserved
 loop-k-preserved c =
     let read : c.field16-count.result
     ≡ point_count (decode_plan c.args.plan.now) c.loop-k.k =
-        count_read c.requires c.loop-k-test.true
+    count_read c.requires c.loop-k-test.true
     c.loop-k.invariant.counts_at c.field16-count.ensures.0 in
     pass_more _ _ _ _ _ _ _ c.loop-k.invariant c.loop-k-test.true
     read _ _ c.if-l-count.false

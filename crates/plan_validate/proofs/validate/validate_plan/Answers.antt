@@ -18,14 +18,14 @@ pub is_well_formed-requires-clause-block_size_in_bounds : goal.is_well_formed-re
 is_well_formed-requires-clause-block_size_in_bounds c =
     let fine : let n = length c.args.plan.now in
     (block_size ≤ n) × (n ≤ most_plan_bytes) =
-        length_fine _ _ _ c.is_bad_length.ensures c.if-is_bad_length.false in
+    length_fine _ _ _ c.is_bad_length.ensures c.if-is_bad_length.false in
     fine.0
 
 pub header_at-requires : goal.header_at-requires
 header_at-requires c =
     let fine : let n = length c.args.plan.now in
     (block_size ≤ n) × (n ≤ most_plan_bytes) =
-        length_fine _ _ _ c.is_bad_length.ensures c.if-is_bad_length.false in
+    length_fine _ _ _ c.is_bad_length.ensures c.if-is_bad_length.false in
     fine.0
 
 pub returns-then-is_well_formed : goal.returns-then-is_well_formed
@@ -38,14 +38,14 @@ pub overflow_cast-b : goal.overflow_cast-b
 overflow_cast-b c =
     let fine : let n = length c.args.plan.now in
     (block_size ≤ n) × (n ≤ most_plan_bytes) =
-        length_fine _ _ _ c.is_bad_length.ensures c.if-is_bad_length.false in
+    length_fine _ _ _ c.is_bad_length.ensures c.if-is_bad_length.false in
     omega (arith, fine)
 
 pub returns-then-b-plan : goal.returns-then-b-plan
 unfolding planned
 returns-then-b-plan c =
     let length_passed : bad_length most_plan_bytes (length c.args.plan.now) ≡ false =
-        told _ _ _ c.is_bad_length.ensures c.if-is_bad_length.false in
+    told _ _ _ c.is_bad_length.ensures c.if-is_bad_length.false in
     passed _ _ _ _ length_passed
     (at_first _ _ _ _ _ _ c.first_bad_sum-b.ensures c.if-b-plan.true
     c.refused-then-b-plan.ensures)
@@ -54,14 +54,14 @@ pub validate_first-requires-clause-block_size_in_bounds : goal.validate_first-re
 validate_first-requires-clause-block_size_in_bounds c =
     let fine : let n = length c.args.plan.now in
     (block_size ≤ n) × (n ≤ most_plan_bytes) =
-        length_fine _ _ _ c.is_bad_length.ensures c.if-is_bad_length.false in
+    length_fine _ _ _ c.is_bad_length.ensures c.if-is_bad_length.false in
     fine.0
 
 pub returns : goal.returns
 unfolding planned
 returns c =
     let length_passed : bad_length most_plan_bytes (length c.args.plan.now) ≡ false =
-        told _ _ _ c.is_bad_length.ensures c.if-is_bad_length.false in
+    told _ _ _ c.is_bad_length.ensures c.if-is_bad_length.false in
     passed _ _ _ _ length_passed
     (past_first _ _ _ _ _ _ c.first_bad_sum-b.ensures c.if-b-plan.false
     c.validate_first.ensures)

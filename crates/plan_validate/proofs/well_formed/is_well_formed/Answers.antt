@@ -17,14 +17,14 @@ returns-then-not-matches c = λ e. absurd (true≢false (sym e))
 pub layout-p-requires : goal.layout-p-requires
 layout-p-requires c =
     let within : PlanWithin c.header_at-k.result =
-        header_within c.requires.valid_file c.args.plan.now _ c.header_at-k.ensures _
+    header_within c.requires.valid_file c.args.plan.now _ c.header_at-k.ensures _
     c.requires.borders_value _ c.is_matching-matches.ensures (c.if-not-matches.false) in
     within
 
 pub overflow_mul-p : goal.overflow_mul-p
 overflow_mul-p c =
     let within : PlanWithin c.header_at-k.result =
-        header_within c.requires.valid_file c.args.plan.now _ c.header_at-k.ensures _
+    header_within c.requires.valid_file c.args.plan.now _ c.header_at-k.ensures _
     c.requires.borders_value _ c.is_matching-matches.ensures (c.if-not-matches.false) in
     omega (arith, blocks_few c.args.plan.now _ _ c.layout-p.ensures within)
 
@@ -34,20 +34,20 @@ returns-then-plan-p c = λ e. absurd (true≢false (sym e))
 pub is_sound-requires : goal.is_sound-requires
 is_sound-requires c =
     let within : PlanWithin c.header_at-k.result =
-        header_within c.requires.valid_file c.args.plan.now _ c.header_at-k.ensures _
+    header_within c.requires.valid_file c.args.plan.now _ c.header_at-k.ensures _
     c.requires.borders_value _ c.is_matching-matches.ensures (c.if-not-matches.false) in
     let laid : PlanLaid c.args.plan.now c.layout-p.result =
-        now_laid c.args.plan.now _ _ c.layout-p.ensures within
+    now_laid c.args.plan.now _ _ c.layout-p.ensures within
     c.header_at-k.ensures c.if-plan-p.false in
     laid
 
 pub returns : goal.returns
 returns c =
     let within : PlanWithin c.header_at-k.result =
-        header_within c.requires.valid_file c.args.plan.now _ c.header_at-k.ensures _
+    header_within c.requires.valid_file c.args.plan.now _ c.header_at-k.ensures _
     c.requires.borders_value _ c.is_matching-matches.ensures (c.if-not-matches.false) in
     let laid : PlanLaid c.args.plan.now c.layout-p.result =
-        now_laid c.args.plan.now _ _ c.layout-p.ensures within
+    now_laid c.args.plan.now _ _ c.layout-p.ensures within
     c.header_at-k.ensures c.if-plan-p.false in
     λ e. sound_valid laid c.requires.valid_file
     (told _ _ _ c.is_first_formed-formed.ensures (c.if-not-formed.false))

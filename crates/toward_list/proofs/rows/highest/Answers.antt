@@ -9,15 +9,14 @@ pub loop-i-init : goal.loop-i-init
 loop-i-init c = (search rules, search rules, upper_none (omega arith) refl)
 
 pub higher-high-requires : goal.higher-high-requires
-higher-high-requires c =
-    (
-      omega (
-        arith,
-        c.loop-i.invariant.2.met,
-        c.requires.u_lt_nodes.2.entry c.loop-i.invariant.2.at (omega (arith, c.row_place-p.ensures.0, c.loop-i.invariant.2.from)) (omega (arith, c.row_place-p.ensures.0, c.loop-i.invariant.2.to)),
-      ),
-      c.requires.u_lt_nodes.2.entry c.loop-i.i (omega (arith, c.row_place-p.ensures.0, c.loop-i.invariant.0)) (omega (arith, c.row_place-p.ensures.0)),
-    )
+higher-high-requires c = (
+  omega (
+    arith,
+    c.loop-i.invariant.2.met,
+    c.requires.u_lt_nodes.2.entry c.loop-i.invariant.2.at (omega (arith, c.row_place-p.ensures.0, c.loop-i.invariant.2.from)) (omega (arith, c.row_place-p.ensures.0, c.loop-i.invariant.2.to)),
+  ),
+  c.requires.u_lt_nodes.2.entry c.loop-i.i (omega (arith, c.row_place-p.ensures.0, c.loop-i.invariant.0)) (omega (arith, c.row_place-p.ensures.0)),
+)
 
 pub loop-i-preserved : goal.loop-i-preserved
 loop-i-preserved c = (

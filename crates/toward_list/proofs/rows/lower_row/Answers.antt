@@ -11,11 +11,11 @@ lower_arc-requires-clause-primed c = c.requires.primed
 
 pub lower_arc-requires-clause-arc_lt_arcs : goal.lower_arc-requires-clause-arc_lt_arcs
 lower_arc-requires-clause-arc_lt_arcs c = (
-        c.requires.arc_lt_arcs.0,
-        search rules,
-        c.requires.capped.0,
-        known_lent c.row_place-p.ensures.0 c.requires.capped.1,
-      )
+  c.requires.arc_lt_arcs.0,
+  search rules,
+  c.requires.capped.0,
+  known_lent c.row_place-p.ensures.0 c.requires.capped.1,
+)
 
 pub returns : goal.returns
 returns c =

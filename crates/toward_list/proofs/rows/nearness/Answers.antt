@@ -5,14 +5,13 @@ use borrow.Author.Rules.{rules}
 use Rattle.toward_list.proofs.rows.nearness.Goals as goal
 
 pub loop-i-init : goal.loop-i-init
-loop-i-init c =
-    (
-      search rules,
-      search rules,
-      search lower_none,
-      c.requires.u_lt_nodes.2.entry c.row_place-p.result (omega (arith, c.row_place-p.ensures.0))
-          (omega (arith, c.row_place-p.ensures.0, c.requires.small.period_some)),
-    )
+loop-i-init c = (
+  search rules,
+  search rules,
+  search lower_none,
+  c.requires.u_lt_nodes.2.entry c.row_place-p.result (omega (arith, c.row_place-p.ensures.0))
+      (omega (arith, c.row_place-p.ensures.0, c.requires.small.period_some)),
+)
 
 pub lower-low-requires : goal.lower-low-requires
 lower-low-requires c =

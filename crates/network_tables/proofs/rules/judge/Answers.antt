@@ -1,0 +1,68 @@
+-- `network_tables::rules::judge` meets its contract.
+use mathlib.Core.Path.{◌∙◌}
+use native.Mathlib.Omega.{arith}
+use Rattle.network_rules.specs.Judge.{cell_taken, cells_passed, hours_taken, hours_passed, arc_taken}
+use Rattle.network_rules.specs.Judge.{arcs_passed_lem, sum_taken, sum_passed, counted}
+use Rattle.network_tables.specs.Cut.{cell_found, hours_found, arc_found, sum_found}
+use Rattle.network_tables.specs.Cut.{counted_bare, points_judged}
+use Rattle.network_tables.proofs.rules.judge.Goals as goal
+
+pub returns-then-v-l : goal.returns-then-v-l
+returns-then-v-l c =
+    let p = c.requires in
+    cell_taken p.sizes _ _ (cell_found p c.first_bad_cell-v.ensures)
+    c.if-v-l.true c.faulty.ensures
+
+pub returns-then-u-l : goal.returns-then-u-l
+returns-then-u-l c =
+    let p = c.requires in
+    cells_passed p.sizes _ _ (cell_found p c.first_bad_cell-v.ensures) c.if-v-l.false
+    (hours_taken p.sizes _ _ (hours_found p c.first_bad_hours-u.ensures) c.if-u-l.true
+    c.faulty-then-u-l.ensures)
+
+pub overflow_cast-a : goal.overflow_cast-a
+overflow_cast-a c =
+    omega (arith, c.requires.small)
+
+pub returns-then-a-l : goal.returns-then-a-l
+returns-then-a-l c =
+    let p = c.requires in
+    cells_passed p.sizes _ _ (cell_found p c.first_bad_cell-v.ensures) c.if-v-l.false
+    (hours_passed p.sizes _ _ (hours_found p c.first_bad_hours-u.ensures) c.if-u-l.false
+    (arc_taken p.sizes _ _ (arc_found p c.scan_arcs-found.ensures.0) c.if-a-l.true
+    c.faulty-then-a-l.ensures))
+
+pub overflow_cast-l : goal.overflow_cast-l
+overflow_cast-l c =
+    omega (arith, c.requires.small)
+
+pub returns-then-found-l : goal.returns-then-found-l
+returns-then-found-l c =
+    let p = c.requires in
+    cells_passed p.sizes _ _ (cell_found p c.first_bad_cell-v.ensures) c.if-v-l.false
+    (hours_passed p.sizes _ _ (hours_found p c.first_bad_hours-u.ensures) c.if-u-l.false
+    (arcs_passed_lem p.sizes _ _ (arc_found p c.scan_arcs-found.ensures.0) c.if-a-l.false
+    (sum_taken p.sizes _ _ (sum_found p (c.scan_arcs-found.ensures.1 (omega (arith, p.sizes.arcs)))) c.if-found-l.true
+    c.faulty-then-found-l.ensures)))
+
+pub judge_points-requires-clause-counted : goal.judge_points-requires-clause-counted
+judge_points-requires-clause-counted c =
+    let p = c.requires in counted_bare p (counted p.sizes _ _ (arc_found p c.scan_arcs-found.ensures.0) c.if-a-l.false
+    (sum_found p (c.scan_arcs-found.ensures.1 (omega (arith, p.sizes.arcs)))) c.if-found-l.false)
+
+pub judge_points-requires-clause-period_nonzero : goal.judge_points-requires-clause-period_nonzero
+judge_points-requires-clause-period_nonzero c =
+    let p = c.requires in (p.small.period_some, p.small.period_most)
+
+pub judge_points-requires-clause-travels_len : goal.judge_points-requires-clause-travels_len
+judge_points-requires-clause-travels_len c =
+    let p = c.requires in (p.travels_long ∙ p.sizes.points, omega (arith, p.small, p.sizes.points))
+
+pub returns : goal.returns
+returns c =
+    let p = c.requires in
+    cells_passed p.sizes _ _ (cell_found p c.first_bad_cell-v.ensures) c.if-v-l.false
+    (hours_passed p.sizes _ _ (hours_found p c.first_bad_hours-u.ensures) c.if-u-l.false
+    (arcs_passed_lem p.sizes _ _ (arc_found p c.scan_arcs-found.ensures.0) c.if-a-l.false
+    (sum_passed p.sizes _ _ (sum_found p (c.scan_arcs-found.ensures.1 (omega (arith, p.sizes.arcs)))) c.if-found-l.false
+    (points_judged p c.judge_points.ensures))))
