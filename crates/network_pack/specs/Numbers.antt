@@ -1,52 +1,8 @@
 -- Which numbers Pack's refusals have: 4, 7 to 10, 37, 30 or 31 (`pack_numbers`).
-use mathlib.Core.{Path.◌≡◌, Path.refl, Path.ap, Logic.◌⊎◌, Logic.inl, Logic.inr}
+use mathlib.Core.{Path.◌≡◌, Logic.◌⊎◌}
 use Rattle.std.specs.Prelude.{ℕ}
-use Rattle.std.proofs.Common.{arith}
-use lib.{Dec.ltb, ListN.length}
-use Rattle.theory_loops.specs.Pick.{cond_holds}
-use Rattle.file_refusals.specs.{Numbered.Numbered, Refusal.refusal, Writing.written_into}
-use Rattle.file_refusals.specs.declared.{Refusal.Refusal, Judged.Judged}
-use Rattle.file_refusals.specs.declared.Judged.TheVariants.{Sound, Faulty}
-use Rattle.network.specs.declared.header.{Header.Header, Made.Made}
-use Rattle.network.specs.declared.header.Made.TheVariants.{Inside, Outside}
-use Rattle.network.specs.{Numbers.RuleNumber, Numbers.judged_numbers, Tables.Tables, Tables.network_of}
-use Rattle.network.specs.Rules.{judged}
-use Rattle.network_open.specs.Open.{too_short}
-use Rattle.network_encode.specs.Encode.{encode}
-use Rattle.file_refusals.specs.declared.writing.Writing.{Writing}
-use Rattle.file_refusals.specs.declared.writing.Writing.TheVariants.{Written, Refused}
-use Rattle.network_pack.specs.Pack.{packed_rules, packed_tables, packed_made, made_of, packing}
+use Rattle.network.specs.{Numbers.RuleNumber}
 
 -- the papers' numbers for Pack
 abbrev pub PackNumber : ℕ → Type 0
 PackNumber n = (n ≡ 4) ⊎ (RuleNumber n ⊎ ((n ≡ 30) ⊎ (n ≡ 31)))
-
--- an answer that, where it is refused, has such a number
-abbrev Fine : Writing → Type 0
-Fine a = (r : Refusal) → a ≡ Refused r → PackNumber r.number
-
-same_refused : (q r : Refusal) → Refused q ≡ Refused r → q.number ≡ r.number
-same_refused q r e = let z : q ≡ r = cc in ap (λ (y : Refusal). y.number) z
-
-fine : (number : ℕ) → PackNumber number → Fine (Refused (refusal number 0))
-fine number n r e = rw (← same_refused (refusal number 0) r e) n
-
-rules_fine : (j : Judged) → Numbered Faulty RuleNumber j → (long room : ℕ) → Fine (packed_rules j long room)
-unfolding written_into
-rules_fine Sound n long room = cond_holds Fine (ltb room long) _ _ (fine 31 (inr (inr (inr refl)))) packed
-  where
-    packed : Fine (Written (record { bytes = long }))
-    packed r e = let z : ◌≡◌ {A = ℕ} 0 1 = cc in absurd (omega arith)
-rules_fine (Faulty q) n long room = λ r e. rw (← same_refused q r e) (inr (inl (n q refl)))
-
-made_fine : (m : Made) (t : Tables) (room : ℕ) → Fine (packed_made m t room)
-unfolding packed_tables
-made_fine Outside t room = fine 4 (inl refl)
-made_fine (Inside h) t room =
-    let n = network_of h t in
-    cond_holds Fine (too_short h t) _ _ (fine 30 (inr (inr (inl refl))))
-    (rules_fine (judged n) (judged_numbers n) (length (encode n)) room)
-
-pub pack_numbers : (h : Header) (t : Tables) (room : ℕ) (r : Refusal) → packing h t room ≡ Refused r
-    → PackNumber r.number
-pack_numbers h t room r e = made_fine (made_of h) t room r e
