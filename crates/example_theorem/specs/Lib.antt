@@ -4,4 +4,3 @@ pub mod Files
 pub mod Quick
 pub mod Validation
 pub mod Rows
-pub mod Town

@@ -9,11 +9,9 @@ use Rattle.theory_paths.specs.{Partition.Partition}
 use Rattle.theory_paths.proofs.Drive.{earliest_waiting}
 use Rattle.theory_paths.specs.Flags.{EnoughFlags}
 use Rattle.theory_paths.proofs.Flags.{arc_flags, arc_flags_reach}
-use Rattle.network.specs.{Decode.decode, Town.partition_of}
-use Rattle.plan.specs.{Plan.Plan, Plan.flag, Plan.towards, PlanDecode.decode_plan}
+use Rattle.plan.specs.{Plan.Plan, Plan.flag, Plan.towards}
 use Rattle.plan_check.specs.declared.answer.Checking.TheVariants.{Accepted}
 use Rattle.plan_check.specs.{Check.checked, Exact.check_exact}
-use Rattle.plan_check.specs.CheckPlan.{checking, accepted_plan, accepted_lawful}
 
 -- from s at tick x to t
 pub record FlaggedTrips (G : Partition) (p : Plan) : Type 0 where

@@ -13,7 +13,7 @@ use Rattle.plan_check.specs.declared.answer.Checking.TheVariants.{Accepted, Refu
 use Rattle.plan_judge.specs.declared.Found.{Found}
 use Rattle.plan_check.specs.{Check.refused_at, Check.triple_rung, Exact.nowhere_rung, Finds.Finds}
 use Rattle.file_refusals.specs.declared.Refusal.{Refusal}
-use Rattle.network.specs.{Decode.decode, Network.nodes}
+use Rattle.network.specs.{Decode.decode}
 use Rattle.plan_tests.specs.declared.tests.Layouts.{Layouts}
 use Rattle.plan_judge.specs.{Standing.Stands, Tally.Tally, Tally.tally_enough}
 

@@ -9,9 +9,11 @@ use Rattle.network.specs.Decode.{decode}
 use Rattle.plan_check.specs.declared.answer.Checking.TheVariants.{Accepted}
 use Rattle.plan_check.specs.CheckPlan.{checking}
 use Rattle.trip.specs.Calls.{plain_call, flagged_call}
-use Rattle.day_arrivals.specs.{Sheet.listing, Sheet.DaySheet, Numbers.SheetNumber, Numbers.sheet_numbers}
-use Rattle.day_arrivals.specs.Promise.{ArrivesAt, HoldsDay, sheet_listed, sheet_plain_call}
-use Rattle.day_arrivals.specs.Promise.{sheet_flagged_call}
+use Rattle.day_arrivals.specs.{Sheet.listing, Sheet.DaySheet, Numbers.SheetNumber}
+use Rattle.day_arrivals.proofs.Numbers.{sheet_numbers}
+use Rattle.day_arrivals.specs.Promise.{ArrivesAt, HoldsDay}
+use Rattle.day_arrivals.proofs.Promise.{sheet_listed, sheet_plain_call}
+use Rattle.day_arrivals.proofs.Promise.{sheet_flagged_call}
 use Rattle.varnwalnut.specs.{Replies.SheetReply, Returned.returned_count, Room.kept}
 
 -- An answer and a list as the wish wants them.

@@ -1,5 +1,5 @@
 -- `day_sheet::sheet::day_sheet` meets its contract.
-use Rattle.day_arrivals.specs.Sheeting.{sheets}
+use Rattle.day_arrivals.proofs.Sheeting.{sheets}
 use borrow.Author.Rules.{rules}
 use Rattle.day_sheet.proofs.sheet.day_sheet.Statement.{statement}
 use Rattle.day_sheet.proofs.sheet.day_sheet.Tie as tie

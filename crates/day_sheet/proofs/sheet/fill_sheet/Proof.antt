@@ -3,7 +3,7 @@ use mathlib.Core.Path.{refl}
 use native.Mathlib.{Nat.mul-le-mul, Omega.arith}
 use lib.ListN.{length-take}
 use Rattle.toward_list.specs.Work.{valid_town}
-use Rattle.day_arrivals.specs.Sheeting.{asked_laid, sheet_filled}
+use Rattle.day_arrivals.proofs.Sheeting.{asked_laid, sheet_filled}
 use borrow.Author.Rules.{rules}
 use Rattle.day_sheet.proofs.sheet.fill_sheet.Statement.{statement}
 use Rattle.day_sheet.proofs.sheet.fill_sheet.Tie as tie

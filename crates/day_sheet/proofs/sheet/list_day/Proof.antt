@@ -1,7 +1,7 @@
 -- `day_sheet::sheet::list_day` meets its contract.
 use mathlib.Core.Path.{refl}
 use native.Mathlib.Omega.{arith}
-use Rattle.day_arrivals.specs.Sheeting.{row_none, row_early, row_listed}
+use Rattle.day_arrivals.proofs.Sheeting.{row_none, row_early, row_listed}
 use borrow.Author.Rules.{rules}
 use Rattle.day_sheet.proofs.sheet.list_day.Statement.{statement}
 use Rattle.day_sheet.proofs.sheet.list_day.Tie as tie

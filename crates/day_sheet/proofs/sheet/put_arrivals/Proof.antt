@@ -3,7 +3,8 @@ use mathlib.Core.Path.{refl}
 use Prim.Native.Nat.{◌-◌, ◌≤◌, zero-le}
 use native.Mathlib.Omega.{arith}
 use Rattle.theory_loops.specs.Fill.{Filled, fills, fill_up}
-use Rattle.day_arrivals.specs.Sheeting.{arrival_in, row_entry}
+use Rattle.day_arrivals.specs.Sheeting.{arrival_in}
+use Rattle.day_arrivals.proofs.Sheeting.{row_entry}
 use borrow.Author.Rules.{rules}
 use Rattle.day_sheet.proofs.sheet.put_arrivals.Statement.{statement}
 use Rattle.day_sheet.proofs.sheet.put_arrivals.Tie as tie
