@@ -1,6 +1,6 @@
 -- Which numbers the refusals of a day sheet have: 1 to 10, 37, 25, 34 or 31 before its work
 -- (`begin_numbers`), and 28 after it (`sheet_numbers`).
-use mathlib.Core.{Path.◌≡◌, Path.refl, Path.ap, Logic.◌⊎◌, Logic.inl, Logic.inr, List.List}
+use mathlib.Core.{Path.◌≡◌, Path.refl, Path.ap, Logic.inl, Logic.inr, List.List}
 use Rattle.std.specs.Prelude.{ℕ, ◌*◌, eqb, leb, ltb}
 use Rattle.std.proofs.Common.{arith}
 use Rattle.theory_loops.specs.Pick.{cond_holds}

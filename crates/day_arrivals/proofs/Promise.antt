@@ -8,7 +8,7 @@ use Rattle.std.proofs.Common.{arith, eqb-true}
 use lib.{Dec.eqb, ListN.length, ListN.get_or}
 use Rattle.std.proofs.lemmas.Bool.{eqb-false}
 use Rattle.theory_loops.specs.Fill.{Filled, length_tab, list_filled}
-use Rattle.theory_paths.specs.Graph.{Graph, all, stop, Reachable, EarliestArrival}
+use Rattle.theory_paths.specs.Graph.{Graph, all, stop, Reachable}
 use Rattle.theory_paths.proofs.Drive.{earliest_later, earliest_shift, path_takes}
 use Rattle.theory_paths.specs.{Earliest.never}
 use Rattle.theory_paths.proofs.Earliest.{earliest_unique}
@@ -26,8 +26,7 @@ use Rattle.network.specs.{Network.Network, Network.nodes, Decode.decode, Town.gr
 use Rattle.network.proofs.Valid.{valid_exactly}
 use Rattle.plan_check.specs.declared.answer.Checking.TheVariants.{Accepted}
 use Rattle.plan_check.specs.CheckPlan.{checking}
-use Rattle.search_path.specs.declared.answer.{Arrival.Arrival, Answer.Answer}
-use Rattle.search_path.specs.declared.answer.Answer.TheVariants.{Arrived}
+use Rattle.search_path.specs.declared.answer.{Answer.Answer}
 use Rattle.toward_node.specs.Turn.{modest}
 use Rattle.toward_list.specs.Work.{work_size, cleared, valid_town}
 use Rattle.trip_call.specs.Drive.{drive_nodes, drive_period}

@@ -1,7 +1,7 @@
 -- FOR THE CODE: what is shown where nothing before the work is refused, a row of travels as the day's
 -- arrivals, and the work list that ends as zero.
 use mathlib.Core.{Path.◌≡◌, Path.sym, Path.◌∙◌, Path.ap, Path.subst, Logic.◌≢◌, List.List, List.◌++◌}
-use Rattle.std.specs.Prelude.{ℕ, ◌+◌, ◌-◌, ◌*◌, ◌^◌, ◌≤◌, ◌<◌}
+use Rattle.std.specs.Prelude.{ℕ, ◌+◌, ◌-◌, ◌*◌, ◌≤◌, ◌<◌}
 use native.Mathlib.{Nat.mul-le-mul, Omega.arith, Decide.ℕ_discrete}
 use lib.{ListN.length, ListN.get_or, ListN.take, ListN.drop, Dec.leb, Dec.ltb}
 use Rattle.std.proofs.Common.{leb-false, ltb-false, le-ltb, eq-eqb, ne_eqb}
@@ -14,19 +14,19 @@ use Rattle.theory_paths.proofs.Least.{least_reach, least_bound, least_capped}
 use Rattle.file_refusals.specs.declared.Refusal.{Refusal}
 use Rattle.file_refusals.specs.declared.listing.Listing.{Listing}
 use Rattle.file_refusals.specs.declared.listing.Listing.TheVariants as answer
-use Rattle.file_refusals.specs.Listing.{unlisted, list_after}
+use Rattle.file_refusals.specs.Listing.{unlisted}
 use Rattle.network.specs.declared.answer.Opening.{Opening}
 use Rattle.network.specs.declared.answer.Opening.TheVariants.{Opened, Refused}
 use Rattle.network.specs.declared.header.{Header.Header, Layout.Layout}
 use Rattle.network.specs.{Layout.layout_of, Limits.most_nodes, Limits.most_period, Decode.decode, Town.graph_of}
-use Rattle.network.specs.{Network.Network, Network.nodes, Validate.unopened, Validate.validated}
+use Rattle.network.specs.{Network.Network, Validate.unopened, Validate.validated}
 use Rattle.network.specs.Valid.{ValidFile}
 use Rattle.network.proofs.Valid.{valid_exactly}
 use Rattle.search_chains.specs.Town.{Town}
 use Rattle.toward_list.specs.{Rows.WorkedRow, Work.size_is, Work.work_cleared}
 use Rattle.toward_node.specs.Turn.{modest}
 use Rattle.trip_call.specs.Stage.{not_opened, one_header, then_passed}
-use Rattle.day_arrivals.specs.Sheet.{arrival_at, day_arrivals, sheet_asked, sheet_begin, listed, SheetCall}
+use Rattle.day_arrivals.specs.Sheet.{arrival_at, sheet_asked, sheet_begin, listed, SheetCall}
 use Rattle.day_arrivals.specs.Sheet.{DaySheet}
 use Rattle.day_arrivals.specs.Sheeting.{Asked, Begun, arrival_in, EarlyRow, Lists}
 

@@ -1,18 +1,18 @@
 -- The file of the plan that is made of a network (`made_file`): it decodes to that plan (`made_decodes`), and
 -- none of 11 to 19 applies to it (`made_valid`), where its points are no more than a plan can hold.
 use mathlib.Core.{Path.◌≡◌, Path.refl, Path.sym, Path.◌∙◌, List.List}
-use Rattle.std.specs.Prelude.{ℕ, ◌+◌, ◌*◌, ◌/◌, ◌%◌, ◌^◌, ◌≤◌, ◌<◌}
+use Rattle.std.specs.Prelude.{ℕ, ◌/◌, ◌%◌, ◌^◌, ◌≤◌, ◌<◌}
 use native.Mathlib.{Nat.pow-le-pow_right, Nat.mod-lt, Nat.lt_of_lt_of_le, Omega.arith}
 use lib.{Dec.lit<, ListN.length, ListN.get_or, ListN.get_or-eq_default}
 use Rattle.std.proofs.Math.Decide.{dec_lt, ℕ_discrete}
-use Rattle.theory_loops.specs.{Fill.tab, Fill.get_or_tab, Fill.length_tab, Total.total}
+use Rattle.theory_loops.specs.{Fill.tab, Fill.get_or_tab, Fill.length_tab}
 use Rattle.theory_loops.specs.Joined.{joined, joined_length, joined_below}
 use Rattle.theory_paths.specs.{Partition.Partition, Earliest.never, Least.Modest}
 use Rattle.theory_paths.proofs.Least.{least_capped}
 use Rattle.theory_travel.specs.Turns.{turn_tick, turn_value, turns_few, turns_day}
 use Rattle.file_fields.specs.Fields.{Bytes}
 use Rattle.network.specs.declared.header.Header.{Header}
-use Rattle.network.specs.{Network.Network, Network.nodes, Network.arcs, Decode.header_at, Decode.decode}
+use Rattle.network.specs.{Network.Network, Network.nodes, Network.arcs, Decode.decode}
 use Rattle.network.specs.{Town.graph_of, Town.partition_of, Valid.ValidFile}
 use Rattle.plan.specs.declared.header.PlanHeader.{PlanHeader}
 use Rattle.plan.specs.{Border.border_count, Border.border_at, Plan.Plan, Word.word_of, Word.word_below}

@@ -26,9 +26,10 @@ const USAGE: &str = "usage: tools/believe [--check | --write | --rooms | --unuse
   --check         are the lists in docs/TRUST.md and docs/ARCHITECTURE.md what the files say?
   --write         puts them in
   --rooms         the list of the crates
-  --unused        the laws and definitions of the specs that nothing cites";
+  --unused        the laws and definitions, in specs/ and right in proofs/, that nothing cites";
 
-/// The status is 0 where all is well, 1 where a document differs, and 2 where a file cannot be read.
+/// The status is 0 where all is well, 1 where a document differs, and 2 where a file cannot be read or a name
+/// is found nowhere.
 fn main() -> ExitCode {
     let words: Vec<String> = std::env::args().skip(1).collect();
     let words: Vec<&str> = words.iter().map(String::as_str).collect();

@@ -9,10 +9,13 @@ pub struct Code {
     pub ghosts: Vec<Use>,
     /// What the `use` lines bring, each by the parts of its path.
     pub uses: Vec<Vec<String>>,
-    /// What its `using(crate::specs::Runs::larger)` and `unfolding(..)` name, each by the parts of its path.
+    /// What of the crates' antt its `using(crate::specs::Runs::larger)` and `unfolding(..)` name, each by the
+    /// parts of its path.
     pub cited: Vec<Vec<String>>,
     pub functions: Vec<Function>,
     pub types: Vec<Type>,
+    /// Its constants, and the labels of its loops.
+    pub besides: Vec<String>,
 }
 
 pub struct Function {
@@ -40,6 +43,7 @@ pub fn read(text: &str) -> Result<Code, String> {
     let mut code = Code { cited: cited(text), ..Code::default() };
     for (i, line) in lines.iter().enumerate() {
         let rest = without_marks(&line.text);
+        code.besides.extend(constant(&line.text).or_else(|| label(&line.text)).map(str::to_string));
         if rest.starts_with("ghost use ") {
             let text = joined(&lines[i..i + balanced(&lines[i..])]);
             code.ghosts.extend(read_use(&without_marks(&text)["ghost use ".len()..]));
@@ -90,11 +94,25 @@ fn balanced(lines: &[Line]) -> usize {
     lines.len()
 }
 
-/// The paths through `specs` that are written with `::`: only tactics are given such ones.
+/// The paths through a crate's `specs` or `proofs` that are written with `::`: only tactics are given such
+/// ones. The kit's own are left out.
 fn cited(text: &str) -> Vec<Vec<String>> {
     let paths = text.split(|c: char| c.is_whitespace() || "(),;".contains(c));
     let parts = |path: &str| path.split("::").map(str::to_string).collect();
-    paths.filter(|path| path.contains("::specs::")).map(parts).collect()
+    let is_cited = |path: &&str| path.contains("::specs::") || path.contains("::proofs::");
+    paths.filter(is_cited).filter(|path| !path.starts_with("std::")).map(parts).collect()
+}
+
+/// The name in `pub const NAME: type = ..`.
+fn constant(line: &str) -> Option<&str> {
+    let rest = line.strip_prefix("pub(crate) ").or_else(|| line.strip_prefix("pub ")).unwrap_or(line);
+    let (name, _) = rest.strip_prefix("const ")?.split_once(": ")?;
+    (!name.contains(' ')).then_some(name)
+}
+
+/// The label in `'label: for ..`, with its mark.
+fn label(line: &str) -> Option<&str> {
+    line.split_once(": ").map(|(label, _)| label).filter(|label| label.starts_with('\''))
 }
 
 /// The paths of `use a::b;` or `use a::{b, c::d};`, without the word `use`.

@@ -1,4 +1,4 @@
-//! What the public contracts and the promises reach: definitions of the specs and types of the code.
+//! What the public contracts and the promises reach: definitions and laws of antt and types of the code.
 
 use crate::antt::Kind;
 use crate::names::{in_contract, in_definition, Extent};
@@ -35,7 +35,11 @@ pub fn from_contracts(repository: &Repository, exported: bool) -> Result<Reached
 
 /// From what docs/PROMISES.md names: of a definition the whole counts, of a theorem the statement alone.
 pub fn from_promises(repository: &Repository, contracts: &Reached) -> Result<Reached, String> {
-    let named = promises::named(repository, contracts)?;
+    from_named(repository, promises::named(repository, contracts)?)
+}
+
+/// From definitions and laws, each by its file and its place there.
+pub fn from_named(repository: &Repository, named: BTreeSet<(usize, usize)>) -> Result<Reached, String> {
     let start = named.into_iter().map(|(file, place)| {
         let is_law = repository.specs[file].text.definitions[place].kind == Kind::Law;
         (Target::Spec(file, place), if is_law { Extent::Statement } else { Extent::Whole })

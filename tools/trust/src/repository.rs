@@ -1,4 +1,6 @@
-//! The crates of the repository, their specs, code and proofs, and what a name means in each file.
+//! The crates of the repository, their specs, code and proofs, and what a name means in each file. The files
+//! right in a crate's `proofs/` hold laws and what these need, and are read as its specs are; those further
+//! down prove what single functions do.
 
 use crate::antt::{self, operator_parts, Brings, Definition, Kind, Spec, Use};
 use crate::rattle::{self, Code};
@@ -17,14 +19,23 @@ pub struct File<T> {
     /// The crate that it belongs to, by its place in crates.txt.
     pub of: usize,
     pub path: String,
-    /// Its name in a `use` path: `Graph`, or `answer`; a crate's root has none.
+    /// Its name in a `use` path: `specs.Graph`, `proofs.Drive`, or `answer`; a root of code has none.
     pub module: String,
     pub text: T,
     pub scope: Scope,
 }
 
-/// What stands behind a name: a definition of a spec or a type of the code, each by its file and its place
-/// there; or something of the kit, which is believed as a whole.
+impl<T> File<T> {
+    /// A file by its path below a folder, which tells its module's name there.
+    pub fn new(of: usize, folder: &str, path: &str, text: T) -> File<T> {
+        let inner = path[folder.len() + 1..].rsplit_once('.').map_or("", |(inner, _)| inner);
+        let module = if inner == "lib" || inner == "main" { "" } else { inner };
+        File { of, path: path.to_string(), module: module.replace('/', "."), text, scope: Scope::default() }
+    }
+}
+
+/// What stands behind a name: a definition or law of antt or a type of the code, each by its file and its
+/// place there; or something of the kit, which is believed as a whole.
 #[derive(Clone, Copy, PartialEq, Eq, PartialOrd, Ord, Hash, Debug)]
 pub enum Target {
     Code(usize, usize),
@@ -60,36 +71,54 @@ impl Scope {
 
 pub struct Repository {
     pub crates: Vec<Crate>,
+    /// The files of `specs/`, and those right in `proofs/`.
     pub specs: Vec<File<Spec>>,
     pub codes: Vec<File<Code>>,
 }
 
 impl Repository {
-    /// Reads the specs and the code of all crates of crates.txt, from the repository's folder.
+    /// Reads the specs, the laws and the code of all crates of crates.txt, from the repository's folder.
     pub fn read() -> Result<Repository, String> {
         let crates = read_crates()?;
-        let mut repository = Repository { crates, specs: Vec::new(), codes: Vec::new() };
-        for of in 0..repository.crates.len() {
-            let folder = format!("crates/{}", repository.crates[of].name);
-            let mut specs = read_files(of, &format!("{folder}/specs"), ".antt", antt::read)?;
-            let root = specs.iter().find(|file| file.module == "Lib");
-            let order = root.map_or(Vec::new(), |file| file.text.children.clone());
-            specs.sort_by_key(|file| {
-                order.iter().position(|child| file.module.split('.').next() == Some(child))
-            });
-            repository.specs.append(&mut specs);
-            repository.codes.append(&mut read_files(of, &format!("{folder}/src"), ".rt", rattle::read)?);
+        let (mut specs, mut codes) = (Vec::new(), Vec::new());
+        for (of, known) in crates.iter().enumerate() {
+            let folder = format!("crates/{}", known.name);
+            let (laws, _) = split_proofs(&folder)?;
+            for paths in [files(Path::new(&format!("{folder}/specs")), ".antt")?, laws] {
+                let mut read = read_files(of, &folder, &paths, antt::read)?;
+                let is_root = |file: &&File<_>| matches!(&file.module[..], "specs.Lib" | "proofs.Lib");
+                let root = read.iter().find(is_root);
+                let order = root.map_or(Vec::new(), |file| file.text.children.clone());
+                read.sort_by_key(|file| {
+                    order.iter().position(|child| file.module.split('.').nth(1) == Some(child))
+                });
+                specs.append(&mut read);
+            }
+            let folder = format!("{folder}/src");
+            codes.append(&mut read_files(of, &folder, &files(Path::new(&folder), ".rt")?, rattle::read)?);
         }
+        Repository::of(crates, specs, codes)
+    }
+
+    /// A repository of files that were read: what names mean in them is told here.
+    pub fn of(
+        crates: Vec<Crate>,
+        specs: Vec<File<Spec>>,
+        codes: Vec<File<Code>>,
+    ) -> Result<Repository, String> {
+        let mut repository = Repository { crates, specs, codes };
         repository.bring_names()?;
         Ok(repository)
     }
 
-    /// Reads the proofs too. The lists need none of them, so they can be made while proofs are being written.
+    /// Reads the proofs of single functions too. The lists need none of them, so they can be made while such
+    /// proofs are being written.
     pub fn proofs(&self) -> Result<Vec<File<Spec>>, String> {
         let mut proofs = Vec::new();
         for (of, known) in self.crates.iter().enumerate() {
-            let folder = format!("crates/{}/proofs", known.name);
-            for mut file in read_files(of, &folder, ".antt", antt::read)? {
+            let folder = format!("crates/{}", known.name);
+            let (_, of_functions) = split_proofs(&folder)?;
+            for mut file in read_files(of, &folder, &of_functions, antt::read)? {
                 file.scope = self.scope(&file.text.uses, &file.path)?;
                 proofs.push(file);
             }
@@ -133,16 +162,18 @@ impl Repository {
     /// What an item of a module is. What stands in no crate of crates.txt is the kit's, or generated by it.
     fn locate(&self, module: &str, item: &str) -> Result<Meaning, String> {
         let parts: Vec<&str> = module.split('.').collect();
-        let ["Rattle", name, "specs", inner @ ..] = &parts[..] else { return Ok((Target::Kit, false)) };
+        let ["Rattle", name, inner @ ..] = &parts[..] else { return Ok((Target::Kit, false)) };
         let Some(of) = self.crates.iter().position(|known| known.name == *name) else {
             return Ok((Target::Kit, false));
         };
         let found = match inner {
-            ["contracts", ..] => Some((Target::Kit, false)),
-            ["declared", path @ ..] => {
+            ["specs", "contracts", ..] => Some((Target::Kit, false)),
+            ["specs", "declared", path @ ..] => {
                 self.code_type(of, path).map(|target| (target, path.contains(&VARIANTS)))
             }
-            _ => self.spec_item(of, &inner.join("."), item),
+            ["specs", ..] | ["proofs", _] => self.spec_item(of, &inner.join("."), item),
+            // what is generated, or stands in the proof of one function
+            _ => Some((Target::Kit, false)),
         };
         found.ok_or_else(|| format!("nothing is found for `{item}` of `{module}`"))
     }
@@ -192,11 +223,11 @@ impl Repository {
         self.locate(&module, last).map(|(target, _)| Some(target))
     }
 
-    /// What of the specs a tactic in a crate's code is given, by a path such as `crate::specs::Runs::larger`.
+    /// What of antt a tactic in a crate's code is given, by a path such as `crate::specs::Runs::larger`.
     pub fn cited(&self, of: usize, path: &[String]) -> Option<Target> {
-        let [first, specs, module @ .., item] = path else { return None };
+        let [first, module @ .., item] = path else { return None };
         let other = self.crates.iter().position(|known| known.name == *first);
-        let of = if first == "crate" { Some(of) } else { other }.filter(|_| specs == "specs")?;
+        let of = if first == "crate" { Some(of) } else { other }?;
         self.spec_item(of, &module.join("."), item).map(|(target, _)| target)
     }
 
@@ -239,22 +270,25 @@ pub fn load(path: &str) -> Result<String, String> {
     fs::read_to_string(path).map_err(|e| format!("{path}: {e}"))
 }
 
-/// Reads every file below a folder whose name ends so, in the order of their paths.
+/// Reads files below a folder, by which their modules are named.
 fn read_files<T>(
     of: usize,
     folder: &str,
-    ending: &str,
+    paths: &[String],
     read: fn(&str) -> Result<T, String>,
 ) -> Result<Vec<File<T>>, String> {
-    let mut found = Vec::new();
-    for path in files(Path::new(folder), ending)? {
-        let text = read(&load(&path)?).map_err(|e| format!("{path}:{e}"))?;
-        let inner = path[folder.len() + 1..path.len() - ending.len()].replace('/', ".");
-        let is_root = ending == ".rt" && (inner == "lib" || inner == "main");
-        let module = if is_root { String::new() } else { inner };
-        found.push(File { of, path, module, text, scope: Scope::default() });
-    }
-    Ok(found)
+    let one = |path: &String| {
+        let text = read(&load(path)?).map_err(|e| format!("{path}:{e}"))?;
+        Ok(File::new(of, folder, path, text))
+    };
+    paths.iter().map(one).collect()
+}
+
+/// The files of antt in a crate's `proofs/`: those right in it, and those further down.
+fn split_proofs(of_crate: &str) -> Result<(Vec<String>, Vec<String>), String> {
+    let folder = format!("{of_crate}/proofs");
+    let paths = files(Path::new(&folder), ".antt")?;
+    Ok(paths.into_iter().partition(|path| !path[folder.len() + 1..].contains('/')))
 }
 
 /// The files below a folder whose names end so, by their paths; none, where there is no such folder.

@@ -3,8 +3,12 @@
 use crate::antt::{self, Brings, Spec};
 use crate::documents::difference;
 use crate::names::{Extent, Names};
+use crate::promises;
 use crate::rattle;
+use crate::reach::{self, Reached};
+use crate::repository::{Crate, File, Repository, Target};
 use crate::rooms::first_sentence;
+use crate::tables;
 
 /// The free names of the last definition of a text, where `ticks` is a constructor.
 fn free(text: &str, extent: Extent) -> String {
@@ -126,6 +130,99 @@ fn what_code_brings_and_cites() {
     assert_eq!(joined(&code.cited), "crate.specs.A.b d.specs.E.f");
     assert!(rattle::read("use a::{b, c::{d}};\n").is_err());
     assert!(rattle::read("struct S {\n    n: u8,\n    pub ghost low: { n < 9 },\n}\n").is_err());
+}
+
+/// A crate with a spec, with laws right in its `proofs/` that use it, and with code.
+fn small() -> Repository {
+    let antt = |path: &str, lines: &[&str]| {
+        let text = antt::read(&lines.join("\n")).expect("the text can be read");
+        File::new(0, "crates/low", path, text)
+    };
+    let graph = antt(
+        "crates/low/specs/Graph.antt",
+        &[
+            "use std.{T}",
+            "pub record Graph : T where",
+            "  pub nodes : T",
+            "abbrev pub Exact : Graph → T",
+            "Exact g = g",
+            "pub unnamed : Graph → T",
+            "unnamed g = g",
+        ],
+    );
+    let drive = antt(
+        "crates/low/proofs/Drive.antt",
+        &[
+            "use Rattle.low.specs.Graph.{Graph, Exact}",
+            "later : Graph → Graph",
+            "later g = g",
+            "module _ (g : Graph) where",
+            "  pub waiting : Exact g",
+            "  waiting = later g",
+        ],
+    );
+    let same = antt(
+        "crates/low/proofs/Same.antt",
+        &[
+            "use Rattle.low.specs.Graph.{Graph}",
+            "use Rattle.low.proofs.Drive as drive",
+            "pub same : (g : Graph) → drive.waiting g",
+            "same g = g",
+        ],
+    );
+    let code = "pub const MOST: u8 = 9;\n\npub fn walk() -> u8 {\n    'steps: for i in 0..9 {\n    }\n}\n";
+    let code = rattle::read(code).expect("it can be read");
+    let code = File::new(0, "crates/low/src", "crates/low/src/lib.rt", code);
+    let low = Crate { name: "low".to_string(), calls: Vec::new() };
+    Repository::of(vec![low], vec![graph, drive, same], vec![code]).expect("every name is found")
+}
+
+#[test]
+fn a_law_in_proofs_is_named_by_its_statement() {
+    let repository = &small();
+    let list = |page: &str| {
+        let named = promises::named_in(repository, &Reached::new(), page);
+        let reached = reach::from_named(repository, named).expect("every name is found");
+        tables::table(repository, &reached, &Reached::new())
+    };
+    let graph = "- low/specs/Graph.antt, 4 lines: `Graph`, `Exact`\n";
+    let drive = "- low/proofs/Drive.antt, 2 lines: `waiting`\n";
+    assert_eq!(list("- Waiting: `waiting`."), format!("{graph}{drive}\nTogether 6 lines.\n"));
+    // what a statement cites is read as a whole; a step that is not public is not meant by its name
+    let drive = "- low/proofs/Drive.antt, 5 lines: `later`, `waiting`\n";
+    let same = "- low/proofs/Same.antt, 1 lines: `same`\n";
+    assert_eq!(list("- `same`."), format!("{graph}{drive}{same}\nTogether 10 lines.\n"));
+    assert_eq!(list("- `later`."), "\nTogether 0 lines.\n");
+}
+
+#[test]
+fn a_law_in_proofs_has_to_be_found() {
+    let Repository { crates, mut specs, codes } = small();
+    let text = antt::read("use Rattle.low.proofs.Drive.{gone}").expect("the text can be read");
+    specs.push(File::new(0, "crates/low", "crates/low/proofs/Lost.antt", text));
+    let error = Repository::of(crates, specs, codes).err();
+    let said = "crates/low/proofs/Lost.antt: nothing is found for `gone` of `Rattle.low.proofs.Drive`";
+    assert_eq!(error.as_deref(), Some(said));
+}
+
+#[test]
+fn a_tactic_cites_a_law_in_proofs() {
+    let tactic = "#[tactic(auto, using(crate::proofs::Drive::later, low::proofs::walk::Given::a))]\n";
+    let cited = rattle::read(tactic).expect("it can be read").cited;
+    let found: Vec<_> = cited.iter().map(|path| small().cited(0, path)).collect();
+    assert_eq!(found, [Some(Target::Spec(1, 0)), None]);
+}
+
+#[test]
+fn words_that_name_nothing() {
+    let lost = |page: &str| {
+        let lost = promises::lost(&small(), page);
+        lost.iter().map(|(line, word)| format!("{line} {word}")).collect::<Vec<_>>().join(", ")
+    };
+    assert_eq!(lost("`Exact`, `waiting`, `walk`, `low`, `MOST`, `low::walk`, `'steps`, `walk g ≡ g`"), "");
+    assert_eq!(lost("`waitin`, `later`\n`high::walk`"), "1 waitin, 1 later, 2 high::walk");
+    // a field counts beside its record, in one entry of a list
+    assert_eq!(lost("- Places: `nodes`\n  of `Graph`.\n- And `nodes`."), "3 nodes");
 }
 
 #[test]

@@ -1,4 +1,4 @@
-//! The laws, definitions and rulesets of the specs that nothing cites.
+//! The laws, definitions and rulesets of the specs, and of the files right in proofs/, that nothing cites.
 
 use crate::antt::Spec;
 use crate::names::{in_contract, in_definition, Extent};
