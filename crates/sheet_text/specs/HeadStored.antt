@@ -1,6 +1,6 @@
 -- The laws by which the code of the first line meets its definitions: by the files' lengths, by the verdict,
 -- and by whether lines are read.
-use mathlib.Core.{Path.◌≡◌, Bool.Bool, Bool.true, Bool.false, Bool.cond, List.List, List.[], List.◌∷◌}
+use mathlib.Core.{Path.◌≡◌, Bool.Bool, Bool.true, Bool.false, List.List, List.[], List.◌∷◌}
 use Rattle.std.specs.Prelude.{ℕ, ◌≤◌, ◌<◌, length}
 use borrow.Author.Tests.{lt-ltb, le-ltb}
 use Rattle.file_refusals.specs.declared.Refusal.{Refusal}

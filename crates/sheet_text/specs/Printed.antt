@@ -3,8 +3,7 @@
 use mathlib.Core.{Path.◌≡◌, Path.refl, List.List, List.[]}
 use Rattle.std.specs.Prelude.{ℕ, ◌*◌, ◌≤◌}
 use Rattle.std.proofs.Common.{arith}
-use lib.{ListN.length, ListN.take, ListN.drop, Seq.sets, Seq.take-append_seam}
-use Rattle.theory_loops.specs.Stores.{stored_front}
+use lib.{ListN.length, Seq.sets}
 use Rattle.text_numbers.specs.Text.{Stored}
 use Rattle.network.specs.Limits.{most_nodes}
 

@@ -1,7 +1,7 @@
 -- What the C check tells, read off its answer: where that has five numbers, the call returns the verdict's
 -- number, and the two words behind the places come to a count of finds within wish 4's bounds
 -- (`checked_call`).
-use mathlib.Core.{Path.◌≡◌, Path.sym, Path.◌∙◌, Path.ap, List.List}
+use mathlib.Core.{Path.◌≡◌, Path.◌∙◌, Path.ap, List.List}
 use Rattle.std.specs.Prelude.{ℕ, ◌+◌, ◌*◌, ◌^◌, ◌≤◌, length, get_or}
 use native.Mathlib.Omega.{arith}
 use Rattle.std.proofs.Common.{le-ltb}

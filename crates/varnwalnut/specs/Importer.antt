@@ -7,7 +7,7 @@ use Rattle.std.proofs.Common.{arith, le-ltb}
 use Rattle.file_refusals.specs.declared.writing.Writing.{Writing}
 use Rattle.network.specs.Tables.{Tables}
 use Rattle.network_open.specs.Open.{opening, too_short}
-use Rattle.dimacs_import.specs.{Import.importing, Import.imported_file, Import.ImportCall, Imported.header_for}
+use Rattle.dimacs_import.specs.{Import.importing, Import.ImportCall, Imported.header_for}
 use Rattle.dimacs_import.specs.Promise.{Shows, OpensTo, ImportNumber, imported_opens, import_numbers}
 use Rattle.varnwalnut.specs.{Replies.ImportReply, Replies.OpenReply, Returned.returned_length}
 use Rattle.varnwalnut.specs.Room.{kept}

@@ -13,8 +13,7 @@ verdict_of-verdict-requires c =
     )
 
 pub returns : goal.returns
-returns c =
-    (
-      stands_verdict c.judge_borders-found.ensures.0 (omega (arith, c.requires.check.borders)) c.verdict_of-verdict.ensures,
-      finds_told_lem c.requires.check _ c.judge_borders-found.ensures.1 c.judge_borders-found.ensures.0.low c.judge_borders-found.ensures.0.high c.verdict_of-verdict.ensures,
-    )
+returns c = (
+  stands_verdict c.judge_borders-found.ensures.0 (omega (arith, c.requires.check.borders)) c.verdict_of-verdict.ensures,
+  finds_told_lem c.requires.check _ c.judge_borders-found.ensures.1 c.judge_borders-found.ensures.0.low c.judge_borders-found.ensures.0.high c.verdict_of-verdict.ensures,
+)

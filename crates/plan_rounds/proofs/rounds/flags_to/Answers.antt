@@ -16,32 +16,31 @@ least_travels-requires-clause-ready c = (c.requires.tables.ready, c.requires.tab
 
 pub least_travels-requires-clause-b_lt_nodes : goal.least_travels-requires-clause-b_lt_nodes
 least_travels-requires-clause-b_lt_nodes c = (
-        border_node c.requires.tables c.requires.i_bound.0 c.wide-b.ensures.0,
-        c.requires.i_bound.1,
-        c.requires.i_bound.2,
-        refl,
-        refl,
-      )
+  border_node c.requires.tables c.requires.i_bound.0 c.wide-b.ensures.0,
+  c.requires.i_bound.1,
+  c.requires.i_bound.2,
+  refl,
+  refl,
+)
 
 pub flag_border-requires-clause-primed : goal.flag_border-requires-clause-primed
 flag_border-requires-clause-primed c = (c.requires.tables.ready.primed, c.requires.tables.leasts)
 
 pub flag_border-requires-clause-b_lt_nodes : goal.flag_border-requires-clause-b_lt_nodes
 flag_border-requires-clause-b_lt_nodes c = (
-          border_node c.requires.tables c.requires.i_bound.0 c.wide-b.ensures.0,
-          omega (arith, c.requires.i_bound.1),
-          omega (arith, c.least_travels.ensures.2, c.requires.i_bound.2),
-          c.requires.i_bound.3,
-        )
+  border_node c.requires.tables c.requires.i_bound.0 c.wide-b.ensures.0,
+  omega (arith, c.requires.i_bound.1),
+  omega (arith, c.least_travels.ensures.2, c.requires.i_bound.2),
+  c.requires.i_bound.3,
+)
 
 pub flag_border-requires-clause-worked : goal.flag_border-requires-clause-worked
 flag_border-requires-clause-worked c = (c.least_travels.ensures.0, c.least_travels.ensures.1)
 
 pub returns : goal.returns
-returns c =
-    (
-      border_aimed c.requires.tables c.requires.i_bound.0 c.wide-b.ensures.0 c.least_travels.ensures.0,
-      c.flag_border.ensures.0,
-      omega arith,
-      c.flag_border.ensures.1 ∙ c.least_travels.ensures.2,
-    )
+returns c = (
+  border_aimed c.requires.tables c.requires.i_bound.0 c.wide-b.ensures.0 c.least_travels.ensures.0,
+  c.flag_border.ensures.0,
+  omega arith,
+  c.flag_border.ensures.1 ∙ c.least_travels.ensures.2,
+)

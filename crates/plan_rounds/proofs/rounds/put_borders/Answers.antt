@@ -7,25 +7,24 @@ use borrow.Author.Rules.{rules}
 use Rattle.plan_rounds.proofs.rounds.put_borders.Goals as goal
 
 pub loop-i-init : goal.loop-i-init
-loop-i-init c =
-    (
-      search rules,
-      refl,
-      counted_none c.args.file.now,
-      put_none c.requires.tables.ready.primed.town c.requires.held.0 c.requires.work_len.1,
-      c.requires.tables.ready.primed.town.small.period_most,
-    )
+loop-i-init c = (
+  search rules,
+  refl,
+  counted_none c.args.file.now,
+  put_none c.requires.tables.ready.primed.town c.requires.held.0 c.requires.work_len.1,
+  c.requires.tables.ready.primed.town.small.period_most,
+)
 
 pub flags_to-requires-clause-tables : goal.flags_to-requires-clause-tables
 flags_to-requires-clause-tables c = c.requires.tables
 
 pub flags_to-requires-clause-i_bound : goal.flags_to-requires-clause-i_bound
 flags_to-requires-clause-i_bound c = (
-        listed c.requires.tables.ready.primed.town c.requires.held.0 c.loop-i-test.true,
-        c.loop-i.invariant.1 ∙ c.requires.work_len.0,
-        c.loop-i.invariant.4,
-        omega (arith, c.loop-i.invariant.3.flags.long, c.requires.tables.ready.primed.town.sizes.arcs),
-      )
+  listed c.requires.tables.ready.primed.town c.requires.held.0 c.loop-i-test.true,
+  c.loop-i.invariant.1 ∙ c.requires.work_len.0,
+  c.loop-i.invariant.4,
+  omega (arith, c.loop-i.invariant.3.flags.long, c.requires.tables.ready.primed.town.sizes.arcs),
+)
 
 pub overflow_mul-i : goal.overflow_mul-i
 overflow_mul-i c =

@@ -16,18 +16,17 @@ least_travels-requires-clause-ready c = (c.requires.tables.ready, c.requires.tab
 
 pub least_travels-requires-clause-b_lt_nodes : goal.least_travels-requires-clause-b_lt_nodes
 least_travels-requires-clause-b_lt_nodes c = (
-        border_node c.requires.tables c.requires.i_bound.0 c.wide-b.ensures.0,
-        c.requires.i_bound.1,
-        c.requires.i_bound.2,
-        refl,
-        refl,
-      )
+  border_node c.requires.tables c.requires.i_bound.0 c.wide-b.ensures.0,
+  c.requires.i_bound.1,
+  c.requires.i_bound.2,
+  refl,
+  refl,
+)
 
 pub returns : goal.returns
-returns c =
-    (
-      border_aimed c.requires.tables c.requires.i_bound.0 c.wide-b.ensures.0
-          c.least_travels.ensures.0,
-      omega arith,
-      c.least_travels.ensures.2,
-    )
+returns c = (
+  border_aimed c.requires.tables c.requires.i_bound.0 c.wide-b.ensures.0
+      c.least_travels.ensures.0,
+  omega arith,
+  c.least_travels.ensures.2,
+)

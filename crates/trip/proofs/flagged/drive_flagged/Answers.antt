@@ -24,7 +24,7 @@ visit_over-requires-clause-arcs_in_bounds c = search flags
 
 pub returns-clause-trip : goal.returns-clause-trip
 returns-clause-trip c = flagged_driven c.requires.valid_file c.requires.valid_plan _ _ _ _ _ c.cell-c.ensures.0 c.layout-2.ensures
-          c.fill_mask.ensures _ _ _ _ _ _ _ c.visit_over.ensures.trip
+    c.fill_mask.ensures _ _ _ _ _ _ _ c.visit_over.ensures.trip
 
 pub returns-clause-opens : goal.returns-clause-opens
 returns-clause-opens c = c.visit_over.ensures.opens

@@ -1,0 +1,72 @@
+-- `plan_make::make::make_listed` meets its contract.
+use mathlib.Core.Path.{refl}
+use native.Mathlib.Omega.{arith}
+use Rattle.network.specs.Decode.{decode}
+use Rattle.search_chains.specs.Town.{fresh_tables}
+use Rattle.toward_list.specs.Work.{valid_town, primed_of}
+use Rattle.plan_make.specs.Making.{tables_of_lem, counted_over, into_many}
+use Rattle.plan_make.proofs.make.make_listed.Goals as goal
+
+pub first_points-requires-clause-town : goal.first_points-requires-clause-town
+first_points-requires-clause-town c = let town = valid_town c.requires.valid_file.0 c.requires.valid_file.2 in
+    town
+
+pub first_points-requires-clause-arcs_in_bounds : goal.first_points-requires-clause-arcs_in_bounds
+first_points-requires-clause-arcs_in_bounds c = let town = valid_town c.requires.valid_file.0 c.requires.valid_file.2 in
+    town.small.arcs_most
+
+pub chain-requires-clause-town : goal.chain-requires-clause-town
+chain-requires-clause-town c = let town = valid_town c.requires.valid_file.0 c.requires.valid_file.2 in
+    town
+
+pub chain-requires-clause-unchained : goal.chain-requires-clause-unchained
+chain-requires-clause-unchained c = let town = valid_town c.requires.valid_file.0 c.requires.valid_file.2 in
+    fresh_tables town
+
+pub least_of_arcs-requires-clause-primed : goal.least_of_arcs-requires-clause-primed
+least_of_arcs-requires-clause-primed c = let town = valid_town c.requires.valid_file.0 c.requires.valid_file.2 in primed_of town c.first_points.ensures
+
+pub least_of_arcs-requires-clause-arcs_in_bounds : goal.least_of_arcs-requires-clause-arcs_in_bounds
+least_of_arcs-requires-clause-arcs_in_bounds c = let town = valid_town c.requires.valid_file.0 c.requires.valid_file.2 in town.small.arcs_most
+
+pub list_borders-count-requires-clause-laid : goal.list_borders-count-requires-clause-laid
+list_borders-count-requires-clause-laid c = let town = valid_town c.requires.valid_file.0 c.requires.valid_file.2 in
+    town.laid
+
+pub list_borders-count-requires-clause-sound_network : goal.list_borders-count-requires-clause-sound_network
+list_borders-count-requires-clause-sound_network c = let town = valid_town c.requires.valid_file.0 c.requires.valid_file.2 in
+    town.sound
+
+pub list_borders-count-requires-clause-out_len : goal.list_borders-count-requires-clause-out_len
+list_borders-count-requires-clause-out_len c = let town = valid_town c.requires.valid_file.0 c.requires.valid_file.2 in
+    refl
+
+pub count_points-points-requires-clause-tables : goal.count_points-points-requires-clause-tables
+count_points-points-requires-clause-tables c = tables_of_lem (valid_town c.requires.valid_file.0 c.requires.valid_file.2) _ c.first_points.ensures
+    c.chain.ensures c.least_of_arcs.ensures
+    c.list_borders-count.ensures.1
+
+pub count_points-points-requires-clause-count_value : goal.count_points-points-requires-clause-count_value
+count_points-points-requires-clause-count_value c = (c.list_borders-count.ensures.0, c.requires.work_len)
+
+pub returns-then-points-gt-MOST_POINTS : goal.returns-then-points-gt-MOST_POINTS
+returns-then-points-gt-MOST_POINTS c =
+    into_many (decode c.args.file.now) c.args.out.now _
+    (counted_over (decode c.args.file.now) c.count_points-points.ensures
+    c.if-points-gt-MOST_POINTS.true) c.unwritten.ensures
+
+pub make_counted-requires-clause-valid_file : goal.make_counted-requires-clause-valid_file
+make_counted-requires-clause-valid_file c = (c.requires.valid_file.0, c.requires.valid_file.1)
+
+pub make_counted-requires-clause-tables : goal.make_counted-requires-clause-tables
+make_counted-requires-clause-tables c = tables_of_lem (valid_town c.requires.valid_file.0 c.requires.valid_file.2) _ c.first_points.ensures c.chain.ensures c.least_of_arcs.ensures
+    c.list_borders-count.ensures.1
+
+pub make_counted-requires-clause-count_value : goal.make_counted-requires-clause-count_value
+make_counted-requires-clause-count_value c = (
+  c.list_borders-count.ensures.0,
+  c.count_points-points.ensures,
+  c.if-points-gt-MOST_POINTS.false,
+  omega
+      arith,
+)

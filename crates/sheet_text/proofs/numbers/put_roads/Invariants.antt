@@ -1,0 +1,12 @@
+-- `sheet_text::numbers::put_roads` meets its contract.
+use mathlib.Core.Path.{◌≡◌}
+use Prim.Native.Nat.{◌+◌, ◌*◌, ◌≤◌}
+use lib.ListN.{length, take}
+use Rattle.text_numbers.specs.Text.{Stored}
+use Rattle.sheet_text.specs.Numbers.{spaced}
+use Rattle.sheet_text.proofs.numbers.put_roads.Given as goal
+
+abbrev pub invariant-loop-i : goal.invariant-loop-i
+invariant-loop-i l =
+    (l.i ≤ l.count) × (length l.out ≡ length l.initial.out) × (l.next ≤ l.at + 6 * l.i)
+    × Stored l.initial.out l.out l.at l.next (spaced (take l.i l.roads))
