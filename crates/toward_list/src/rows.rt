@@ -149,7 +149,8 @@ pub fn show_rows(l: Layout, from: usize, to: usize, room: &[u32; MOST_NODES], wo
     ensures { Shown l.period from to room.now work.old work.new }
 {
     for u in from..to {
-        if room[u] == 0 {
+        let bare = room[u] == 0;
+        if bare {
             fill_row(l, u, NEVER, work);
         }
     }

@@ -39,7 +39,7 @@ write_plan-requires-clause-plan_writable c = let h = header_made c.requires.vali
     is = c.layout-k.ensures;
     within = header_within c.requires.valid_file.0 c.requires.count_value.0 c.requires.count_value.1 c.requires.count_value.2;
     number_fits = c.requires.valid_file.1;
-    whole = c.if-out-long.false;
+    whole = omega arith;
   },
   h,
   c.requires.count_value.3,

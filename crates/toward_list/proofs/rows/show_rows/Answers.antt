@@ -6,7 +6,7 @@ use Rattle.toward_list.specs.Places.{row_within}
 use Rattle.toward_list.specs.Seen.{shown_none, shown_some, shown_bare, shown_end}
 use borrow.Author.Rules.{rules}
 use Rattle.toward_list.proofs.rows.show_rows.Goals as goal
-use Rattle.toward_list.proofs.rows.show_rows.Goals.{then-room-u-eq0, else-room-u-eq0}
+use Rattle.toward_list.proofs.rows.show_rows.Goals.{then-bare, else-bare}
 
 pub loop-u-init : goal.loop-u-init
 loop-u-init c = (search rules, search rules, shown_none _ _ _ _)
@@ -18,10 +18,10 @@ loop-u-preserved c =
     omega (arith, row_within c.requires.small h, c.requires.from_le_to.2) in (
       search rules,
       search rules,
-      elim c.if-room-u-eq0.branch [
-        | then-room-u-eq0 w ↦
-            rw w.work-is (shown_bare _ _ _ _ _ c.loop-u.invariant.2 fits w.if-room-u-eq0.true w.fill_row.ensures)
-        | else-room-u-eq0 w ↦ rw w.work-is (shown_some _ _ _ _ _ c.loop-u.invariant.2 w.if-room-u-eq0.false)
+      elim c.if-bare.branch [
+        | then-bare w ↦
+            rw w.work-is (shown_bare _ _ _ _ _ c.loop-u.invariant.2 fits w.if-bare.true w.fill_row.ensures)
+        | else-bare w ↦ rw w.work-is (shown_some _ _ _ _ _ c.loop-u.invariant.2 w.if-bare.false)
       ],
     )
 
