@@ -71,7 +71,8 @@ fn list_day(
 {
     travels_to(file, l, from, to, work);
     let p = row_place(l, from);
-    if work[p] == NEVER {
+    let never = work[p] == NEVER;
+    if never {
         return unlisted(NO_WAY);
     }
     put_arrivals(l.period, p, work, list);

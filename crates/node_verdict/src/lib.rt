@@ -111,7 +111,8 @@ fn judge_blank(
     ensures { Lowest (partition_of (decode network.now)) (decode_plan plan.now)
         i node l.network.period 25 result marks.new }
 {
-    if is_ahead(network, plan, l, first, next, i, node) {
+    let ahead = is_ahead(network, plan, l, first, next, i, node);
+    if ahead {
         fill(marks, 0, l.network.period, UNDERCUT);
         return number::CHECK_LESS;
     }

@@ -30,7 +30,8 @@ fn has_high_bit(word: u64, cells: usize) -> bool
     requires { cells ≤ most_cells }
     ensures { result ≡ leb (2 ^ cells) word }
 {
-    if MOST_CELLS <= cells {
+    let full = MOST_CELLS <= cells;
+    if full {
         return false;
     }
     word >> cells != 0

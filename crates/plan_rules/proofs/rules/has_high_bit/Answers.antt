@@ -3,8 +3,8 @@
 use Rattle.plan.specs.PlanRules.{no_high, high_shift}
 use Rattle.plan_rules.proofs.rules.has_high_bit.Goals as goal
 
-pub returns-then-cells-ge-MOST_CELLS : goal.returns-then-cells-ge-MOST_CELLS
-returns-then-cells-ge-MOST_CELLS c = no_high _ _ c.if-cells-ge-MOST_CELLS.true c.requires c.ranges.word.fits
+pub returns-then-full : goal.returns-then-full
+returns-then-full c = no_high _ _ c.if-full.true c.requires c.ranges.word.fits
 
 pub returns : goal.returns
 returns c = high_shift c.args.cells c.args.word
