@@ -21,10 +21,21 @@ pub sweep-p-requires-clause-no_in_bounds : goal.sweep-p-requires-clause-no_in_bo
 sweep-p-requires-clause-no_in_bounds c = c.requires.no_in_bounds
 
 pub sweep-p-requires-clause-short : goal.sweep-p-requires-clause-short
-sweep-p-requires-clause-short c = (c.requires.short, c.requires.period_nonzero.1, omega (arith, c.loop-p.invariant.4.long, c.requires.period_nonzero.2))
+sweep-p-requires-clause-short c = (
+  c.requires.short,
+  c.requires.period_nonzero.1,
+  omega
+      (arith, c.loop-p.invariant.4.long, c.requires.period_nonzero.2),
+)
 
 pub sweep-p-requires-clause-t_lt_period : goal.sweep-p-requires-clause-t_lt_period
-sweep-p-requires-clause-t_lt_period c = (c.loop-p-test.true, c.loop-p.invariant.1 c.loop-p-test.true, c.loop-p.invariant.2 c.loop-p-test.true, c.loop-p.invariant.3, c.loop-p.invariant.4.order)
+sweep-p-requires-clause-t_lt_period c = (
+  c.loop-p-test.true,
+  c.loop-p.invariant.1 c.loop-p-test.true,
+  c.loop-p.invariant.2 c.loop-p-test.true,
+  c.loop-p.invariant.3,
+  c.loop-p.invariant.4.order,
+)
 
 pub next-k-requires-clause-listed : goal.next-k-requires-clause-listed
 next-k-requires-clause-listed c = c.requires.listed.1

@@ -6,8 +6,10 @@ use Rattle.day_merge.proofs.merge.Given as goal
 
 abbrev pub invariant-loop-p : goal.invariant-loop-p
 invariant-loop-p l =
-    (l.p.t ≤ l.period) × (l.p.t < l.period → At l.so l.no l.p.i l.p.t) × (l.p.t < l.period → At l.sa l.na l.k l.p.t)
-    × (l.p.j ≤ l.nh) × Walked l.so l.vo l.sa l.va l.sh l.vh l.no l.na l.nh l.period l.same l.p.since l.p.t l.p.held l.initial.marks l.marks
+    (l.p.t ≤ l.period) × (l.p.t < l.period → At l.so l.no l.p.i l.p.t) × (l.p.t < l.period → At l.sa l.na
+    l.k l.p.t)
+    × (l.p.j ≤ l.nh) × Walked l.so l.vo l.sa l.va l.sh l.vh l.no l.na l.nh l.period l.same l.p.since l.p.t
+    l.p.held l.initial.marks l.marks
 
 abbrev pub decreases-loop-p : goal.decreases-loop-p
 decreases-loop-p l =

@@ -7,20 +7,23 @@ use Rattle.node_bare.specs.Ahead.{ahead_elsewhere, ahead_not, ahead_found, ahead
 use Rattle.node_bare.proofs.is_ahead.Goals as goal
 
 pub loop-a-init : goal.loop-a-init
-loop-a-init c = walk_first _ c.requires.chained (ahead_elsewhere _ _ _ _) c.requires.i_lt_borders.1 c.wide-a.ensures.0
+loop-a-init c = walk_first _ c.requires.chained (ahead_elsewhere _ _ _ _) c.requires.i_lt_borders.1
+    c.wide-a.ensures.0
 
 pub overflow_mul-i : goal.overflow_mul-i
-overflow_mul-i c = product_fits c.requires.checkable.formed c.requires.i_lt_borders.0 (head_in c.requires.checkable c.loop-a-test.true c.head-head.ensures.0)
+overflow_mul-i c = product_fits c.requires.checkable.formed c.requires.i_lt_borders.0
+    (head_in c.requires.checkable c.loop-a-test.true c.head-head.ensures.0)
 
 pub overflow_add-i : goal.overflow_add-i
-overflow_add-i c = number_fits c.requires.checkable.formed c.requires.i_lt_borders.0 (head_in c.requires.checkable c.loop-a-test.true c.head-head.ensures.0)
+overflow_add-i c = number_fits c.requires.checkable.formed c.requires.i_lt_borders.0
+    (head_in c.requires.checkable c.loop-a-test.true c.head-head.ensures.0)
 
 pub point_count-requires-clause-plan_laid : goal.point_count-requires-clause-plan_laid
-point_count-requires-clause-plan_laid c = let h = head_in c.requires.checkable c.loop-a-test.true c.head-head.ensures.0 in
-    c.requires.checkable.formed.laid
+point_count-requires-clause-plan_laid c = c.requires.checkable.formed.laid
 
 pub point_count-requires-clause-k_lt_profiles : goal.point_count-requires-clause-k_lt_profiles
-point_count-requires-clause-k_lt_profiles c = let h = head_in c.requires.checkable c.loop-a-test.true c.head-head.ensures.0 in
+point_count-requires-clause-k_lt_profiles c =
+    let h = head_in c.requires.checkable c.loop-a-test.true c.head-head.ensures.0 in
     profile_in c.requires.checkable.formed _ _ c.requires.i_lt_borders.0 h
 
 pub returns-then-point_count-ne0 : goal.returns-then-point_count-ne0
@@ -47,7 +50,8 @@ loop-a-smaller c = walk_less c.loop-a.invariant c.loop-a-test.true _ c.wide-a-in
 
 pub loop-a-preserved : goal.loop-a-preserved
 loop-a-preserved c = walk_next c.loop-a.invariant c.loop-a-test.true _ c.wide-a-in-loop-a.ensures.0
-    (ahead_not c.requires.checkable _ _ _ _ _ (c.loop-a.invariant.here c.loop-a-test.true) c.head-head.ensures.0
+    (ahead_not c.requires.checkable _ _ _ _ _ (c.loop-a.invariant.here c.loop-a-test.true)
+    c.head-head.ensures.0
     c.point_count.ensures.0
     c.if-point_count-ne0.false)
 

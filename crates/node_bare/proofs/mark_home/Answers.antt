@@ -16,7 +16,8 @@ pub point_count-requires-clause-plan_laid : goal.point_count-requires-clause-pla
 point_count-requires-clause-plan_laid c = c.requires.formed.laid
 
 pub point_count-requires-clause-k_lt_profiles : goal.point_count-requires-clause-k_lt_profiles
-point_count-requires-clause-k_lt_profiles c = profile_in c.requires.formed _ _ c.requires.i_lt_borders.0 c.requires.i_lt_borders.1
+point_count-requires-clause-k_lt_profiles c = profile_in c.requires.formed _ _ c.requires.i_lt_borders.0
+    c.requires.i_lt_borders.1
 
 pub returns-then-point_count-eq0 : goal.returns-then-point_count-eq0
 returns-then-point_count-eq0 c = let z = sym c.point_count.ensures.0 ∙ c.if-point_count-eq0.true in
@@ -50,8 +51,18 @@ mark_runs-requires-clause-grid c = c.fill_profile-n.ensures.0.grid
 
 pub mark_runs-requires-clause-n_in_bounds : goal.mark_runs-requires-clause-n_in_bounds
 mark_runs-requires-clause-n_in_bounds c = (
-  omega (arith, runs_few c.fill_profile-n.ensures.0.grid, c.fill_profile-n.auto.starts, c.requires.space.0.in_s),
-  omega (arith, runs_few c.fill_profile-n.ensures.0.grid, c.fill_profile-n.auto.values, c.requires.space.0.in_v),
+  omega (
+    arith,
+    runs_few c.fill_profile-n.ensures.0.grid,
+    c.fill_profile-n.auto.starts,
+    c.requires.space.0.in_s,
+  ),
+  omega (
+    arith,
+    runs_few c.fill_profile-n.ensures.0.grid,
+    c.fill_profile-n.auto.values,
+    c.requires.space.0.in_v,
+  ),
   c.requires.space.1,
 )
 

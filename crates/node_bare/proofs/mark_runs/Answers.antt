@@ -18,7 +18,12 @@ fill-requires c = (
     c.wide-in-loop-k.ensures.0,
     c.requires.grid.rise c.loop-k.k c.loop-k-test.true,
   ),
-  omega (arith, c.wide-in-loop-k.ensures.0, starts_within c.requires.grid (c.loop-k.k + 1) (omega arith), c.loop-k.invariant.1),
+  omega (
+    arith,
+    c.wide-in-loop-k.ensures.0,
+    starts_within c.requires.grid (c.loop-k.k + 1) (omega arith),
+    c.loop-k.invariant.1,
+  ),
 )
 
 pub loop-k-preserved : goal.loop-k-preserved

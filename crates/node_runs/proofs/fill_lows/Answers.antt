@@ -13,7 +13,8 @@ pub loop-u-preserved : goal.loop-u-preserved
 loop-u-preserved c = (
   search rules,
   length-set c.loop-u.lows c.loop-u.u _ ∙ c.loop-u.invariant.1,
-  lows_more _ _ c.loop-u.invariant.2 (omega (arith, c.loop-u.invariant.1, c.requires.i_lt_borders.1)) c.low_value.ensures,
+  lows_more _ _ c.loop-u.invariant.2 (omega (arith, c.loop-u.invariant.1, c.requires.i_lt_borders.1))
+      c.low_value.ensures,
 )
 
 pub returns : goal.returns

@@ -13,7 +13,11 @@ pub look-to-requires-clause-briefs : goal.look-to-requires-clause-briefs
 look-to-requires-clause-briefs c = c.requires.briefs
 
 pub look-to-requires-clause-arc_lt_arcs : goal.look-to-requires-clause-arc_lt_arcs
-look-to-requires-clause-arc_lt_arcs c = (c.requires.arc_lt_arcs.0, c.requires.prepared.number, c.requires.prepared.aimed.flag)
+look-to-requires-clause-arc_lt_arcs c = (
+  c.requires.arc_lt_arcs.0,
+  c.requires.prepared.number,
+  c.requires.prepared.aimed.flag,
+)
 
 pub look-to-requires-clause-topped : goal.look-to-requires-clause-topped
 look-to-requires-clause-topped c = c.requires.arc_lt_arcs.1.topped
@@ -22,54 +26,73 @@ pub returns-then-to-eq0 : goal.returns-then-to-eq0
 returns-then-to-eq0 c = (c.look-to.ensures.passed c.if-to-eq0.true _, counted_none _ _)
 
 pub fill_runs-na-requires-clause-town : goal.fill_runs-na-requires-clause-town
-fill_runs-na-requires-clause-town c = let k = c.look-to.ensures.met c.if-to-eq0.false in c.requires.prepared.check.town
+fill_runs-na-requires-clause-town c = c.requires.prepared.check.town
 
 pub fill_runs-na-requires-clause-arc_lt_arcs : goal.fill_runs-na-requires-clause-arc_lt_arcs
-fill_runs-na-requires-clause-arc_lt_arcs c = let k = c.look-to.ensures.met c.if-to-eq0.false in (c.requires.arc_lt_arcs.0, c.requires.prepared.first _ c.requires.arc_lt_arcs.0)
+fill_runs-na-requires-clause-arc_lt_arcs c = (
+  c.requires.arc_lt_arcs.0,
+  c.requires.prepared.first _
+      c.requires.arc_lt_arcs.0,
+)
 
 pub fill_runs-na-requires-clause-brief : goal.fill_runs-na-requires-clause-brief
 fill_runs-na-requires-clause-brief c = let k = c.look-to.ensures.met c.if-to-eq0.false in k.brief
 
 pub fill_runs-na-requires-clause-space : goal.fill_runs-na-requires-clause-space
-fill_runs-na-requires-clause-space c = let k = c.look-to.ensures.met c.if-to-eq0.false in (arc_space c.requires.prepared.check c.requires.rooms, c.requires.rooms.arc_v)
+fill_runs-na-requires-clause-space c = (
+  arc_space c.requires.prepared.check c.requires.rooms,
+  c.requires.rooms.arc_v,
+)
 
 pub fill_runs-na-requires-clause-arc_bound : goal.fill_runs-na-requires-clause-arc_bound
-fill_runs-na-requires-clause-arc_bound c = let k = c.look-to.ensures.met c.if-to-eq0.false in arc_fits c.requires.prepared _ _ c.requires.arc_bound
+fill_runs-na-requires-clause-arc_bound c = arc_fits c.requires.prepared _ _ c.requires.arc_bound
 
 pub fill_profile-nh-requires-clause-formed : goal.fill_profile-nh-requires-clause-formed
-fill_profile-nh-requires-clause-formed c = let k = c.look-to.ensures.met c.if-to-eq0.false in c.requires.prepared.check.formed
+fill_profile-nh-requires-clause-formed c = c.requires.prepared.check.formed
 
 pub fill_profile-nh-requires-clause-started : goal.fill_profile-nh-requires-clause-started
-fill_profile-nh-requires-clause-started c = let k = c.look-to.ensures.met c.if-to-eq0.false in c.requires.prepared.started
+fill_profile-nh-requires-clause-started c = c.requires.prepared.started
 
 pub fill_profile-nh-requires-clause-i_lt_borders : goal.fill_profile-nh-requires-clause-i_lt_borders
-fill_profile-nh-requires-clause-i_lt_borders c = let k = c.look-to.ensures.met c.if-to-eq0.false in (c.requires.prepared.number, head_in c.requires.prepared.check c.requires.arc_lt_arcs.0 k.head, k.some)
+fill_profile-nh-requires-clause-i_lt_borders c =
+    let k = c.look-to.ensures.met c.if-to-eq0.false in
+    (c.requires.prepared.number, head_in c.requires.prepared.check c.requires.arc_lt_arcs.0 k.head, k.some)
 
 pub fill_profile-nh-requires-clause-space : goal.fill_profile-nh-requires-clause-space
-fill_profile-nh-requires-clause-space c = let k = c.look-to.ensures.met c.if-to-eq0.false in head_space c.requires.prepared.check c.requires.rooms c.fill_runs-na.auto.values
+fill_profile-nh-requires-clause-space c = head_space c.requires.prepared.check c.requires.rooms
+    c.fill_runs-na.auto.values
 
 pub fill_profile-nh-requires-clause-u_bound : goal.fill_profile-nh-requires-clause-u_bound
-fill_profile-nh-requires-clause-u_bound c = let k = c.look-to.ensures.met c.if-to-eq0.false in head_fits c.requires.prepared _ _ _ k.head c.fill_runs-na.ensures.3 c.requires.arc_bound
+fill_profile-nh-requires-clause-u_bound c =
+    let k = c.look-to.ensures.met c.if-to-eq0.false in
+    head_fits c.requires.prepared _ _ _ k.head c.fill_runs-na.ensures.3 c.requires.arc_bound
 
 pub merge-requires-clause-listed : goal.merge-requires-clause-listed
-merge-requires-clause-listed c = let h = grid_here c.requires.prepared.check c.fill_profile-nh.ensures.0.grid in (
-  listed c.requires.arc_lt_arcs.1.runs.grid refl c.requires.arc_lt_arcs.1.in_s,
-  listed c.fill_runs-na.ensures.0.grid c.fill_runs-na.auto.starts c.requires.rooms.arc_s,
-  listed h c.fill_profile-nh.auto.starts c.requires.rooms.head_s,
-)
+merge-requires-clause-listed c =
+    let h = grid_here c.requires.prepared.check c.fill_profile-nh.ensures.0.grid in (
+      listed c.requires.arc_lt_arcs.1.runs.grid refl c.requires.arc_lt_arcs.1.in_s,
+      listed c.fill_runs-na.ensures.0.grid c.fill_runs-na.auto.starts c.requires.rooms.arc_s,
+      listed h c.fill_profile-nh.auto.starts c.requires.rooms.head_s,
+    )
 
 pub merge-requires-clause-no_in_bounds : goal.merge-requires-clause-no_in_bounds
-merge-requires-clause-no_in_bounds c = let h = grid_here c.requires.prepared.check c.fill_profile-nh.ensures.0.grid in (
-  few c.requires.arc_lt_arcs.1.runs.grid refl c.requires.arc_lt_arcs.1.in_v,
-  few c.fill_runs-na.ensures.0.grid c.fill_runs-na.auto.travels c.requires.rooms.arc_v,
-  few h (c.fill_profile-nh.auto.values ∙ c.fill_runs-na.auto.values) c.requires.rooms.head_v,
-)
+merge-requires-clause-no_in_bounds c =
+    let h = grid_here c.requires.prepared.check c.fill_profile-nh.ensures.0.grid in (
+      few c.requires.arc_lt_arcs.1.runs.grid refl c.requires.arc_lt_arcs.1.in_v,
+      few c.fill_runs-na.ensures.0.grid c.fill_runs-na.auto.travels c.requires.rooms.arc_v,
+      few h (c.fill_profile-nh.auto.values ∙ c.fill_runs-na.auto.values) c.requires.rooms.head_v,
+    )
 
 pub merge-requires-clause-short : goal.merge-requires-clause-short
-merge-requires-clause-short c = let h = grid_here c.requires.prepared.check c.fill_profile-nh.ensures.0.grid in c.fill_runs-na.ensures.1
+merge-requires-clause-short c = c.fill_runs-na.ensures.1
 
 pub merge-requires-clause-period_nonzero : goal.merge-requires-clause-period_nonzero
-merge-requires-clause-period_nonzero c = let h = grid_here c.requires.prepared.check c.fill_profile-nh.ensures.0.grid in (c.requires.prepared.check.town.small.period_some, period_fits c.requires.prepared.check, c.requires.rooms.bytes)
+merge-requires-clause-period_nonzero c = (
+  c.requires.prepared.check.town.small.period_some,
+  period_fits
+      c.requires.prepared.check,
+  c.requires.rooms.bytes,
+)
 
 pub shape_of-sa : goal.shape_of-sa
 shape_of-sa c = c.fill_runs-na.auto.starts
@@ -90,7 +113,10 @@ shape_of-marks c = c.merge.auto.marks
 pub returns : goal.returns
 returns c =
     let k = c.look-to.ensures.met c.if-to-eq0.false in (
-      met_merged c.requires.prepared.check c.args.target _ _ k.head c.requires.arc_lt_arcs.1.topped.some k.some _ _ _
-          k.same c.merge.ensures c.requires.arc_lt_arcs.1.runs c.fill_runs-na.ensures.0 c.fill_profile-nh.ensures.0,
-      met_finds c.requires.prepared _ k.head c.fill_runs-na.ensures.2 c.fill_runs-na.ensures.3 c.fill_profile-nh.ensures.1,
+      met_merged c.requires.prepared.check c.args.target _ _ k.head c.requires.arc_lt_arcs.1.topped.some
+          k.some _ _ _
+          k.same c.merge.ensures c.requires.arc_lt_arcs.1.runs c.fill_runs-na.ensures.0
+          c.fill_profile-nh.ensures.0,
+      met_finds c.requires.prepared _ k.head c.fill_runs-na.ensures.2 c.fill_runs-na.ensures.3
+          c.fill_profile-nh.ensures.1,
     )

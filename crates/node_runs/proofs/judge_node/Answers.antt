@@ -15,10 +15,20 @@ pub open_node-own-requires-clause-started : goal.open_node-own-requires-clause-s
 open_node-own-requires-clause-started c = c.requires.at_border.prepared.started
 
 pub open_node-own-requires-clause-i_lt_borders : goal.open_node-own-requires-clause-i_lt_borders
-open_node-own-requires-clause-i_lt_borders c = (c.requires.at_border.prepared.number, node_in c.requires.at_border.prepared.check c.requires.node_lt_nodes.0, c.requires.node_lt_nodes.1)
+open_node-own-requires-clause-i_lt_borders c = (
+  c.requires.at_border.prepared.number,
+  node_in
+      c.requires.at_border.prepared.check c.requires.node_lt_nodes.0,
+  c.requires.node_lt_nodes.1,
+)
 
 pub open_node-own-requires-clause-space : goal.open_node-own-requires-clause-space
-open_node-own-requires-clause-space c = (own_space c.requires.at_border.prepared.check c.requires.period_in_bounds.0 c.requires.period_in_bounds.1, period_in c.requires.at_border.prepared.check c.requires.rooms.bytes)
+open_node-own-requires-clause-space c = (
+  own_space c.requires.at_border.prepared.check
+      c.requires.period_in_bounds.0 c.requires.period_in_bounds.1,
+  period_in
+      c.requires.at_border.prepared.check c.requires.rooms.bytes,
+)
 
 pub open_node-own-requires-clause-u_bound : goal.open_node-own-requires-clause-u_bound
 open_node-own-requires-clause-u_bound c = node_fits c.requires.at_border.prepared _ _ c.requires.node_bound
@@ -34,7 +44,8 @@ bounds-first-node c =
 pub loop-a-init : goal.loop-a-init
 loop-a-init c = (
   record { arc_s = refl; arc_v = refl; head_s = refl; head_v = refl; bytes = refl },
-  judge_first c.requires.at_border.prepared.check.town c.requires.at_border.chained c.requires.node_lt_nodes.0 c.wide-a.ensures.0
+  judge_first c.requires.at_border.prepared.check.town c.requires.at_border.chained
+      c.requires.node_lt_nodes.0 c.wide-a.ensures.0
       (blank_here c.requires.at_border.prepared.check c.open_node-own.ensures.1).none,
   counted_none _ _,
 )
@@ -49,15 +60,19 @@ pub judge_arc-requires-clause-arc_lt_arcs : goal.judge_arc-requires-clause-arc_l
 judge_arc-requires-clause-arc_lt_arcs c = (
   c.loop-a-test.true,
   own_at (c.loop-a.invariant.1.here c.loop-a-test.true)
-      (own_here c.requires.at_border.prepared.check c.requires.node_lt_nodes.1 c.open_node-own.ensures.0 c.open_node-own.auto.so
+      (own_here c.requires.at_border.prepared.check c.requires.node_lt_nodes.1 c.open_node-own.ensures.0
+      c.open_node-own.auto.so
       c.open_node-own.auto.vo c.requires.period_in_bounds.0 c.requires.period_in_bounds.1),
 )
 
 pub judge_arc-requires-clause-rooms : goal.judge_arc-requires-clause-rooms
-judge_arc-requires-clause-rooms c = rooms_stay c.requires.rooms c.open_node-own.auto.marks c.loop-a.invariant.0
+judge_arc-requires-clause-rooms c = rooms_stay c.requires.rooms c.open_node-own.auto.marks
+    c.loop-a.invariant.0
 
 pub judge_arc-requires-clause-arc_bound : goal.judge_arc-requires-clause-arc_bound
-judge_arc-requires-clause-arc_bound c = walk_room c.loop-a.invariant.1 c.loop-a.invariant.2 c.loop-a-test.true (arcs_fit c.requires.at_border.prepared _ _ _ c.open_node-own.ensures.2 c.requires.node_bound)
+judge_arc-requires-clause-arc_bound c = walk_room c.loop-a.invariant.1 c.loop-a.invariant.2
+    c.loop-a-test.true (arcs_fit c.requires.at_border.prepared _ _ _ c.open_node-own.ensures.2
+    c.requires.node_bound)
 
 pub offset_bounds-next-a : goal.offset_bounds-next-a
 offset_bounds-next-a c =
@@ -72,9 +87,11 @@ loop-a-smaller c = judge_less c.loop-a.invariant.1 c.loop-a-test.true _ c.wide-a
 
 pub loop-a-preserved : goal.loop-a-preserved
 loop-a-preserved c = (
-  stays_on c.loop-a.invariant.0 c.judge_arc.auto.sa c.judge_arc.auto.va c.judge_arc.auto.sh c.judge_arc.auto.vh c.judge_arc.auto.marks,
+  stays_on c.loop-a.invariant.0 c.judge_arc.auto.sa c.judge_arc.auto.va c.judge_arc.auto.sh
+      c.judge_arc.auto.vh c.judge_arc.auto.marks,
   judge_next c.loop-a.invariant.1 c.loop-a-test.true _ c.wide-a-in-loop-a.ensures.0 c.judge_arc.ensures.0,
-  walk_next c.loop-a.invariant.1 c.loop-a.invariant.2 c.loop-a-test.true _ c.wide-a-in-loop-a.ensures.0 c.judge_arc.ensures.1,
+  walk_next c.loop-a.invariant.1 c.loop-a.invariant.2 c.loop-a-test.true _ c.wide-a-in-loop-a.ensures.0
+      c.judge_arc.ensures.1,
 )
 
 pub shape_of-so : goal.shape_of-so
@@ -101,5 +118,6 @@ shape_of-marks c = c.loop-a.invariant.0.bytes ∙ c.open_node-own.auto.marks
 pub returns : goal.returns
 returns c = (
   judge_end c.loop-a.invariant.1 (aimed_cell c.requires.at_border.prepared.aimed) c.loop-a-test.false,
-  judged_finds c.requires.at_border.prepared _ c.open_node-own.ensures.2 (walk_end c.loop-a.invariant.1 c.loop-a.invariant.2),
+  judged_finds c.requires.at_border.prepared _ c.open_node-own.ensures.2 (walk_end c.loop-a.invariant.1
+      c.loop-a.invariant.2),
 )

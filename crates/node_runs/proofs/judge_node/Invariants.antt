@@ -13,7 +13,8 @@ invariant-loop-a l =
     Stays l.initial.sa l.initial.va l.initial.sh l.initial.vh l.initial.marks l.sa l.va l.sh l.vh l.marks
     × Judging l.network l.l.network (decode_plan l.plan) l.first l.next l.target.cell l.target.number l.node
     l.l.network.period l.a l.marks
-    × Counted 0 (found_before (decode l.network) (decode_plan l.plan) l.target.number l.node l.a) l.initial.finds l.finds
+    × Counted 0 (found_before (decode l.network) (decode_plan l.plan) l.target.number l.node l.a)
+    l.initial.finds l.finds
 
 abbrev pub decreases-loop-a : goal.decreases-loop-a
 decreases-loop-a l =

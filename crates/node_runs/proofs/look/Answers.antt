@@ -10,16 +10,19 @@ use Rattle.node_runs.specs.Ready.{counted, floor_here}
 use Rattle.node_runs.proofs.look.Goals as goal
 
 pub overflow_mul-target : goal.overflow_mul-target
-overflow_mul-target c = product_fits c.requires.checkable.formed c.requires.arc_lt_arcs.1 (head_in c.requires.checkable c.requires.arc_lt_arcs.0 c.head-head.ensures.0)
+overflow_mul-target c = product_fits c.requires.checkable.formed c.requires.arc_lt_arcs.1
+    (head_in c.requires.checkable c.requires.arc_lt_arcs.0 c.head-head.ensures.0)
 
 pub overflow_add-target : goal.overflow_add-target
-overflow_add-target c = number_fits c.requires.checkable.formed c.requires.arc_lt_arcs.1 (head_in c.requires.checkable c.requires.arc_lt_arcs.0 c.head-head.ensures.0)
+overflow_add-target c = number_fits c.requires.checkable.formed c.requires.arc_lt_arcs.1
+    (head_in c.requires.checkable c.requires.arc_lt_arcs.0 c.head-head.ensures.0)
 
 pub point_count-requires-clause-plan_laid : goal.point_count-requires-clause-plan_laid
 point_count-requires-clause-plan_laid c = c.requires.checkable.formed.laid
 
 pub point_count-requires-clause-k_lt_profiles : goal.point_count-requires-clause-k_lt_profiles
-point_count-requires-clause-k_lt_profiles c = profile_in c.requires.checkable.formed _ _ c.requires.arc_lt_arcs.1 (head_in c.requires.checkable c.requires.arc_lt_arcs.0 c.head-head.ensures.0)
+point_count-requires-clause-k_lt_profiles c = profile_in c.requires.checkable.formed _ _
+    c.requires.arc_lt_arcs.1 (head_in c.requires.checkable c.requires.arc_lt_arcs.0 c.head-head.ensures.0)
 
 pub returns-then-point_count-eq0 : goal.returns-then-point_count-eq0
 returns-then-point_count-eq0 c = seen_passed refl
@@ -39,7 +42,9 @@ returns-then-is_far c = let some = counted c.point_count.ensures.0 c.if-point_co
     (met_far c.requires.checkable c.args.target _ _ c.head-head.ensures.0 c.requires.topped.some some _ _ _
     (ltb-true _ _ (sym c.is_far.ensures ∙ c.if-is_far.true)) c.requires.topped.most
     (brief_floor (c.requires.briefs.0.at _ c.requires.arc_lt_arcs.0) c.least.ensures)
-    (floor_here c.requires.checkable ((c.requires.briefs.1.at _ (head_in c.requires.checkable c.requires.arc_lt_arcs.0 c.head-head.ensures.0)).floor some)))
+    (floor_here c.requires.checkable
+    ((c.requires.briefs.1.at _ (head_in c.requires.checkable c.requires.arc_lt_arcs.0
+    c.head-head.ensures.0)).floor some)))
 
 pub returns : goal.returns
 returns c = seen_met record {

@@ -21,7 +21,12 @@ pub least_value-requires-clause-started : goal.least_value-requires-clause-start
 least_value-requires-clause-started c = c.requires.started
 
 pub least_value-requires-clause-i_lt_borders : goal.least_value-requires-clause-i_lt_borders
-least_value-requires-clause-i_lt_borders c = (c.requires.i_lt_borders.0, c.requires.i_lt_borders.1, omega (arith, c.point_count.ensures.0, c.if-point_count-eq0.false))
+least_value-requires-clause-i_lt_borders c = (
+  c.requires.i_lt_borders.0,
+  c.requires.i_lt_borders.1,
+  omega
+      (arith, c.point_count.ensures.0, c.if-point_count-eq0.false),
+)
 
 pub returns : goal.returns
 returns c = low_less c.least_value.ensures c.half.ensures

@@ -13,10 +13,19 @@ pub mark_home-requires-clause-started : goal.mark_home-requires-clause-started
 mark_home-requires-clause-started c = c.requires.at_border.prepared.started
 
 pub mark_home-requires-clause-i_lt_borders : goal.mark_home-requires-clause-i_lt_borders
-mark_home-requires-clause-i_lt_borders c = (c.requires.at_border.prepared.number, node_in c.requires.at_border.prepared.check c.requires.limit_bound.1)
+mark_home-requires-clause-i_lt_borders c = (
+  c.requires.at_border.prepared.number,
+  node_in
+      c.requires.at_border.prepared.check c.requires.limit_bound.1,
+)
 
 pub mark_home-requires-clause-space : goal.mark_home-requires-clause-space
-mark_home-requires-clause-space c = (own_space c.requires.at_border.prepared.check c.requires.period_in_bounds.0 c.requires.period_in_bounds.1, period_in c.requires.at_border.prepared.check c.requires.rooms.bytes)
+mark_home-requires-clause-space c = (
+  own_space c.requires.at_border.prepared.check
+      c.requires.period_in_bounds.0 c.requires.period_in_bounds.1,
+  period_in
+      c.requires.at_border.prepared.check c.requires.rooms.bytes,
+)
 
 pub mark_home-requires-clause-u_bound : goal.mark_home-requires-clause-u_bound
 mark_home-requires-clause-u_bound c = node_fits c.requires.at_border.prepared _ _ c.requires.node_bound
@@ -34,22 +43,30 @@ pub shape_of-marks-then-node-target : goal.shape_of-marks-then-node-target
 shape_of-marks-then-node-target c = c.mark_home.auto.marks
 
 pub returns-then-node-target : goal.returns-then-node-target
-returns-then-node-target c = told_home c.requires.at_border.prepared _ _ c.requires.limit_bound.0 _ c.if-node-target.true c.mark_home.ensures.0 c.mark_home.ensures.1 c.judge_marks.ensures
+returns-then-node-target c = told_home c.requires.at_border.prepared _ _ c.requires.limit_bound.0 _
+    c.if-node-target.true c.mark_home.ensures.0 c.mark_home.ensures.1 c.judge_marks.ensures
 
 pub returns-then-limit-le-CHECK_LESS : goal.returns-then-limit-le-CHECK_LESS
-returns-then-limit-le-CHECK_LESS c = told_skipped c.requires.at_border.prepared _ _ c.requires.limit_bound.0 _ c.if-node-target.false c.if-limit-le-CHECK_LESS.true
+returns-then-limit-le-CHECK_LESS c = told_skipped c.requires.at_border.prepared _ _ c.requires.limit_bound.0
+    _ c.if-node-target.false c.if-limit-le-CHECK_LESS.true
 
 pub overflow_mul-target : goal.overflow_mul-target
-overflow_mul-target c = product_fits c.requires.at_border.prepared.check.formed c.requires.at_border.prepared.number (node_in c.requires.at_border.prepared.check c.requires.limit_bound.1)
+overflow_mul-target c = product_fits c.requires.at_border.prepared.check.formed
+    c.requires.at_border.prepared.number (node_in c.requires.at_border.prepared.check
+    c.requires.limit_bound.1)
 
 pub overflow_add-target : goal.overflow_add-target
-overflow_add-target c = number_fits c.requires.at_border.prepared.check.formed c.requires.at_border.prepared.number (node_in c.requires.at_border.prepared.check c.requires.limit_bound.1)
+overflow_add-target c = number_fits c.requires.at_border.prepared.check.formed
+    c.requires.at_border.prepared.number (node_in c.requires.at_border.prepared.check
+    c.requires.limit_bound.1)
 
 pub point_count-requires-clause-plan_laid : goal.point_count-requires-clause-plan_laid
 point_count-requires-clause-plan_laid c = c.requires.at_border.prepared.check.formed.laid
 
 pub point_count-requires-clause-k_lt_profiles : goal.point_count-requires-clause-k_lt_profiles
-point_count-requires-clause-k_lt_profiles c = profile_in c.requires.at_border.prepared.check.formed _ _ c.requires.at_border.prepared.number (node_in c.requires.at_border.prepared.check c.requires.limit_bound.1)
+point_count-requires-clause-k_lt_profiles c = profile_in c.requires.at_border.prepared.check.formed _ _
+    c.requires.at_border.prepared.number (node_in c.requires.at_border.prepared.check
+    c.requires.limit_bound.1)
 
 pub judge_blank-requires-clause-checkable : goal.judge_blank-requires-clause-checkable
 judge_blank-requires-clause-checkable c = c.requires.at_border.prepared.check
@@ -105,4 +122,5 @@ shape_of-marks c = c.judge_node.auto.marks
 
 pub returns : goal.returns
 returns c = told_judged c.requires.at_border.prepared _ _ c.requires.limit_bound.0 _ c.if-node-target.false
-    (counted c.point_count.ensures.0 c.if-point_count-eq0.false) c.judge_node.ensures.0 c.judge_node.ensures.1 c.judge_marks-2.ensures
+    (counted c.point_count.ensures.0 c.if-point_count-eq0.false) c.judge_node.ensures.0
+    c.judge_node.ensures.1 c.judge_marks-2.ensures

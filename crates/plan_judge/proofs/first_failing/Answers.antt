@@ -24,7 +24,11 @@ pub profile_starts-from-requires-clause-formed : goal.profile_starts-from-requir
 profile_starts-from-requires-clause-formed c = c.requires.equipped.check.formed
 
 pub profile_starts-from-requires-clause-i_lt_borders : goal.profile_starts-from-requires-clause-i_lt_borders
-profile_starts-from-requires-clause-i_lt_borders c = (c.borders-test.true, omega (arith, c.requires.equipped.check.formed.small.nodes_most, c.borders.invariant.2.starts))
+profile_starts-from-requires-clause-i_lt_borders c = (
+  c.borders-test.true,
+  omega
+      (arith, c.requires.equipped.check.formed.small.nodes_most, c.borders.invariant.2.starts),
+)
 
 pub profile_starts-from-requires-clause-from_value : goal.profile_starts-from-requires-clause-from_value
 profile_starts-from-requires-clause-from_value c = c.borders.invariant.1
@@ -52,12 +56,17 @@ pub target_at-target-requires-clause-listed : goal.target_at-target-requires-cla
 target_at-target-requires-clause-listed c = c.requires.equipped.listed
 
 pub target_at-target-requires-clause-i_bound : goal.target_at-target-requires-clause-i_bound
-target_at-target-requires-clause-i_bound c = (border_number c.requires.equipped c.borders-test.true, omega (arith, c.borders-test.true, c.requires.equipped.check.formed.small.borders_most))
+target_at-target-requires-clause-i_bound c = (
+  border_number c.requires.equipped c.borders-test.true,
+  omega
+      (arith, c.borders-test.true, c.requires.equipped.check.formed.small.borders_most),
+)
 
 pub places-init : goal.places-init
 places-init c = (
   search rules,
-  lent_same c.borders.invariant.2 c.profile_starts-from.ensures.1.long c.fill_lows.ensures.1 refl refl refl refl refl
+  lent_same c.borders.invariant.2 c.profile_starts-from.ensures.1.long c.fill_lows.ensures.1 refl refl refl
+      refl refl
       refl refl,
   c.borders.invariant.3,
   omega arith,
@@ -65,7 +74,8 @@ places-init c = (
 )
 
 pub judge-number-requires-clause-at_border : goal.judge-number-requires-clause-at_border
-judge-number-requires-clause-at_border c = at_border_lem c.requires.equipped c.borders-test.true c.profile_starts-from.ensures.1 c.target_at-target.ensures.0 c.target_at-target.ensures.1
+judge-number-requires-clause-at_border c = at_border_lem c.requires.equipped c.borders-test.true
+    c.profile_starts-from.ensures.1 c.target_at-target.ensures.0 c.target_at-target.ensures.1
 
 pub judge-number-requires-clause-briefs : goal.judge-number-requires-clause-briefs
 judge-number-requires-clause-briefs c = (
@@ -83,7 +93,8 @@ judge-number-requires-clause-period_in_bounds c = (
 )
 
 pub judge-number-requires-clause-rooms : goal.judge-number-requires-clause-rooms
-judge-number-requires-clause-rooms c = lent_rooms c.places.invariant.1 c.requires.equipped.check.town.small.period_most
+judge-number-requires-clause-rooms c = lent_rooms c.places.invariant.1
+    c.requires.equipped.check.town.small.period_most
 
 pub judge-number-requires-clause-node_bound : goal.judge-number-requires-clause-node_bound
 judge-number-requires-clause-node_bound c = rw c.target_at-target.ensures.0
@@ -107,17 +118,22 @@ places-smaller-then-best-number c = omega (
 )
 
 pub places-preserved-then-best-number : goal.places-preserved-then-best-number
-places-preserved-then-best-number c = let told = rw (c.target_at-target.ensures.0, c.requires.equipped.check.town.sizes.period) at c.judge-number.ensures in (
-  omega (
-    arith,
-    c.places-test.true,
-  ),
-  lent_same c.places.invariant.1 refl refl c.judge-number.auto.so c.judge-number.auto.vo c.judge-number.auto.sa c.judge-number.auto.va c.judge-number.auto.sh
-      c.judge-number.auto.vh c.judge-number.auto.marks,
-  stands_kept c.places.invariant.2 told.0 c.if-best-number.true,
-  c.places.invariant.3,
-  row_more _ _ _ c.places.invariant.4 _ (rw (c.requires.equipped.check.nodes, c.requires.equipped.check.town.sizes.nodes)) told.1 (omega arith) c.places.invariant.2.high,
-)
+places-preserved-then-best-number c =
+    let told = rw (c.target_at-target.ensures.0, c.requires.equipped.check.town.sizes.period) at
+    c.judge-number.ensures in (
+      omega (
+        arith,
+        c.places-test.true,
+      ),
+      lent_same c.places.invariant.1 refl refl c.judge-number.auto.so c.judge-number.auto.vo
+          c.judge-number.auto.sa c.judge-number.auto.va c.judge-number.auto.sh
+          c.judge-number.auto.vh c.judge-number.auto.marks,
+      stands_kept c.places.invariant.2 told.0 c.if-best-number.true,
+      c.places.invariant.3,
+      row_more _ _ _ c.places.invariant.4 _
+          (rw (c.requires.equipped.check.nodes, c.requires.equipped.check.town.sizes.nodes)) told.1 (omega arith)
+          c.places.invariant.2.high,
+    )
 
 pub ticks-init : goal.ticks-init
 ticks-init c = (search rules, refl, refl, none_yet _)
@@ -147,7 +163,9 @@ places-smaller-then-fails_at c = omega (
 )
 
 pub places-preserved-then-fails_at : goal.places-preserved-then-fails_at
-places-preserved-then-fails_at c = let told = rw (c.target_at-target.ensures.0, c.requires.equipped.check.town.sizes.period) at c.judge-number.ensures in
+places-preserved-then-fails_at c =
+    let told = rw (c.target_at-target.ensures.0, c.requires.equipped.check.town.sizes.period) at
+    c.judge-number.ensures in
     let stands = stands_lower c.places.invariant.2 told.0 c.if-best-number.false c.ticks.invariant.3 (omega
     (arith, c.borders-test.true, c.requires.equipped.check.borders))
     (omega (arith, c.places-test.true, c.requires.equipped.check.town.sizes.nodes)) (omega (
@@ -156,11 +174,13 @@ places-preserved-then-fails_at c = let told = rw (c.target_at-target.ensures.0, 
       c.requires.equipped.check.town.sizes.period,
     ))
     (sym c.fails_at.ensures ∙ c.if-fails_at.true) in
-    let row = row_more _ _ _ c.places.invariant.4 c.judge-number.result (rw (c.requires.equipped.check.nodes, c.requires.equipped.check.town.sizes.nodes)) told.1
+    let row = row_more _ _ _ c.places.invariant.4 c.judge-number.result
+    (rw (c.requires.equipped.check.nodes, c.requires.equipped.check.town.sizes.nodes)) told.1
     (omega arith) c.places.invariant.2.high in
     rw c.ticks.invariant.2 (
       omega (arith, c.places-test.true),
-      lent_same c.places.invariant.1 refl refl c.judge-number.auto.so c.judge-number.auto.vo c.judge-number.auto.sa c.judge-number.auto.va c.judge-number.auto.sh
+      lent_same c.places.invariant.1 refl refl c.judge-number.auto.so c.judge-number.auto.vo
+          c.judge-number.auto.sa c.judge-number.auto.va c.judge-number.auto.sh
           c.judge-number.auto.vh c.judge-number.auto.marks,
       stands,
       omega (arith, c.places.invariant.3),
@@ -231,11 +251,17 @@ borders-preserved c = let e : c.places.node ≡ nodes (decode c.args.network.now
       c.profile_starts-from.ensures.0,
       c.places.invariant.1,
       stands_row c.places.invariant.2 (omega (arith, e)),
-      tally_more _ _ (λ a m. (c.requires.equipped.check.town.sound.arc a m).tail_node) c.borders.invariant.4 (rw e at c.places.invariant.4) c.places.invariant.3 c.borders.invariant.3.high,
+      tally_more _ _ (λ a m. (c.requires.equipped.check.town.sound.arc a m).tail_node) c.borders.invariant.4
+          (rw e at c.places.invariant.4) c.places.invariant.3 c.borders.invariant.3.high,
     )
 
 pub returns-after-borders : goal.returns-after-borders
-returns-after-borders c = let e : c.borders.i ≡ c.args.l.plan.borders = omega (arith, c.borders-test.false, c.borders.invariant.0) in
+returns-after-borders c =
+    let e : c.borders.i ≡ c.args.l.plan.borders = omega (
+      arith,
+      c.borders-test.false,
+      c.borders.invariant.0,
+    ) in
     (rw e at c.borders.invariant.3, rw e at c.borders.invariant.4)
 
 pub shape_of-so-then-best-le-CHECK_BORDER : goal.shape_of-so-then-best-le-CHECK_BORDER
@@ -269,10 +295,12 @@ shape_of-marks-then-best-le-CHECK_BORDER c =
 pub returns-then-best-le-CHECK_BORDER : goal.returns-then-best-le-CHECK_BORDER
 returns-then-best-le-CHECK_BORDER c = let e : c.places.node ≡ nodes (decode c.args.network.now) =
     omega (arith, c.places-test.false, c.places.invariant.0, c.requires.equipped.check.town.sizes.nodes) in
-    let tally = tally_more _ _ (λ a m. (c.requires.equipped.check.town.sound.arc a m).tail_node) c.borders.invariant.4 (rw e at c.places.invariant.4) c.places.invariant.3
+    let tally = tally_more _ _ (λ a m. (c.requires.equipped.check.town.sound.arc a m).tail_node)
+    c.borders.invariant.4 (rw e at c.places.invariant.4) c.places.invariant.3
     c.borders.invariant.3.high in (
       stands_least c.places.invariant.2 c.if-best-le-CHECK_BORDER.true _,
-      tally_least _ _ (λ a m. (c.requires.equipped.check.town.sound.arc a m).tail_node) tally (omega (arith, c.if-best-le-CHECK_BORDER.true))
+      tally_least _ _ (λ a m. (c.requires.equipped.check.town.sound.arc a m).tail_node) tally
+          (omega (arith, c.if-best-le-CHECK_BORDER.true))
           (omega (
             arith,
             c.borders-test.true,

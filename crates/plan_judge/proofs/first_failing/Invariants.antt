@@ -12,7 +12,8 @@ use Rattle.plan_judge.proofs.first_failing.Given as goal
 
 abbrev pub invariant-ticks : goal.invariant-ticks
 invariant-ticks l =
-    (l.tick ≤ l.period) × (l.best ≡ l.initial.best) × (l.node ≡ l.initial.node) × (First.first l.tick (tells l.marks l.number) ≡ l.tick)
+    (l.tick ≤ l.period) × (l.best ≡ l.initial.best) × (l.node ≡ l.initial.node) ×
+    (First.first l.tick (tells l.marks l.number) ≡ l.tick)
 
 abbrev pub decreases-ticks : goal.decreases-ticks
 decreases-ticks l =

@@ -39,7 +39,11 @@ loop-k-init c =
       search rules,
       refl,
       refl,
-      record { short = c.requires.space.0.short; in_s = omega (arith, c.requires.space.0.in_s, z); in_v = c.requires.space.0.in_v },
+      record {
+        short = c.requires.space.0.short;
+        in_s = omega (arith, c.requires.space.0.in_s, z);
+        in_v = c.requires.space.0.in_v;
+      },
       filling_start c.requires.day.0 _ _
           (get_or-set_same c.args.starts.now 0 0 0 (omega (arith, c.requires.space.0.in_s))) begun,
       omega arith,
@@ -93,7 +97,8 @@ extend-n-requires-clause-room c =
     tick_read c.requires.plan_laid inside stands
     c.field16-b.ensures.0 in
     let t = tick-told in
-    let h : c.loop-k.k + 1 < c.args.count = omega arith in room_next c.requires.day.0 _ c.loop-k.invariant.4 _ c.loop-k.invariant.3 t h
+    let h : c.loop-k.k + 1 < c.args.count = omega arith in
+    room_next c.requires.day.0 _ c.loop-k.invariant.4 _ c.loop-k.invariant.3 t h
 
 pub extend-n-requires-clause-finds_bound : goal.extend-n-requires-clause-finds_bound
 unfolding entry_at
@@ -112,7 +117,8 @@ extend-n-requires-clause-finds_bound c =
     tick_read c.requires.plan_laid inside stands
     c.field16-b.ensures.0 in
     let t = tick-told in
-    let h : c.loop-k.k + 1 < c.args.count = omega arith in omega (arith, c.loop-k.invariant.5, c.requires.space.1)
+    let h : c.loop-k.k + 1 < c.args.count = omega arith in
+    omega (arith, c.loop-k.invariant.5, c.requires.space.1)
 
 pub overflow_step-k : goal.overflow_step-k
 overflow_step-k c = omega (arith, c.loop-k-test.true, c.ranges.count)
@@ -149,8 +155,10 @@ loop-k-preserved c =
     )
 
 pub finish-requires-clause-room : goal.finish-requires-clause-room
-finish-requires-clause-room c = let h : c.loop-k.k < c.args.count = omega (arith, c.requires.day.0.some, c.loop-k.invariant.0) in
-    let o : c.args.count ≤ c.loop-k.k + 1 = omega (arith, c.loop-k-test.false) in room_last c.requires.day.0 _ c.loop-k.invariant.4 c.loop-k.invariant.3 h
+finish-requires-clause-room c =
+    let h : c.loop-k.k < c.args.count = omega (arith, c.requires.day.0.some, c.loop-k.invariant.0) in
+    let o : c.args.count ≤ c.loop-k.k + 1 = omega (arith, c.loop-k-test.false) in
+    room_last c.requires.day.0 _ c.loop-k.invariant.4 c.loop-k.invariant.3 h
 
 pub finish-requires-clause-leading : goal.finish-requires-clause-leading
 finish-requires-clause-leading c =
@@ -162,11 +170,14 @@ finish-requires-clause-leading c =
     entry_start _ c.args.from _
     (travel_read c.requires.plan_laid first c.point_at-at.ensures c.field32-begin.ensures) in
     let h : c.loop-k.k < c.args.count = omega (arith, c.requires.day.0.some, c.loop-k.invariant.0) in
-    let o : c.args.count ≤ c.loop-k.k + 1 = omega (arith, c.loop-k-test.false) in filling_leads c.requires.day.0 _ c.loop-k.invariant.4 refl begun h o
+    let o : c.args.count ≤ c.loop-k.k + 1 = omega (arith, c.loop-k-test.false) in
+    filling_leads c.requires.day.0 _ c.loop-k.invariant.4 refl begun h o
 
 pub finish-requires-clause-finds_bound : goal.finish-requires-clause-finds_bound
-finish-requires-clause-finds_bound c = let h : c.loop-k.k < c.args.count = omega (arith, c.requires.day.0.some, c.loop-k.invariant.0) in
-    let o : c.args.count ≤ c.loop-k.k + 1 = omega (arith, c.loop-k-test.false) in omega (arith, c.loop-k.invariant.5, c.requires.space.1)
+finish-requires-clause-finds_bound c =
+    let h : c.loop-k.k < c.args.count = omega (arith, c.requires.day.0.some, c.loop-k.invariant.0) in
+    let o : c.args.count ≤ c.loop-k.k + 1 = omega (arith, c.loop-k-test.false) in
+    omega (arith, c.loop-k.invariant.5, c.requires.space.1)
 
 pub shape_of-starts : goal.shape_of-starts
 shape_of-starts c = c.finish.ensures.0.long_s ∙ c.loop-k.invariant.1

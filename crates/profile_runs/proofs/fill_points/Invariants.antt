@@ -13,6 +13,7 @@ abbrev pub invariant-loop-k : goal.invariant-loop-k
 invariant-loop-k l =
     (l.k ≤ l.last) × (length l.starts ≡ length l.initial.starts) × (length l.values ≡ length l.initial.values)
     × Space l.starts l.values l.l.period
-    × Filling (entry_at (decode_plan l.plan).ticks l.from) (entry_at (decode_plan l.plan).travels l.from) l.count
+    × Filling (entry_at (decode_plan l.plan).ticks l.from) (entry_at (decode_plan l.plan).travels l.from)
+    l.count
     l.l.period l.starts l.values l.n l.k l.a l.v
     × (l.finds ≡ l.initial.finds + l.k) × (l.at ≡ point_at l.l.pointblock (l.from + l.k))

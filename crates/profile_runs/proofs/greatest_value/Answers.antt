@@ -14,17 +14,21 @@ pub point_count-count-requires : goal.point_count-count-requires
 point_count-count-requires c = search (starting, rules)
 
 pub greatest_point-requires-clause-plan_laid : goal.greatest_point-requires-clause-plan_laid
-greatest_point-requires-clause-plan_laid c = let k = profile_in c.requires.formed _ _ c.requires.i_lt_borders.0 c.requires.i_lt_borders.1 in
-    let from = start_read c.requires.formed c.requires.i_lt_borders.0 c.requires.i_lt_borders.1 c.requires.started c.wide-from.ensures in
-    c.requires.formed.laid
+greatest_point-requires-clause-plan_laid c = c.requires.formed.laid
 
 pub greatest_point-requires-clause-count_nonzero : goal.greatest_point-requires-clause-count_nonzero
-greatest_point-requires-clause-count_nonzero c = let k = profile_in c.requires.formed _ _ c.requires.i_lt_borders.0 c.requires.i_lt_borders.1 in
-    let from = start_read c.requires.formed c.requires.i_lt_borders.0 c.requires.i_lt_borders.1 c.requires.started c.wide-from.ensures in
-    ((points_day c.requires.formed k from c.point_count-count.ensures.0 c.requires.i_lt_borders.2).some, points_in c.requires.formed k from c.point_count-count.ensures.0 c.requires.i_lt_borders.2)
+greatest_point-requires-clause-count_nonzero c =
+    let k = profile_in c.requires.formed _ _ c.requires.i_lt_borders.0 c.requires.i_lt_borders.1 in
+    let from = start_read c.requires.formed c.requires.i_lt_borders.0 c.requires.i_lt_borders.1
+    c.requires.started c.wide-from.ensures in (
+      (points_day c.requires.formed k from c.point_count-count.ensures.0 c.requires.i_lt_borders.2).some,
+      points_in c.requires.formed k from c.point_count-count.ensures.0 c.requires.i_lt_borders.2,
+    )
 
 pub returns : goal.returns
 returns c = let k = profile_in c.requires.formed _ _ c.requires.i_lt_borders.0 c.requires.i_lt_borders.1 in
     let from =
-    start_read c.requires.formed c.requires.i_lt_borders.0 c.requires.i_lt_borders.1 c.requires.started c.wide-from.ensures in
-    ceiling_number c.requires.formed k from c.point_count-count.ensures.0 c.requires.i_lt_borders.2 c.greatest_point.ensures
+    start_read c.requires.formed c.requires.i_lt_borders.0 c.requires.i_lt_borders.1 c.requires.started
+    c.wide-from.ensures in
+    ceiling_number c.requires.formed k from c.point_count-count.ensures.0 c.requires.i_lt_borders.2
+    c.greatest_point.ensures

@@ -19,19 +19,22 @@ bounds-room-u c =
 
 pub returns-then-is_idle : goal.returns-then-is_idle
 returns-then-is_idle c =
-    stepped_skip c.requires.primed.0 c.requires.arc_lt_arcs.0 c.requires.arc_lt_arcs.1 c.requires.arc_lt_arcs.2 c.tail-u.ensures.0
-    (c.requires.primed.1.arc _ c.requires.arc_lt_arcs.0) (leb-true _ _ (sym c.is_idle.ensures ∙ c.if-is_idle.true))
+    stepped_skip c.requires.primed.0 c.requires.arc_lt_arcs.0 c.requires.arc_lt_arcs.1
+    c.requires.arc_lt_arcs.2 c.tail-u.ensures.0
+    (c.requires.primed.1.arc _ c.requires.arc_lt_arcs.0)
+    (leb-true _ _ (sym c.is_idle.ensures ∙ c.if-is_idle.true))
 
 pub lower_row-fell-requires-clause-primed : goal.lower_row-fell-requires-clause-primed
-lower_row-fell-requires-clause-primed c = let node = tail_node c.requires.primed.0.town _ _ c.requires.arc_lt_arcs.0 c.tail-u.ensures.0 in
-    let met = head_node c.requires.primed.0.town _ _ c.requires.arc_lt_arcs.0 refl in c.requires.primed.0
+lower_row-fell-requires-clause-primed c = c.requires.primed.0
 
 pub lower_row-fell-requires-clause-arc_lt_arcs : goal.lower_row-fell-requires-clause-arc_lt_arcs
-lower_row-fell-requires-clause-arc_lt_arcs c = let node = tail_node c.requires.primed.0.town _ _ c.requires.arc_lt_arcs.0 c.tail-u.ensures.0 in
-    let met = head_node c.requires.primed.0.town _ _ c.requires.arc_lt_arcs.0 refl in (c.requires.arc_lt_arcs.0, node, seen_size _ c.requires.arc_lt_arcs.1)
+lower_row-fell-requires-clause-arc_lt_arcs c =
+    let node = tail_node c.requires.primed.0.town _ _ c.requires.arc_lt_arcs.0 c.tail-u.ensures.0 in
+    (c.requires.arc_lt_arcs.0, node, seen_size _ c.requires.arc_lt_arcs.1)
 
 pub lower_row-fell-requires-clause-capped : goal.lower_row-fell-requires-clause-capped
-lower_row-fell-requires-clause-capped c = let node = tail_node c.requires.primed.0.town _ _ c.requires.arc_lt_arcs.0 c.tail-u.ensures.0 in
+lower_row-fell-requires-clause-capped c =
+    let node = tail_node c.requires.primed.0.town _ _ c.requires.arc_lt_arcs.0 c.tail-u.ensures.0 in
     let met = head_node c.requires.primed.0.town _ _ c.requires.arc_lt_arcs.0 refl in (
       held_capped c.requires.primed.0.town.small c.requires.arc_lt_arcs.1 c.requires.arc_lt_arcs.2 met,
       seen_known _ _ _ _ (λ t. eqb-false _ _ t)
@@ -40,20 +43,24 @@ lower_row-fell-requires-clause-capped c = let node = tail_node c.requires.primed
 
 pub returns-then-fell-eq0 : goal.returns-then-fell-eq0
 returns-then-fell-eq0 c =
-    tail_quiet c.requires.primed.0 c.requires.arc_lt_arcs.0 c.requires.arc_lt_arcs.1 c.requires.arc_lt_arcs.2 c.tail-u.ensures.0
+    tail_quiet c.requires.primed.0 c.requires.arc_lt_arcs.0 c.requires.arc_lt_arcs.1
+    c.requires.arc_lt_arcs.2 c.tail-u.ensures.0
     c.lower_row-fell.ensures (λ t. eqb-true _ _ t) (λ t. eqb-false _ _ t)
     c.if-fell-eq0.true
 
 pub nearness_after-requires-clause-small : goal.nearness_after-requires-clause-small
-nearness_after-requires-clause-small c = let w = c.requires.primed.1.arc _ c.requires.arc_lt_arcs.0 in c.requires.primed.0.town.small
+nearness_after-requires-clause-small c = c.requires.primed.0.town.small
 
 pub nearness_after-requires-clause-u_lt_nodes : goal.nearness_after-requires-clause-u_lt_nodes
 nearness_after-requires-clause-u_lt_nodes c = let w = c.requires.primed.1.arc _ c.requires.arc_lt_arcs.0 in (
   tail_node c.requires.primed.0.town _ _ c.requires.arc_lt_arcs.0 c.tail-u.ensures.0,
   c.lower_row-fell.ensures.filled.long ∙ seen_size _ c.requires.arc_lt_arcs.1,
-  least_near c.requires.primed.0 c.requires.arc_lt_arcs.0 c.requires.arc_lt_arcs.1 c.requires.arc_lt_arcs.2 c.tail-u.ensures.0 w,
-  near_first c.requires.primed.0 c.requires.arc_lt_arcs.0 c.requires.arc_lt_arcs.1 c.requires.arc_lt_arcs.2 c.tail-u.ensures.0 c.lower_row-fell.ensures w,
-  tail_numbers c.requires.primed.0 c.requires.arc_lt_arcs.0 c.requires.arc_lt_arcs.1 c.requires.arc_lt_arcs.2 c.tail-u.ensures.0 c.lower_row-fell.ensures,
+  least_near c.requires.primed.0 c.requires.arc_lt_arcs.0 c.requires.arc_lt_arcs.1 c.requires.arc_lt_arcs.2
+      c.tail-u.ensures.0 w,
+  near_first c.requires.primed.0 c.requires.arc_lt_arcs.0 c.requires.arc_lt_arcs.1 c.requires.arc_lt_arcs.2
+      c.tail-u.ensures.0 c.lower_row-fell.ensures w,
+  tail_numbers c.requires.primed.0 c.requires.arc_lt_arcs.0 c.requires.arc_lt_arcs.1
+      c.requires.arc_lt_arcs.2 c.tail-u.ensures.0 c.lower_row-fell.ensures,
 )
 
 pub bounds-near-u : goal.bounds-near-u
@@ -71,7 +78,8 @@ pub highest-requires-clause-u_lt_nodes : goal.highest-requires-clause-u_lt_nodes
 highest-requires-clause-u_lt_nodes c = (
   tail_node c.requires.primed.0.town _ _ c.requires.arc_lt_arcs.0 c.tail-u.ensures.0,
   c.lower_row-fell.ensures.filled.long ∙ seen_size _ c.requires.arc_lt_arcs.1,
-  tail_numbers c.requires.primed.0 c.requires.arc_lt_arcs.0 c.requires.arc_lt_arcs.1 c.requires.arc_lt_arcs.2 c.tail-u.ensures.0 c.lower_row-fell.ensures,
+  tail_numbers c.requires.primed.0 c.requires.arc_lt_arcs.0 c.requires.arc_lt_arcs.1
+      c.requires.arc_lt_arcs.2 c.tail-u.ensures.0 c.lower_row-fell.ensures,
 )
 
 pub bounds-room-u-2 : goal.bounds-room-u-2
@@ -86,7 +94,8 @@ pub returns : goal.returns
 returns c =
     let z : 0 < c.lower_row-fell.result =
     omega arith in
-    tail_lower c.requires.primed.0 c.requires.arc_lt_arcs.0 c.requires.arc_lt_arcs.1 c.requires.arc_lt_arcs.2 c.tail-u.ensures.0
+    tail_lower c.requires.primed.0 c.requires.arc_lt_arcs.0 c.requires.arc_lt_arcs.1
+    c.requires.arc_lt_arcs.2 c.tail-u.ensures.0
     c.lower_row-fell.ensures
     (λ t. eqb-true _ _ t) (λ t. eqb-false _ _ t) z c.nearness_after.ensures
     c.highest.ensures

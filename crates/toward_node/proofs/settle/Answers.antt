@@ -11,18 +11,28 @@ pub copy_row-requires-clause-small : goal.copy_row-requires-clause-small
 copy_row-requires-clause-small c = c.requires.ready.0.primed.town.small
 
 pub copy_row-requires-clause-v_lt_nodes : goal.copy_row-requires-clause-v_lt_nodes
-copy_row-requires-clause-v_lt_nodes c = (c.requires.v_lt_nodes.0, seen_size _ c.requires.v_lt_nodes.1, c.requires.v_lt_nodes.4)
+copy_row-requires-clause-v_lt_nodes c = (
+  c.requires.v_lt_nodes.0,
+  seen_size _ c.requires.v_lt_nodes.1,
+  c.requires.v_lt_nodes.4,
+)
 
 pub loop-a-init : goal.loop-a-init
 loop-a-init c =
-    walking_start c.requires.ready.0 _ c.requires.v_lt_nodes.0 c.requires.v_lt_nodes.1 c.requires.v_lt_nodes.3 c.requires.v_lt_nodes.4
+    walking_start c.requires.ready.0 _ c.requires.v_lt_nodes.0 c.requires.v_lt_nodes.1
+    c.requires.v_lt_nodes.3 c.requires.v_lt_nodes.4
     c.copy_row.ensures c.wide-a.ensures.0
 
 pub lower_tail-requires-clause-primed : goal.lower_tail-requires-clause-primed
 lower_tail-requires-clause-primed c = (c.requires.ready.0.primed, c.requires.ready.1)
 
 pub lower_tail-requires-clause-arc_lt_arcs : goal.lower_tail-requires-clause-arc_lt_arcs
-lower_tail-requires-clause-arc_lt_arcs c = (c.loop-a-test.true, c.loop-a.invariant.heights, walking_held c.requires.ready.0 c.loop-a.invariant c.loop-a-test.true)
+lower_tail-requires-clause-arc_lt_arcs c = (
+  c.loop-a-test.true,
+  c.loop-a.invariant.heights,
+  walking_held
+      c.requires.ready.0 c.loop-a.invariant c.loop-a-test.true,
+)
 
 pub offset_bounds-next-a : goal.offset_bounds-next-a
 offset_bounds-next-a c =
@@ -53,7 +63,8 @@ shape_of-work c =
 
 pub returns : goal.returns
 returns c = (
-  walking_end c.requires.ready.0 _ c.requires.v_lt_nodes.0 c.requires.v_lt_nodes.1 c.requires.v_lt_nodes.2 c.requires.v_lt_nodes.3 c.loop-a.invariant
+  walking_end c.requires.ready.0 _ c.requires.v_lt_nodes.0 c.requires.v_lt_nodes.1 c.requires.v_lt_nodes.2
+      c.requires.v_lt_nodes.3 c.loop-a.invariant
       c.loop-a-test.false,
   c.copy_row.ensures.long,
 )

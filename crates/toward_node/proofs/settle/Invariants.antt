@@ -7,7 +7,8 @@ use Rattle.toward_node.proofs.settle.Given as goal
 
 abbrev pub invariant-loop-a : goal.invariant-loop-a
 invariant-loop-a l =
-    Walking l.file l.l l.v l.a l.reach l.bar l.hs (seen l.l.period l.initial.room l.initial.work) l.initial.near l.initial.room (seen l.l.period l.room l.work)
+    Walking l.file l.l l.v l.a l.reach l.bar l.hs (seen l.l.period l.initial.room l.initial.work)
+    l.initial.near l.initial.room (seen l.l.period l.room l.work)
     l.near l.room
 
 abbrev pub decreases-loop-a : goal.decreases-loop-a

@@ -21,12 +21,27 @@ loop-v-init c = (
 )
 
 pub settle-requires-clause-ready : goal.settle-requires-clause-ready
-settle-requires-clause-ready c = let long : c.args.l.period ≤ length c.loop-v.hs = omega (arith, c.loop-v.invariant.1, c.requires.b_lt_nodes.2) in
+settle-requires-clause-ready c =
+    let long : c.args.l.period ≤ length c.loop-v.hs = omega (
+      arith,
+      c.loop-v.invariant.1,
+      c.requires.b_lt_nodes.2,
+    ) in
     c.requires.ready
 
 pub settle-requires-clause-v_lt_nodes : goal.settle-requires-clause-v_lt_nodes
-settle-requires-clause-v_lt_nodes c = let long : c.args.l.period ≤ length c.loop-v.hs = omega (arith, c.loop-v.invariant.1, c.requires.b_lt_nodes.2) in
-    (c.loop-v-test.true, c.loop-v.invariant.0.heights, c.loop-v.invariant.0.lows, c.loop-v.invariant.0.found.dirty c.loop-v-test.true, long)
+settle-requires-clause-v_lt_nodes c =
+    let long : c.args.l.period ≤ length c.loop-v.hs = omega (
+      arith,
+      c.loop-v.invariant.1,
+      c.requires.b_lt_nodes.2,
+    ) in (
+      c.loop-v-test.true,
+      c.loop-v.invariant.0.heights,
+      c.loop-v.invariant.0.lows,
+      c.loop-v.invariant.0.found.dirty c.loop-v-test.true,
+      long,
+    )
 
 pub bar_of-bar-requires-in-loop-v : goal.bar_of-bar-requires-in-loop-v
 bar_of-bar-requires-in-loop-v c =
@@ -41,7 +56,8 @@ loop-v-smaller c = c.settle.ensures.0.lighter
 
 pub loop-v-preserved : goal.loop-v-preserved
 loop-v-preserved c = (
-  waiting_next c.requires.ready.0 c.loop-v.invariant.0 c.settle.ensures.0 c.bar_of-bar-in-loop-v.ensures c.nearest-v.ensures,
+  waiting_next c.requires.ready.0 c.loop-v.invariant.0 c.settle.ensures.0 c.bar_of-bar-in-loop-v.ensures
+      c.nearest-v.ensures,
   c.settle.ensures.1 ∙ c.loop-v.invariant.1,
 )
 
@@ -58,8 +74,10 @@ shape_of-work c =
 
 pub returns : goal.returns
 returns c = (
-  shown_worked c.show_wanted.ensures c.requires.ready.0.primed.town.sizes.nodes c.requires.ready.0.primed.town.sizes.period
+  shown_worked c.show_wanted.ensures c.requires.ready.0.primed.town.sizes.nodes
+      c.requires.ready.0.primed.town.sizes.period
       (waiting_end c.requires.ready.0 c.loop-v.invariant.0 c.loop-v-test.false),
-  λ all. shown_bounds c.show_wanted.ensures all (waiting_bounds c.requires.ready.0 c.loop-v.invariant.0 c.loop-v-test.false all),
+  λ all. shown_bounds c.show_wanted.ensures all (waiting_bounds c.requires.ready.0 c.loop-v.invariant.0
+      c.loop-v-test.false all),
   c.loop-v.invariant.1,
 )

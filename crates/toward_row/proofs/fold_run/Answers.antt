@@ -13,7 +13,12 @@ pub lesser-new-requires : goal.lesser-new-requires
 lesser-new-requires c =
     let h : c.args.from + (c.loop-x.x - c.args.a) < c.args.from + (c.args.b - c.args.a) = omega arith in
     let was = c.loop-x.invariant.2.filled.after c.loop-x.x (omega arith) in (
-      omega (arith, was, c.requires.capped.1.entry c.loop-x.x (omega (arith, c.loop-x.invariant.0)) (omega arith)),
+      omega (
+        arith,
+        was,
+        c.requires.capped.1.entry c.loop-x.x (omega (arith, c.loop-x.invariant.0))
+            (omega arith),
+      ),
       omega (arith, c.requires.capped.0.entry _ h),
     )
 

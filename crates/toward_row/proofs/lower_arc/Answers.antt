@@ -6,11 +6,16 @@ pub lower_points-requires-clause-laid : goal.lower_points-requires-clause-laid
 lower_points-requires-clause-laid c = c.requires.primed.town.laid
 
 pub lower_points-requires-clause-arc : goal.lower_points-requires-clause-arc
-lower_points-requires-clause-arc c = arc_of_lem c.requires.primed c.requires.arc_lt_arcs.0 _ _ c.wide-from.ensures.0
+lower_points-requires-clause-arc c = arc_of_lem c.requires.primed c.requires.arc_lt_arcs.0 _ _
+    c.wide-from.ensures.0
     c.count-count.ensures.0
 
 pub lower_points-requires-clause-period_in_bounds : goal.lower_points-requires-clause-period_in_bounds
-lower_points-requires-clause-period_in_bounds c = (c.requires.arc_lt_arcs.1, c.requires.arc_lt_arcs.2, c.requires.arc_lt_arcs.3)
+lower_points-requires-clause-period_in_bounds c = (
+  c.requires.arc_lt_arcs.1,
+  c.requires.arc_lt_arcs.2,
+  c.requires.arc_lt_arcs.3,
+)
 
 pub returns : goal.returns
 returns c =

@@ -21,13 +21,15 @@ pub lower_span-count-requires-clause-a_le_b : goal.lower_span-count-requires-cla
 lower_span-count-requires-clause-a_le_b c = let e = c.args.a + c.wholes.result in
     let h : e ≤ c.args.b = search falls in
     let l : c.loop-j.x ≤ e = search falls in
-    let m : c.args.a ≤ c.loop-j.x = omega (arith, c.loop-j.invariant.1.at) in (l, omega arith, omega arith, omega arith, omega arith)
+    let m : c.args.a ≤ c.loop-j.x = omega (arith, c.loop-j.invariant.1.at) in
+    (l, omega arith, omega arith, omega arith, omega arith)
 
 pub lower_span-count-requires-clause-capped : goal.lower_span-count-requires-clause-capped
 lower_span-count-requires-clause-capped c = let e = c.args.a + c.wholes.result in
     let h : e ≤ c.args.b = search falls in
     let l : c.loop-j.x ≤ e = search falls in
-    let m : c.args.a ≤ c.loop-j.x = omega (arith, c.loop-j.invariant.1.at) in (c.requires.ready.capped, known_on c.requires.ready.known c.loop-j.invariant.2.filled m h)
+    let m : c.args.a ≤ c.loop-j.x = omega (arith, c.loop-j.invariant.1.at) in
+    (c.requires.ready.capped, known_on c.requires.ready.known c.loop-j.invariant.2.filled m h)
 
 pub overflow_add-count : goal.overflow_add-count
 overflow_add-count c =

@@ -30,7 +30,8 @@ loop-k-preserved-then-v-w c =
       search rules,
       c.tick-b.ensures.0,
       c.if-v-w.true ∙ c.travel-w.ensures.0,
-      flat_more c.requires.arc _ c.loop-k.k _ _ _ _ c.loop-k.invariant.3 c.loop-k.invariant.1 c.loop-k.invariant.2 c.tick-b.ensures.0 c.travel-w.ensures.0 h
+      flat_more c.requires.arc _ c.loop-k.k _ _ _ _ c.loop-k.invariant.3 c.loop-k.invariant.1
+          c.loop-k.invariant.2 c.tick-b.ensures.0 c.travel-w.ensures.0 h
           c.if-v-w.true,
       c.loop-k.invariant.4,
     )
@@ -76,11 +77,13 @@ lower_piece-fallen-requires c =
     let m : c.args.l.period ≤ length c.lower_span-fallen.new.row =
     omega (arith, c.loop-k.invariant.4.filled.long, c.lower_span-fallen.ensures.filled.long)
     in
-    let before = known_on {e = c.args.l.period} c.requires.period_in_bounds.2 c.loop-k.invariant.4.filled (omega arith)
+    let before = known_on {e = c.args.l.period} c.requires.period_in_bounds.2 c.loop-k.invariant.4.filled
+    (omega arith)
     (omega arith) in
     let known = known_on {e = c.args.l.period} before c.lower_span-fallen.ensures.filled
     c.loop-k.invariant.3.order (omega arith) in
-    ready_next c.requires.arc c.requires.period_in_bounds.1 c.loop-k.k _ _ _ _ known c.loop-k.invariant.1 c.loop-k.invariant.2 m
+    ready_next c.requires.arc c.requires.period_in_bounds.1 c.loop-k.k _ _ _ _ known c.loop-k.invariant.1
+    c.loop-k.invariant.2 m
     c.tick-b.ensures.0
     c.travel-w.ensures.0 h
 
@@ -164,11 +167,13 @@ lower_piece-requires c =
     let first =
     entry_start (decode c.args.file.now).travels c.args.from _
     c.travel-begin.ensures.0 in
-    let before = known_on {e = c.args.l.period} c.requires.period_in_bounds.2 c.loop-k.invariant.4.filled (omega arith)
+    let before = known_on {e = c.args.l.period} c.requires.period_in_bounds.2 c.loop-k.invariant.4.filled
+    (omega arith)
     (omega arith) in
     let known = known_on {e = c.args.l.period} before c.lower_span-fallen-2.ensures.filled
     c.loop-k.invariant.3.order (omega arith) in
-    ready_last c.requires.arc c.requires.period_in_bounds.1 c.loop-k.k _ _ _ _ known c.loop-k.invariant.1 c.loop-k.invariant.2 m refl first h
+    ready_last c.requires.arc c.requires.period_in_bounds.1 c.loop-k.k _ _ _ _ known c.loop-k.invariant.1
+    c.loop-k.invariant.2 m refl first h
 
 pub overflow_add-result : goal.overflow_add-result
 unfolding entry_at

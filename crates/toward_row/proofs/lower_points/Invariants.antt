@@ -10,8 +10,10 @@ use Rattle.toward_row.proofs.lower_points.Given as goal
 
 abbrev pub invariant-loop-k : goal.invariant-loop-k
 invariant-loop-k l =
-    (l.k ≤ l.last) × (l.a ≡ entry_at (decode l.file).ticks l.from l.k) × (l.v ≡ entry_at (decode l.file).travels l.from l.k)
+    (l.k ≤ l.last) × (l.a ≡ entry_at (decode l.file).ticks l.from l.k) ×
+    (l.v ≡ entry_at (decode l.file).travels l.from l.k)
     × Flat (value_at (decode l.file).ticks (decode l.file).travels l.from l.count l.l.period) l.flat l.a l.v
     × Cut l.first 0 l.flat
-    (lowered l.first (value_at (decode l.file).ticks (decode l.file).travels l.from l.count l.l.period) (entries l.hs)
+    (lowered l.first (value_at (decode l.file).ticks (decode l.file).travels l.from l.count l.l.period)
+    (entries l.hs)
     l.l.period l.initial.row) l.initial.row l.row l.fallen

@@ -14,10 +14,21 @@ shrinks : (n j : ℕ) → j < n → n - (j + 1) < n - j
 shrinks n j h = omega arith
 
 pub lower_span-begun-requires-clause-a_le_b : goal.lower_span-begun-requires-clause-a_le_b
-lower_span-begun-requires-clause-a_le_b c = (search rules, omega arith, search rules, search rules, search rules)
+lower_span-begun-requires-clause-a_le_b c = (
+  search rules,
+  omega arith,
+  search rules,
+  search rules,
+  search
+      rules,
+)
 
 pub lower_span-begun-requires-clause-capped : goal.lower_span-begun-requires-clause-capped
-lower_span-begun-requires-clause-capped c = (c.requires.ready.capped, known_part c.requires.ready.known (omega (arith, c.requires.ready.apart)))
+lower_span-begun-requires-clause-capped c = (
+  c.requires.ready.capped,
+  known_part c.requires.ready.known
+      (omega (arith, c.requires.ready.apart)),
+)
 
 pub loop-j-init : goal.loop-j-init
 loop-j-init c = (
@@ -42,14 +53,27 @@ overflow_add-e-in-loop-j c =
     )
 
 pub lower_span-count-requires-clause-a_le_b : goal.lower_span-count-requires-clause-a_le_b
-lower_span-count-requires-clause-a_le_b c = let h = rise_within c.requires.ready c.requires.v_lt_w c.loop-j.invariant.1 c.step_up-step.ensures c.loop-j-test.true c.wholes.ensures in
-    let k = rise_rises c.requires.ready c.requires.v_lt_w c.loop-j.invariant.1 c.step_up-step.ensures c.loop-j-test.true c.wholes.ensures in
-    let known = known_on {e = c.args.b} c.requires.ready.known c.lower_span-begun.ensures.filled (omega arith) (omega arith) in (k, omega arith, omega arith, omega arith, omega arith)
+lower_span-count-requires-clause-a_le_b c =
+    let h = rise_within c.requires.ready c.requires.v_lt_w c.loop-j.invariant.1 c.step_up-step.ensures
+    c.loop-j-test.true c.wholes.ensures in
+    let k = rise_rises c.requires.ready c.requires.v_lt_w c.loop-j.invariant.1 c.step_up-step.ensures
+    c.loop-j-test.true c.wholes.ensures in
+    let known = known_on {e = c.args.b} c.requires.ready.known c.lower_span-begun.ensures.filled
+    (omega arith) (omega arith) in
+    (k, omega arith, omega arith, omega arith, omega arith)
 
 pub lower_span-count-requires-clause-capped : goal.lower_span-count-requires-clause-capped
-lower_span-count-requires-clause-capped c = let h = rise_within c.requires.ready c.requires.v_lt_w c.loop-j.invariant.1 c.step_up-step.ensures c.loop-j-test.true c.wholes.ensures in
-    let k = rise_rises c.requires.ready c.requires.v_lt_w c.loop-j.invariant.1 c.step_up-step.ensures c.loop-j-test.true c.wholes.ensures in
-    let known = known_on {e = c.args.b} c.requires.ready.known c.lower_span-begun.ensures.filled (omega arith) (omega arith) in (c.requires.ready.capped, known_on known c.loop-j.invariant.2.filled (omega (arith, c.loop-j.invariant.1.at)) h)
+lower_span-count-requires-clause-capped c =
+    let h = rise_within c.requires.ready c.requires.v_lt_w c.loop-j.invariant.1 c.step_up-step.ensures
+    c.loop-j-test.true c.wholes.ensures in
+    let k = rise_rises c.requires.ready c.requires.v_lt_w c.loop-j.invariant.1 c.step_up-step.ensures
+    c.loop-j-test.true c.wholes.ensures in
+    let known = known_on {e = c.args.b} c.requires.ready.known c.lower_span-begun.ensures.filled
+    (omega arith) (omega arith) in (
+      c.requires.ready.capped,
+      known_on known c.loop-j.invariant.2.filled
+          (omega (arith, c.loop-j.invariant.1.at)) h,
+    )
 
 pub overflow_add-count : goal.overflow_add-count
 overflow_add-count c =
@@ -85,16 +109,24 @@ loop-j-preserved c = (
 )
 
 pub lower_span-ended-requires-clause-a_le_b : goal.lower_span-ended-requires-clause-a_le_b
-lower_span-ended-requires-clause-a_le_b c = let known = known_on {e = c.args.b} c.requires.ready.known c.lower_span-begun.ensures.filled (omega arith) (omega arith) in (
-  rise_still c.requires.ready c.requires.v_lt_w c.loop-j.invariant.1 c.loop-j.invariant.0,
-  omega arith,
-  omega arith,
-  omega arith,
-  omega arith,
-)
+lower_span-ended-requires-clause-a_le_b c =
+    let known = known_on {e = c.args.b} c.requires.ready.known c.lower_span-begun.ensures.filled
+    (omega arith) (omega arith) in (
+      rise_still c.requires.ready c.requires.v_lt_w c.loop-j.invariant.1 c.loop-j.invariant.0,
+      omega arith,
+      omega arith,
+      omega arith,
+      omega arith,
+    )
 
 pub lower_span-ended-requires-clause-capped : goal.lower_span-ended-requires-clause-capped
-lower_span-ended-requires-clause-capped c = let known = known_on {e = c.args.b} c.requires.ready.known c.lower_span-begun.ensures.filled (omega arith) (omega arith) in (c.requires.ready.capped, known_on known c.loop-j.invariant.2.filled (omega (arith, c.loop-j.invariant.1.at)) (omega arith))
+lower_span-ended-requires-clause-capped c =
+    let known = known_on {e = c.args.b} c.requires.ready.known c.lower_span-begun.ensures.filled
+    (omega arith) (omega arith) in (
+      c.requires.ready.capped,
+      known_on known c.loop-j.invariant.2.filled
+          (omega (arith, c.loop-j.invariant.1.at)) (omega arith),
+    )
 
 pub overflow_add-result : goal.overflow_add-result
 overflow_add-result c =

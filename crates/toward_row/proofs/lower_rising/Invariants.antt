@@ -10,4 +10,5 @@ use Rattle.toward_row.proofs.lower_rising.Given as goal
 abbrev pub invariant-loop-j : goal.invariant-loop-j
 invariant-loop-j l =
     (l.j ≤ l.last) × RisingAt l.a l.v l.b l.w l.step l.parts l.x l.j
-    × Cut l.first (l.a + 1) l.x (lowered l.first (line_at l.a l.v l.b l.w) (entries l.hs) l.period l.initial.row) l.initial.row l.row l.count
+    × Cut l.first (l.a + 1) l.x (lowered l.first (line_at l.a l.v l.b l.w) (entries l.hs) l.period
+    l.initial.row) l.initial.row l.row l.count

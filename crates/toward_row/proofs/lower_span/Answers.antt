@@ -17,7 +17,10 @@ pub lower_run-requires-then-next-a-clause-a_le_b : goal.lower_run-requires-then-
 lower_run-requires-then-next-a-clause-a_le_b c = search rules
 
 pub lower_run-requires-then-next-a-clause-capped : goal.lower_run-requires-then-next-a-clause-capped
-lower_run-requires-then-next-a-clause-capped c = (capped_part c.requires.capped.0 (omega arith), c.requires.capped.1)
+lower_run-requires-then-next-a-clause-capped c = (
+  capped_part c.requires.capped.0 (omega arith),
+  c.requires.capped.1,
+)
 
 pub returns-then-next-a : goal.returns-then-next-a
 returns-then-next-a c = search spans
@@ -26,7 +29,11 @@ pub lower_run-today-requires-clause-a_le_b : goal.lower_run-today-requires-claus
 lower_run-today-requires-clause-a_le_b c = search rules
 
 pub lower_run-today-requires-clause-capped : goal.lower_run-today-requires-clause-capped
-lower_run-today-requires-clause-capped c = (capped_part c.requires.capped.0 (omega arith), known_part c.requires.capped.1 (omega arith))
+lower_run-today-requires-clause-capped c = (
+  capped_part c.requires.capped.0 (omega arith),
+  known_part
+      c.requires.capped.1 (omega arith),
+)
 
 pub lower_run-tomorrow-requires-clause-a_le_b : goal.lower_run-tomorrow-requires-clause-a_le_b
 lower_run-tomorrow-requires-clause-a_le_b c = search rules

@@ -8,8 +8,10 @@ least_point-low-requires-clause-laid c = c.requires.town.laid
 
 pub least_point-low-requires-clause-count_nonzero : goal.least_point-low-requires-clause-count_nonzero
 least_point-low-requires-clause-count_nonzero c = (
-  (points_day c.requires.town c.requires.arc_lt_arcs.0 c.args.points.now _ _ c.wide-from.ensures.0 c.requires.arc_lt_arcs.1 c.count-count.ensures.0).some,
-  points_in c.requires.town c.requires.arc_lt_arcs.0 c.args.points.now _ _ c.wide-from.ensures.0 c.requires.arc_lt_arcs.1 c.count-count.ensures.0,
+  (points_day c.requires.town c.requires.arc_lt_arcs.0 c.args.points.now _ _ c.wide-from.ensures.0
+      c.requires.arc_lt_arcs.1 c.count-count.ensures.0).some,
+  points_in c.requires.town c.requires.arc_lt_arcs.0 c.args.points.now _ _ c.wide-from.ensures.0
+      c.requires.arc_lt_arcs.1 c.count-count.ensures.0,
 )
 
 pub greatest_point-high-requires-clause-laid : goal.greatest_point-high-requires-clause-laid
@@ -17,13 +19,17 @@ greatest_point-high-requires-clause-laid c = c.requires.town.laid
 
 pub greatest_point-high-requires-clause-count_nonzero : goal.greatest_point-high-requires-clause-count_nonzero
 greatest_point-high-requires-clause-count_nonzero c = (
-  (points_day c.requires.town c.requires.arc_lt_arcs.0 c.args.points.now _ _ c.wide-from.ensures.0 c.requires.arc_lt_arcs.1 c.count-count.ensures.0).some,
-  points_in c.requires.town c.requires.arc_lt_arcs.0 c.args.points.now _ _ c.wide-from.ensures.0 c.requires.arc_lt_arcs.1 c.count-count.ensures.0,
+  (points_day c.requires.town c.requires.arc_lt_arcs.0 c.args.points.now _ _ c.wide-from.ensures.0
+      c.requires.arc_lt_arcs.1 c.count-count.ensures.0).some,
+  points_in c.requires.town c.requires.arc_lt_arcs.0 c.args.points.now _ _ c.wide-from.ensures.0
+      c.requires.arc_lt_arcs.1 c.count-count.ensures.0,
 )
 
 pub returns : goal.returns
 returns c = brief_between c.between.ensures
-    (floor_travel c.requires.town c.requires.arc_lt_arcs.0 c.args.points.now _ _ c.wide-from.ensures.0 c.requires.arc_lt_arcs.1 c.count-count.ensures.0
+    (floor_travel c.requires.town c.requires.arc_lt_arcs.0 c.args.points.now _ _ c.wide-from.ensures.0
+    c.requires.arc_lt_arcs.1 c.count-count.ensures.0
     c.least_point-low.ensures)
-    (ceiling_travel c.requires.town c.requires.arc_lt_arcs.0 c.args.points.now _ _ c.wide-from.ensures.0 c.requires.arc_lt_arcs.1 c.count-count.ensures.0
+    (ceiling_travel c.requires.town c.requires.arc_lt_arcs.0 c.args.points.now _ _ c.wide-from.ensures.0
+    c.requires.arc_lt_arcs.1 c.count-count.ensures.0
     c.greatest_point-high.ensures)

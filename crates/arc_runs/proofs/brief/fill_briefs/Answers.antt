@@ -15,14 +15,16 @@ brief_of-requires-clause-town c = let h : c.loop-a.a < c.args.l.arcs = omega (ar
     c.requires.town
 
 pub brief_of-requires-clause-arc_lt_arcs : goal.brief_of-requires-clause-arc_lt_arcs
-brief_of-requires-clause-arc_lt_arcs c = let h : c.loop-a.a < c.args.l.arcs = omega (arith, c.loop-a-test.true) in
+brief_of-requires-clause-arc_lt_arcs c =
+    let h : c.loop-a.a < c.args.l.arcs = omega (arith, c.loop-a-test.true) in
     (h, c.requires.pointed.at _ h)
 
 pub loop-a-preserved : goal.loop-a-preserved
 loop-a-preserved c = (
   search rules,
   length-set c.loop-a.briefs c.loop-a.a _ ∙ c.loop-a.invariant.1,
-  briefs_more _ c.loop-a.invariant.2 (omega (arith, c.loop-a.invariant.1, c.requires.arcs_in_bounds)) c.brief_of.ensures,
+  briefs_more _ c.loop-a.invariant.2 (omega (arith, c.loop-a.invariant.1, c.requires.arcs_in_bounds))
+      c.brief_of.ensures,
 )
 
 pub returns : goal.returns

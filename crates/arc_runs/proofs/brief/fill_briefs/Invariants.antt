@@ -8,4 +8,5 @@ use Rattle.arc_runs.proofs.brief.fill_briefs.Given as goal
 
 abbrev pub invariant-loop-a : goal.invariant-loop-a
 invariant-loop-a l =
-    (l.a ≤ l.arcs) × (length l.briefs ≡ length l.initial.briefs) × Briefs (decode l.file) l.l.period l.a l.briefs
+    (l.a ≤ l.arcs) × (length l.briefs ≡ length l.initial.briefs) × Briefs (decode l.file) l.l.period l.a
+    l.briefs

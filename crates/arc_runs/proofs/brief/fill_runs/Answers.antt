@@ -25,14 +25,27 @@ pub fill_arc-requires-clause-arc_bound : goal.fill_arc-requires-clause-arc_bound
 fill_arc-requires-clause-arc_bound c = c.requires.arc_bound
 
 pub returns-then-brief-lt-STEADY : goal.returns-then-brief-lt-STEADY
-returns-then-brief-lt-STEADY c = (c.fill_arc.ensures.0, c.fill_arc.ensures.1, omega (arith, c.fill_arc.ensures.2), omega (arith, c.fill_arc.ensures.2))
+returns-then-brief-lt-STEADY c = (
+  c.fill_arc.ensures.0,
+  c.fill_arc.ensures.1,
+  omega
+      (arith, c.fill_arc.ensures.2),
+  omega (arith, c.fill_arc.ensures.2),
+)
 
 pub returns : goal.returns
 returns c = let h : 128 ≤ c.args.brief = omega arith in
-    let in_s : 1 < length c.args.starts.now = omega (arith, c.requires.space.0.in_s, c.requires.town.small.period_some) in
-    let in_v : 0 < length c.args.travels.now = omega (arith, c.requires.space.1, c.requires.town.small.period_some) in (
-      steady_runs c.requires.brief h c.requires.town.small.period_some c.args.starts.now c.args.travels.now in_s in_v c.put_steady.ensures.0 c.put_steady.ensures.1,
-      steady_short c.requires.brief h c.requires.town.small.period_some c.args.starts.now c.args.travels.now in_s in_v c.put_steady.ensures.1
+    let in_s : 1 < length c.args.starts.now = omega (
+      arith,
+      c.requires.space.0.in_s,
+      c.requires.town.small.period_some,
+    ) in
+    let in_v : 0 < length c.args.travels.now = omega
+    (arith, c.requires.space.1, c.requires.town.small.period_some) in (
+      steady_runs c.requires.brief h c.requires.town.small.period_some c.args.starts.now c.args.travels.now
+          in_s in_v c.put_steady.ensures.0 c.put_steady.ensures.1,
+      steady_short c.requires.brief h c.requires.town.small.period_some c.args.starts.now c.args.travels.now
+          in_s in_v c.put_steady.ensures.1
           (most_travel c.requires.town c.requires.arc_lt_arcs.0),
       none-fewer _,
       none_more _ _,

@@ -12,7 +12,8 @@ first_points-requires-clause-town c = let town = valid_town c.requires.valid_fil
     town
 
 pub first_points-requires-clause-arcs_in_bounds : goal.first_points-requires-clause-arcs_in_bounds
-first_points-requires-clause-arcs_in_bounds c = let town = valid_town c.requires.valid_file.0 c.requires.valid_file.2 in
+first_points-requires-clause-arcs_in_bounds c =
+    let town = valid_town c.requires.valid_file.0 c.requires.valid_file.2 in
     town.small.arcs_most
 
 pub chain-requires-clause-town : goal.chain-requires-clause-town
@@ -24,25 +25,31 @@ chain-requires-clause-unchained c = let town = valid_town c.requires.valid_file.
     fresh_tables town
 
 pub least_of_arcs-requires-clause-primed : goal.least_of_arcs-requires-clause-primed
-least_of_arcs-requires-clause-primed c = let town = valid_town c.requires.valid_file.0 c.requires.valid_file.2 in primed_of town c.first_points.ensures
+least_of_arcs-requires-clause-primed c =
+    let town = valid_town c.requires.valid_file.0 c.requires.valid_file.2 in
+    primed_of town c.first_points.ensures
 
 pub least_of_arcs-requires-clause-arcs_in_bounds : goal.least_of_arcs-requires-clause-arcs_in_bounds
-least_of_arcs-requires-clause-arcs_in_bounds c = let town = valid_town c.requires.valid_file.0 c.requires.valid_file.2 in town.small.arcs_most
+least_of_arcs-requires-clause-arcs_in_bounds c =
+    let town = valid_town c.requires.valid_file.0 c.requires.valid_file.2 in
+    town.small.arcs_most
 
 pub list_borders-count-requires-clause-laid : goal.list_borders-count-requires-clause-laid
-list_borders-count-requires-clause-laid c = let town = valid_town c.requires.valid_file.0 c.requires.valid_file.2 in
+list_borders-count-requires-clause-laid c =
+    let town = valid_town c.requires.valid_file.0 c.requires.valid_file.2 in
     town.laid
 
 pub list_borders-count-requires-clause-sound_network : goal.list_borders-count-requires-clause-sound_network
-list_borders-count-requires-clause-sound_network c = let town = valid_town c.requires.valid_file.0 c.requires.valid_file.2 in
+list_borders-count-requires-clause-sound_network c =
+    let town = valid_town c.requires.valid_file.0 c.requires.valid_file.2 in
     town.sound
 
 pub list_borders-count-requires-clause-out_len : goal.list_borders-count-requires-clause-out_len
-list_borders-count-requires-clause-out_len c = let town = valid_town c.requires.valid_file.0 c.requires.valid_file.2 in
-    refl
+list_borders-count-requires-clause-out_len c = refl
 
 pub count_points-points-requires-clause-tables : goal.count_points-points-requires-clause-tables
-count_points-points-requires-clause-tables c = tables_of_lem (valid_town c.requires.valid_file.0 c.requires.valid_file.2) _ c.first_points.ensures
+count_points-points-requires-clause-tables c = tables_of_lem (valid_town c.requires.valid_file.0
+    c.requires.valid_file.2) _ c.first_points.ensures
     c.chain.ensures c.least_of_arcs.ensures
     c.list_borders-count.ensures.1
 
@@ -59,7 +66,8 @@ pub make_counted-requires-clause-valid_file : goal.make_counted-requires-clause-
 make_counted-requires-clause-valid_file c = (c.requires.valid_file.0, c.requires.valid_file.1)
 
 pub make_counted-requires-clause-tables : goal.make_counted-requires-clause-tables
-make_counted-requires-clause-tables c = tables_of_lem (valid_town c.requires.valid_file.0 c.requires.valid_file.2) _ c.first_points.ensures c.chain.ensures c.least_of_arcs.ensures
+make_counted-requires-clause-tables c = tables_of_lem (valid_town c.requires.valid_file.0
+    c.requires.valid_file.2) _ c.first_points.ensures c.chain.ensures c.least_of_arcs.ensures
     c.list_borders-count.ensures.1
 
 pub make_counted-requires-clause-count_value : goal.make_counted-requires-clause-count_value

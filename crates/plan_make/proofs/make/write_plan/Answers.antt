@@ -6,16 +6,15 @@ use Rattle.plan_make.specs.Making.{room_same, held_by, flagged_room, plan_made_l
 use Rattle.plan_make.proofs.make.write_plan.Goals as goal
 
 pub put_borders-requires-clause-tables : goal.put_borders-requires-clause-tables
-put_borders-requires-clause-tables c = let n = decode c.args.file.now in
-    let room = room_same (plan_room_lem c.requires.plan_writable.0) c.write_frames.ensures.long in c.requires.tables
+put_borders-requires-clause-tables c = c.requires.tables
 
 pub put_borders-requires-clause-held : goal.put_borders-requires-clause-held
 put_borders-requires-clause-held c = let n = decode c.args.file.now in
-    let room = room_same (plan_room_lem c.requires.plan_writable.0) c.write_frames.ensures.long in (held_by c.requires.plan_writable.0 n c.requires.plan_writable.1, room)
+    let room = room_same (plan_room_lem c.requires.plan_writable.0) c.write_frames.ensures.long in
+    (held_by c.requires.plan_writable.0 n c.requires.plan_writable.1, room)
 
 pub put_borders-requires-clause-work_len : goal.put_borders-requires-clause-work_len
-put_borders-requires-clause-work_len c = let n = decode c.args.file.now in
-    let room = room_same (plan_room_lem c.requires.plan_writable.0) c.write_frames.ensures.long in (c.requires.plan_writable.2, c.inside_words.ensures)
+put_borders-requires-clause-work_len c = (c.requires.plan_writable.2, c.inside_words.ensures)
 
 pub put_flags-requires : goal.put_flags-requires
 put_flags-requires c =

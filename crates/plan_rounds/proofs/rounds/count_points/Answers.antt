@@ -21,7 +21,11 @@ pub travels_to-requires-clause-tables : goal.travels_to-requires-clause-tables
 travels_to-requires-clause-tables c = c.requires.tables
 
 pub travels_to-requires-clause-i_bound : goal.travels_to-requires-clause-i_bound
-travels_to-requires-clause-i_bound c = (omega arith, c.loop-i.invariant.1 ∙ c.requires.count_value.1, c.loop-i.invariant.4)
+travels_to-requires-clause-i_bound c = (
+  omega arith,
+  c.loop-i.invariant.1 ∙ c.requires.count_value.1,
+  c.loop-i.invariant.4,
+)
 
 pub count_rows-seen-requires-clause-small : goal.count_rows-seen-requires-clause-small
 count_rows-seen-requires-clause-small c = let i : c.loop-i.i < border_count (partition_of
@@ -55,7 +59,8 @@ loop-i-preserved c =
     let i : c.loop-i.i < border_count (partition_of (decode c.args.file.now)) = omega arith in (
       omega arith,
       omega arith,
-      counted_more c.args.file.now c.requires.tables.ready.primed.town i c.travels_to.ensures.0 c.loop-i.invariant.2
+      counted_more c.args.file.now c.requires.tables.ready.primed.town i c.travels_to.ensures.0
+          c.loop-i.invariant.2
           c.count_rows-seen.ensures,
       c.if-seen-gt-MOST_POINTS.false,
       omega (arith, c.travels_to.ensures.2, c.loop-i.invariant.4),

@@ -31,30 +31,52 @@ overflow_mul-i c =
     omega (arith, profiles_few c.requires.tables.ready.primed.town c.requires.held.0 c.loop-i-test.true)
 
 pub put_rows-q-requires-clause-small : goal.put_rows-q-requires-clause-small
-put_rows-q-requires-clause-small c = let h = listed c.requires.tables.ready.primed.town c.requires.held.0 c.loop-i-test.true in
-    (c.requires.tables.ready.primed.town.small, put_kept c.requires.held.1 c.loop-i.invariant.3)
+put_rows-q-requires-clause-small c = (
+  c.requires.tables.ready.primed.town.small,
+  put_kept c.requires.held.1
+      c.loop-i.invariant.3,
+)
 
 pub put_rows-q-requires-clause-work_len : goal.put_rows-q-requires-clause-work_len
-put_rows-q-requires-clause-work_len c = let h = listed c.requires.tables.ready.primed.town c.requires.held.0 c.loop-i-test.true in
-    (c.flags_to.ensures.2 ∙ c.loop-i.invariant.1 ∙ c.requires.work_len.0, rows_low c.requires.tables.ready.primed.town h c.flags_to.ensures.0.worked)
+put_rows-q-requires-clause-work_len c =
+    let h = listed c.requires.tables.ready.primed.town c.requires.held.0 c.loop-i-test.true in (
+      c.flags_to.ensures.2 ∙ c.loop-i.invariant.1 ∙ c.requires.work_len.0,
+      rows_low
+          c.requires.tables.ready.primed.town h c.flags_to.ensures.0.worked,
+    )
 
 pub put_rows-q-requires-clause-nodes_bound : goal.put_rows-q-requires-clause-nodes_bound
-put_rows-q-requires-clause-nodes_bound c = let h = listed c.requires.tables.ready.primed.town c.requires.held.0 c.loop-i-test.true in
-    (profiles_room c.requires.tables.ready.primed.town c.requires.held.0 c.loop-i-test.true refl, points_room c.requires.tables.ready.primed.town c.requires.held.0 c.loop-i-test.true c.flags_to.ensures.0.worked c.loop-i.invariant.2)
+put_rows-q-requires-clause-nodes_bound c = (
+  profiles_room c.requires.tables.ready.primed.town
+      c.requires.held.0 c.loop-i-test.true refl,
+  points_room c.requires.tables.ready.primed.town
+      c.requires.held.0 c.loop-i-test.true c.flags_to.ensures.0.worked c.loop-i.invariant.2,
+)
 
 pub overflow_step-i : goal.overflow_step-i
 overflow_step-i c =
     omega (
       arith,
-      border_index_lem c.requires.tables (listed c.requires.tables.ready.primed.town c.requires.held.0 c.loop-i-test.true),
+      border_index_lem c.requires.tables (listed c.requires.tables.ready.primed.town c.requires.held.0
+          c.loop-i-test.true),
     )
 
 pub loop-i-preserved : goal.loop-i-preserved
 loop-i-preserved c =
     let flags = rw c.flags_to.ensures.0.border at c.flags_to.ensures.1 in
-    let m = put_more c.requires.tables.ready.primed.town c.requires.held.0 c.loop-i-test.true c.flags_to.ensures.0.worked c.loop-i.invariant.3 flags refl
-    c.loop-i.invariant.2 c.put_rows-q.ensures in
-    (omega arith, c.flags_to.ensures.2 ∙ c.loop-i.invariant.1, m.0, m.1, omega (arith, c.flags_to.ensures.3, c.loop-i.invariant.4))
+    let m = put_more c.requires.tables.ready.primed.town c.requires.held.0 c.loop-i-test.true
+    c.flags_to.ensures.0.worked c.loop-i.invariant.3 flags refl
+    c.loop-i.invariant.2 c.put_rows-q.ensures in (
+      omega arith,
+      c.flags_to.ensures.2 ∙ c.loop-i.invariant.1,
+      m.0,
+      m.1,
+      omega (
+        arith,
+        c.flags_to.ensures.3,
+        c.loop-i.invariant.4,
+      ),
+    )
 
 pub shape_of-work : goal.shape_of-work
 shape_of-work c = c.loop-i.invariant.1

@@ -15,7 +15,8 @@ put_part-at-requires-clause-le_a c = (
   omega arith,
   omega arith,
   omega arith,
-  part_room _ c.args.last c.loop-x.invariant.2 c.loop-x.invariant.0 (le_of_lt c.part_end-e.ensures.0) c.part_end-e.ensures.1 c.requires.le_last.2,
+  part_room _ c.args.last c.loop-x.invariant.2 c.loop-x.invariant.0 (le_of_lt c.part_end-e.ensures.0)
+      c.part_end-e.ensures.1 c.requires.le_last.2,
 )
 
 pub loop-x-preserved : goal.loop-x-preserved

@@ -10,7 +10,8 @@ pub put_point-requires-clause-plan_room : goal.put_point-requires-clause-plan_ro
 put_point-requires-clause-plan_room c = c.requires.low.1
 
 pub put_point-requires-clause-q_lt_points : goal.put_point-requires-clause-q_lt_points
-put_point-requires-clause-q_lt_points c = first_room c.args.k c.args.row.now c.args.q c.requires.low.0.some c.requires.row_bound
+put_point-requires-clause-q_lt_points c = first_room c.args.k c.args.row.now c.args.q c.requires.low.0.some
+    c.requires.row_bound
 
 pub returns-then-last-eq0 : goal.returns-then-last-eq0
 returns-then-last-eq0 c =
@@ -19,13 +20,18 @@ returns-then-last-eq0 c =
     c.put_point.ensures) (omega (arith, c.requires.low.0.some)) (omega arith)
 
 pub put_parts-next-requires-clause-low : goal.put_parts-next-requires-clause-low
-put_parts-next-requires-clause-low c = let first = first_put c.args.k c.args.row.now c.args.q c.requires.low.0.some c.requires.row_bound refl (omega arith)
+put_parts-next-requires-clause-low c =
+    let first = first_put c.args.k c.args.row.now c.args.q c.requires.low.0.some c.requires.row_bound refl
+    (omega arith)
     c.put_point.ensures in
     let last : 1 ≤ length c.args.row.now - 1 = omega arith in
-    let below : length c.args.row.now - 1 ≤ length c.args.row.now = omega arith in (c.requires.low.0, room_kept c.requires.low.1 first)
+    let below : length c.args.row.now - 1 ≤ length c.args.row.now = omega arith in
+    (c.requires.low.0, room_kept c.requires.low.1 first)
 
 pub put_parts-next-requires-clause-le_last : goal.put_parts-next-requires-clause-le_last
-put_parts-next-requires-clause-le_last c = let first = first_put c.args.k c.args.row.now c.args.q c.requires.low.0.some c.requires.row_bound refl (omega arith)
+put_parts-next-requires-clause-le_last c =
+    let first = first_put c.args.k c.args.row.now c.args.q c.requires.low.0.some c.requires.row_bound refl
+    (omega arith)
     c.put_point.ensures in
     let last : 1 ≤ length c.args.row.now - 1 = omega arith in
     let below : length c.args.row.now - 1 ≤ length c.args.row.now = omega arith in (
@@ -36,11 +42,17 @@ put_parts-next-requires-clause-le_last c = let first = first_put c.args.k c.args
     )
 
 pub turn-turned-requires : goal.turn-turned-requires
-turn-turned-requires c =
-    (c.requires.low.0.entry _ (omega arith), c.requires.low.0.entry _ (omega arith), c.requires.low.0.entry 0 c.requires.low.0.some)
+turn-turned-requires c = (
+  c.requires.low.0.entry _ (omega arith),
+  c.requires.low.0.entry _ (omega arith),
+  c.requires.low.0.entry
+      0 c.requires.low.0.some,
+)
 
 pub put_tick-requires-clause-low : goal.put_tick-requires-clause-low
-put_tick-requires-clause-low c = let first = first_put c.args.k c.args.row.now c.args.q c.requires.low.0.some c.requires.row_bound refl (omega arith)
+put_tick-requires-clause-low c =
+    let first = first_put c.args.k c.args.row.now c.args.q c.requires.low.0.some c.requires.row_bound refl
+    (omega arith)
     c.put_point.ensures in
     let parts = put_join first c.put_parts-next.ensures
     in
@@ -55,7 +67,9 @@ put_tick-requires-clause-low c = let first = first_put c.args.k c.args.row.now c
     (c.requires.low.0, room_kept c.requires.low.1 parts)
 
 pub put_tick-requires-clause-x_in_bounds : goal.put_tick-requires-clause-x_in_bounds
-put_tick-requires-clause-x_in_bounds c = let first = first_put c.args.k c.args.row.now c.args.q c.requires.low.0.some c.requires.row_bound refl (omega arith)
+put_tick-requires-clause-x_in_bounds c =
+    let first = first_put c.args.k c.args.row.now c.args.q c.requires.low.0.some c.requires.row_bound refl
+    (omega arith)
     c.put_point.ensures in
     let parts = put_join first c.put_parts-next.ensures
     in
@@ -71,7 +85,8 @@ put_tick-requires-clause-x_in_bounds c = let first = first_put c.args.k c.args.r
 
 pub returns : goal.returns
 returns c =
-    let first = first_put c.args.k c.args.row.now c.args.q c.requires.low.0.some c.requires.row_bound refl (omega arith)
+    let first = first_put c.args.k c.args.row.now c.args.q c.requires.low.0.some c.requires.row_bound refl
+    (omega arith)
     c.put_point.ensures in
     let parts = put_join first c.put_parts-next.ensures in
     put_end (put_join parts c.put_tick.ensures) (omega (arith, c.requires.low.0.some))

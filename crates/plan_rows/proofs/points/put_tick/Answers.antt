@@ -9,5 +9,6 @@ returns-then-turned-eq0 c =
 
 pub returns : goal.returns
 returns c =
-    tick_put c.requires.x_in_bounds.2 c.if-turned-eq0.false c.requires.x_in_bounds.0 (omega (arith, c.if-turned-eq0.false)) refl (omega arith)
+    tick_put c.requires.x_in_bounds.2 c.if-turned-eq0.false c.requires.x_in_bounds.0
+    (omega (arith, c.if-turned-eq0.false)) refl (omega arith)
     c.put_point.ensures

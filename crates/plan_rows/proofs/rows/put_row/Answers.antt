@@ -17,14 +17,17 @@ returns-then-work-p c =
 pub put_points-next-requires-clause-low : goal.put_points-next-requires-clause-low
 put_points-next-requires-clause-low c = let ne : grid_at c.args.l.period c.args.work.now c.args.u 0 ≢ never =
     λ z. c.if-work-p.false (at_row c.args.l.period c.args.work.now c.args.u _ c.row_place-p.ensures.0 z) in (
-      row_low c.args.l.period c.args.work.now c.args.u _ _ c.row_place-p.ensures.0 refl (omega arith) c.requires.u_lt_nodes.2
+      row_low c.args.l.period c.args.work.now c.args.u _ _ c.row_place-p.ensures.0 refl (omega arith)
+          c.requires.u_lt_nodes.2
           c.requires.u_lt_nodes.0 ne,
       c.requires.small.1,
     )
 
 pub put_points-next-requires-clause-row_bound : goal.put_points-next-requires-clause-row_bound
-put_points-next-requires-clause-row_bound c = let ne : grid_at c.args.l.period c.args.work.now c.args.u 0 ≢ never =
-    λ z. c.if-work-p.false (at_row c.args.l.period c.args.work.now c.args.u _ c.row_place-p.ensures.0 z) in omega (
+put_points-next-requires-clause-row_bound c =
+    let ne : grid_at c.args.l.period c.args.work.now c.args.u 0 ≢ never =
+    λ z. c.if-work-p.false (at_row c.args.l.period c.args.work.now c.args.u _ c.row_place-p.ensures.0
+    z) in omega (
       arith,
       row_turns c.args.l.period c.args.work.now c.args.u _ _ c.row_place-p.ensures.0 refl (omega arith) ne,
       c.requires.c_lt_profiles.1,
@@ -37,7 +40,8 @@ overflow_sub-next c =
     (at_row c.args.l.period c.args.work.now c.args.u _ c.row_place-p.ensures.0 z) in
     omega (
       arith,
-      row_next c.args.l.period c.args.work.now c.args.u _ _ c.row_place-p.ensures.0 refl (omega arith) c.args.k c.args.q ne
+      row_next c.args.l.period c.args.work.now c.args.u _ _ c.row_place-p.ensures.0 refl (omega arith)
+          c.args.k c.args.q ne
           c.put_points-next.ensures,
     )
 
@@ -48,7 +52,8 @@ overflow_cast-next c =
     (at_row c.args.l.period c.args.work.now c.args.u _ c.row_place-p.ensures.0 z) in
     omega (
       arith,
-      row_next c.args.l.period c.args.work.now c.args.u _ _ c.row_place-p.ensures.0 refl (omega arith) c.args.k c.args.q ne
+      row_next c.args.l.period c.args.work.now c.args.u _ _ c.row_place-p.ensures.0 refl (omega arith)
+          c.args.k c.args.q ne
           c.put_points-next.ensures,
       points_few c.args.l.period c.args.work.now c.args.u,
       c.requires.u_lt_nodes.2.few,
@@ -59,7 +64,8 @@ returns c =
     let ne : grid_at c.args.l.period c.args.work.now c.args.u 0 ≢ never =
     λ z. c.if-work-p.false
     (at_row c.args.l.period c.args.work.now c.args.u _ c.row_place-p.ensures.0 z) in
-    row_put c.args.l.period c.args.work.now c.args.u _ _ c.row_place-p.ensures.0 refl (omega arith) c.args.k c.args.q ne
+    row_put c.args.l.period c.args.work.now c.args.u _ _ c.row_place-p.ensures.0 refl (omega arith) c.args.k
+    c.args.q ne
     c.put_points-next.ensures c.requires.c_lt_profiles.0 refl (omega
     arith)
     c.put_count-2.ensures

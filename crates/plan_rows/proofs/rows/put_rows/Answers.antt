@@ -13,7 +13,11 @@ pub put_row-at-requires-clause-u_lt_nodes : goal.put_row-at-requires-clause-u_lt
 put_row-at-requires-clause-u_lt_nodes c = (c.loop-u-test.true, c.requires.work_len.0, c.requires.work_len.1)
 
 pub put_row-at-requires-clause-c_lt_profiles : goal.put_row-at-requires-clause-c_lt_profiles
-put_row-at-requires-clause-c_lt_profiles c = (omega (arith, c.requires.nodes_bound.0), rows_room c.args.l.nodes c.loop-u.invariant.1 c.loop-u-test.true c.requires.nodes_bound.1)
+put_row-at-requires-clause-c_lt_profiles c = (
+  omega (arith, c.requires.nodes_bound.0),
+  rows_room
+      c.args.l.nodes c.loop-u.invariant.1 c.loop-u-test.true c.requires.nodes_bound.1,
+)
 
 pub loop-u-preserved : goal.loop-u-preserved
 loop-u-preserved c = (
