@@ -32,7 +32,7 @@ library: $(LIBRARY)
 
 $(LIBRARY): $(PROVED)
 	@command -v rt > /dev/null || { echo 'The Rattle kit is not installed: there is no command rt.'; exit 1; }
-	@echo 'The library is proved and built. The first time that takes about ten minutes on two processors.'
+	@echo 'The library is proved and built. The first time that takes a good while.'
 	cd crates/varnwalnut && rt lib
 
 $(OUT)/%.o: tools/%.c $(HEADERS)
