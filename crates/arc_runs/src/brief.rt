@@ -10,11 +10,11 @@ ghost use Rattle.day_slopes.specs.Runs.{Runs, Short};
 ghost use Rattle.day_runs.specs.Filling.{Space};
 ghost use Rattle.arc_runs.specs.Brief.{Brief, Briefs, Pointed, Between};
 
-use crate::{fill_arc, greatest_point, least_point};
+use crate::{fill_arc, first_point};
+use day_runs::points::{greatest_point, least_point};
 use network::header::Layout;
 use network::limits::MOST_ARCS;
 use network::read;
-use search_arcs::wide;
 
 // From here on a byte is a travel of all day, with this added.
 const STEADY: u8 = 128;
@@ -38,11 +38,9 @@ fn brief_of(file: &[u8], l: Layout, points: &[u16; MOST_ARCS], arc: usize) -> u8
     requires arc_lt_arcs { (arc < l.arcs) × (get_or points.now arc 0 ≡ Network.start (decode file.now) arc) }
     ensures { Brief (travel_at (decode file.now) arc) l.period result }
 {
-    let from = wide(points[arc]);
+    let first = first_point(file, &l, points, arc);
     let count = read::count(file, l, arc);
-    let low = least_point(file, l, from, count);
-    let high = greatest_point(file, l, from, count);
-    between(low, high)
+    between(least_point(first, count), greatest_point(first, count))
 }
 
 // The briefs of all arcs.
@@ -62,7 +60,7 @@ pub fn fill_briefs(file: &[u8], l: Layout, points: &[u16; MOST_ARCS], briefs: &m
 pub fn least(brief: u8) -> u32
     ensures { result ≡ brief % 128 }
 {
-    (brief % STEADY) as u32
+    u32::from(brief % STEADY)
 }
 
 // One run of all day.
@@ -102,6 +100,6 @@ pub fn fill_runs(
     if brief < STEADY {
         return fill_arc(file, l, points, arc, starts, values, travels, finds);
     }
-    put_steady(starts, travels, l.period, (brief - STEADY) as u16);
+    put_steady(starts, travels, l.period, u16::from(brief - STEADY));
     1
 }

@@ -1,21 +1,12 @@
--- Laws for the code that writes an answer in numbers: they are copied, and are those of the answer's case.
+-- Laws for the code that writes an answer in numbers: they are those of the answer's case.
 use mathlib.Core.{Path.◌≡◌, Path.sym, Path.◌∙◌, Path.ap, List.List}
-use Rattle.std.specs.Prelude.{ℕ, ◌≤◌, length, get_or}
-use Rattle.std.proofs.Common.{arith}
-use Rattle.theory_loops.specs.Fill.{Filled, tab_list, filled_list, overwritten}
+use Rattle.std.specs.Prelude.{ℕ, Result, ⊤}
+use Rattle.theory_loops.specs.Fill.{overwritten}
 use Rattle.file_refusals.specs.Says.{Says, numbers_of}
-use Rattle.search_path.specs.declared.answer.Answer.{Answer}
 use Rattle.trip_call.specs.Visit.{visit_says}
-use Rattle.plan_check.specs.declared.answer.Checking.{Checking}
+use Rattle.file_refusals.specs.declared.Refusal.{Refusal}
+use Rattle.search_path.specs.declared.answer.Arrival.{Arrival}
 use Rattle.plan_check.specs.Answer.{report_says}
-
--- AN ANSWER OF NUMBERS, copied
-pub copied : (numbers old new : List ℕ) (i : ℕ) → length numbers ≤ length old
-    → Filled 0 i (λ k. get_or numbers k 0) old new → i ≤ length numbers → length numbers ≤ i
-    → new ≡ overwritten numbers old
-copied numbers old new i l f a b =
-    let q : i ≡ length numbers = omega arith in
-    filled_list _ (length numbers) old new l (rw q at f) ∙ rw (tab_list numbers)
 
 -- AN ANSWER o THAT IS THE CASE k: the number that is returned, and the numbers that are written
 module _ {A : Type 0} (says : A → Says) (o k : A) (e : o ≡ k) where
@@ -27,16 +18,16 @@ module _ {A : Type 0} (says : A → Says) (o k : A) (e : o ≡ k) where
   case_numbers old new f = f ∙ ap (λ (v : A). overwritten (numbers_of (says v)) old) (sym e)
 
 -- and the check's, whose finds are the same in either case
-pub report_numbers : (finds : ℕ) (o k : Checking) → o ≡ k → (old new : List ℕ)
+pub report_numbers : (finds : ℕ) (o k : Result ⊤ Refusal) → o ≡ k → (old new : List ℕ)
     → new ≡ overwritten (numbers_of (report_says k finds)) old
     → new ≡ overwritten (numbers_of (report_says o finds)) old
 report_numbers finds = case_numbers (λ v. report_says v finds)
 
 -- and a trip's, whose target's hours are the same in either case
-pub visit_numbers : (opens : ℕ) (o k : Answer) → o ≡ k → (old new : List ℕ)
+pub visit_numbers : (opens : ℕ) (o k : Result Arrival Refusal) → o ≡ k → (old new : List ℕ)
     → new ≡ overwritten (numbers_of (visit_says k opens)) old
     → new ≡ overwritten (numbers_of (visit_says o opens)) old
 visit_numbers opens = case_numbers (λ v. visit_says v opens)
 
-pub visit_number : (opens : ℕ) (o k : Answer) → o ≡ k → (visit_says k opens).number ≡ (visit_says o opens).number
+pub visit_number : (opens : ℕ) (o k : Result Arrival Refusal) → o ≡ k → (visit_says k opens).number ≡ (visit_says o opens).number
 visit_number opens = case_number (λ v. visit_says v opens)

@@ -2,20 +2,16 @@
 // returns the refusal, or 0.
 ghost use Rattle.std.specs.Prelude.{◌≡◌, ◌≤◌, length};
 ghost use Rattle.theory_loops.specs.Fill.{overwritten};
-ghost use Rattle.file_refusals.specs.Says.{numbers_of};
+ghost use Rattle.file_refusals.specs.Says.{numbers_of, number_says};
 ghost use Rattle.network.specs.Answer.{opening_says};
-ghost use Rattle.file_refusals.specs.Listing.{listing_says};
-ghost use Rattle.file_refusals.specs.Writing.{writing_says};
 ghost use Rattle.plan_check.specs.Answer.{report_says};
 ghost use Rattle.search_path.specs.Says.{trip_count};
 ghost use Rattle.trip_call.specs.Visit.{visit_says};
 ghost use Rattle.network.specs.Limits.{most_roads};
 
-use file_refusals::listing::Listing;
-use file_refusals::writing::Writing;
-use network::answer::Opening;
-use plan_check::answer::{Checking, Report};
-use search_path::answer::Answer;
+use file_refusals::Refusal;
+use network::header::Header;
+use plan_check::answer::Report;
 use trip_call::visit::Visit;
 
 // One more than the greatest number of 32 bits.
@@ -26,9 +22,7 @@ fn write(numbers: &[u32], answer: &mut [u32])
     requires { length numbers.now ≤ length answer.old }
     ensures { answer.new ≡ overwritten numbers.now answer.old }
 {
-    for i in 0..numbers.len() {
-        answer[i] = numbers[i];
-    }
+    answer[..numbers.len()].copy_from_slice(numbers);
 }
 
 // What the check tells: its verdict, and its finds in two words.
@@ -42,12 +36,12 @@ pub fn write_checking(report: Report, answer: &mut [u32]) -> u32
     let high = (report.finds / WORD) as u32;
     let verdict = report.verdict;
     match verdict {
-        Checking::Accepted => {
+        Ok(()) => {
             let numbers = [0, 0, 0, low, high];
             write(&numbers, answer);
             0
         }
-        Checking::Refused(r) => {
+        Err(r) => {
             let numbers = [r.first, r.second, r.third, low, high];
             write(&numbers, answer);
             r.number
@@ -56,14 +50,14 @@ pub fn write_checking(report: Report, answer: &mut [u32]) -> u32
 }
 
 // What Open answers.
-pub fn write_opening(opening: Opening, answer: &mut [u32]) -> u32
+pub fn write_opening(opening: Result<Header, Refusal>, answer: &mut [u32]) -> u32
     requires { 10 ≤ length answer.old }
     ensures code { result ≡ (opening_says opening).number }
     ensures numbers { answer.new
         ≡ overwritten (numbers_of (opening_says opening)) answer.old }
 {
     match opening {
-        Opening::Opened(h) => {
+        Ok(h) => {
             let numbers = [
                 0,
                 0,
@@ -79,7 +73,7 @@ pub fn write_opening(opening: Opening, answer: &mut [u32]) -> u32
             write(&numbers, answer);
             0
         }
-        Opening::Refused(r) => {
+        Err(r) => {
             let numbers = [r.first, r.second, r.third, 0, 0, 0, 0, 0, 0, 0];
             write(&numbers, answer);
             r.number
@@ -87,41 +81,20 @@ pub fn write_opening(opening: Opening, answer: &mut [u32]) -> u32
     }
 }
 
-// What Pack answers.
-pub fn write_writing(packing: Writing, answer: &mut [u32]) -> u32
+// What an operation answers that writes a file or fills a list: one number.
+pub fn write_number(told: Result<u32, Refusal>, answer: &mut [u32]) -> u32
     requires { 4 ≤ length answer.old }
-    ensures code { result ≡ (writing_says packing).number }
+    ensures code { result ≡ (number_says told).number }
     ensures numbers { answer.new
-        ≡ overwritten (numbers_of (writing_says packing)) answer.old }
+        ≡ overwritten (numbers_of (number_says told)) answer.old }
 {
-    match packing {
-        Writing::Written(l) => {
-            let numbers = [0, 0, 0, l.bytes];
+    match told {
+        Ok(number) => {
+            let numbers = [0, 0, 0, number];
             write(&numbers, answer);
             0
         }
-        Writing::Refused(r) => {
-            let numbers = [r.first, r.second, r.third, 0];
-            write(&numbers, answer);
-            r.number
-        }
-    }
-}
-
-// What an operation that fills a list answers.
-pub fn write_listing(listing: Listing, answer: &mut [u32]) -> u32
-    requires { 4 ≤ length answer.old }
-    ensures code { result ≡ (listing_says listing).number }
-    ensures numbers { answer.new
-        ≡ overwritten (numbers_of (listing_says listing)) answer.old }
-{
-    match listing {
-        Listing::Listed(c) => {
-            let numbers = [0, 0, 0, c.entries];
-            write(&numbers, answer);
-            0
-        }
-        Listing::Refused(r) => {
+        Err(r) => {
             let numbers = [r.first, r.second, r.third, 0];
             write(&numbers, answer);
             r.number
@@ -139,12 +112,12 @@ pub fn write_lists(visit: Visit, answer: &mut [u32]) -> u32
     let opens = visit.opens;
     let trip = visit.trip;
     match trip {
-        Answer::Arrived(a) => {
+        Ok(a) => {
             let numbers = [0, 0, 0, a.tick, a.count as u32, opens];
             write(&numbers, answer);
             0
         }
-        Answer::Refused(r) => {
+        Err(r) => {
             let numbers = [r.first, r.second, r.third, 0, 0, 0];
             write(&numbers, answer);
             r.number

@@ -1,5 +1,5 @@
 -- Laws for the code that writes an answer in bytes: one field after the other, and then the whole.
-use Rattle.std.specs.Prelude.{◌≡◌, ℕ, suc, ◌+◌, ◌*◌, ◌≤◌, ◌<◌, length, get_or, take}
+use Rattle.std.specs.Prelude.{◌≡◌, ℕ, suc, ◌+◌, ◌*◌, ◌≤◌, ◌<◌, length, get_or, take, Result, Ok, Err}
 use Rattle.std.proofs.Math.Path.{refl}
 use Rattle.std.proofs.Common.{sym, ◌∙◌, ap, arith, length-append, take-suc, length-take-le}
 use mathlib.Core.List.{List, [], ◌∷◌, ◌++◌, append_assoc, append-nil}
@@ -7,8 +7,7 @@ use Rattle.std.proofs.lemmas.List.Edits.{sets}
 use Rattle.theory_loops.specs.{Fill.length_tab, Stores.stored_next}
 use Rattle.file_fields.specs.{Fields.byte_of, Put.put, Put.put_stores}
 use Rattle.file_refusals.specs.declared.Refusal.{Refusal}
-use Rattle.search_path.specs.declared.answer.{Arrival.Arrival, Answer.Answer}
-use Rattle.search_path.specs.declared.answer.Answer.TheVariants.{Arrived, Refused}
+use Rattle.search_path.specs.declared.answer.{Arrival.Arrival}
 use Rattle.search_path.specs.Says.{trip_says, trip_tick, trip_count}
 use Rattle.network.specs.Limits.{most_roads}
 use Rattle.c_trip.specs.Reply.{bytes, road_bytes, trip_bytes}
@@ -63,7 +62,7 @@ head_long x y z =
     length-append (bytes 4 x ++ bytes 4 y) (bytes 2 z)
     ∙ omega (arith, numbers_long x y, length_tab 2 (byte_of z))
 
-pub trip_long : (a : Answer) (path : List ℕ)
+pub trip_long : (a : Result Arrival Refusal) (path : List ℕ)
     → length (trip_bytes a path) ≡ 10 + 2 * length (take (trip_count a) path)
 trip_long a path =
     let roads = take (trip_count a) path in
@@ -91,19 +90,19 @@ module _ (s s₁ s₂ s₃ : List ℕ) (x y z : ℕ)
       (omega (arith, head_long x y z)) e
 
 -- AN ANSWER OF BYTES BY ITS CASE
-module _ (roads s t : List ℕ) (trip : Answer) where
-  pub arrived_bytes : (a : Arrival) → trip ≡ Arrived a → t ≡ sets s 0 (trip_bytes (Arrived a) roads)
+module _ (roads s t : List ℕ) (trip : Result Arrival Refusal) where
+  pub arrived_bytes : (a : Arrival) → trip ≡ Ok a → t ≡ sets s 0 (trip_bytes (Ok a) roads)
       → t ≡ sets s 0 (trip_bytes trip roads)
   arrived_bytes a e f = rw e f
 
-  pub arrived_count : (a : Arrival) → trip ≡ Arrived a → trip_count trip ≤ most_roads → a.count ≤ most_roads
+  pub arrived_count : (a : Arrival) → trip ≡ Ok a → trip_count trip ≤ most_roads → a.count ≤ most_roads
   arrived_count a e l = rw e at l
 
-  pub arrived_room : (a : Arrival) (n : ℕ) → trip ≡ Arrived a → trip_count trip ≤ most_roads → most_roads ≤ n
+  pub arrived_room : (a : Arrival) (n : ℕ) → trip ≡ Ok a → trip_count trip ≤ most_roads → most_roads ≤ n
       → a.count ≤ n
   arrived_room a n e l m = omega (arith, arrived_count a e l)
 
-  pub refused_bytes : (r : Refusal) → trip ≡ Refused r
+  pub refused_bytes : (r : Refusal) → trip ≡ Err r
       → t ≡ sets s 0 (bytes 4 r.number ++ bytes 4 0 ++ bytes 2 0) → t ≡ sets s 0 (trip_bytes trip roads)
   unfolding road_bytes
   refused_bytes r e f = rw (e, append-nil (bytes 4 r.number ++ bytes 4 0 ++ bytes 2 0)) f

@@ -3,7 +3,11 @@
 -- (`sheet_plain`), and the flagged trip's under an accepted plan (`sheet_flagged`).
 use mathlib.Core.{Path.◌≡◌, Path.refl, Path.sym, Path.◌∙◌, Path.ap, Bool.Bool, Bool.true, Bool.false}
 use mathlib.Core.{Logic.◌≢◌, Logic.◌↔◌, Logic.◌⊎◌, Logic.inl, Logic.inr, Logic.⊎_elim, List.List, List.[]}
-use Rattle.std.specs.Prelude.{ℕ, ◌+◌, ◌≤◌, ◌<◌}
+use Rattle.file_refusals.specs.Apart.{not_both}
+use Rattle.file_refusals.specs.Apart.{same_value}
+use Rattle.file_refusals.specs.Says.{number_says}
+use Rattle.file_refusals.specs.Refusal.{refusal}
+use Rattle.std.specs.Prelude.{ℕ, ◌+◌, ◌≤◌, ◌<◌, Result, Ok, Err}
 use Rattle.std.proofs.Common.{arith, eqb-true}
 use lib.{Dec.eqb, ListN.length, ListN.get_or}
 use Rattle.std.proofs.lemmas.Bool.{eqb-false}
@@ -16,17 +20,10 @@ use Rattle.theory_paths.proofs.Least.{least_earliest}
 use Rattle.theory_paths.specs.Least.{Modest, least_ticks}
 use Rattle.theory_paths.proofs.Least.{least_never, least_reach, least_capped}
 use Rattle.file_refusals.specs.declared.Refusal.{Refusal}
-use Rattle.file_refusals.specs.declared.listing.{Count.Count, Listing.Listing}
-use Rattle.file_refusals.specs.declared.listing.Listing.TheVariants as listing
-use Rattle.file_refusals.specs.Listing.{listing_says, unlisted}
-use Rattle.network.specs.declared.answer.Opening.{Opening}
-use Rattle.network.specs.declared.answer.Opening.TheVariants.{Opened, Refused}
 use Rattle.network.specs.declared.header.Header.{Header}
 use Rattle.network.specs.{Network.Network, Network.nodes, Decode.decode, Town.graph_of, Validate.validated}
 use Rattle.network.proofs.Valid.{valid_exactly}
-use Rattle.plan_check.specs.declared.answer.Checking.TheVariants.{Accepted}
 use Rattle.plan_check.specs.CheckPlan.{checking}
-use Rattle.search_path.specs.declared.answer.{Answer.Answer}
 use Rattle.toward_node.specs.Turn.{modest}
 use Rattle.toward_list.specs.Work.{work_size, cleared, valid_town}
 use Rattle.trip_call.specs.Drive.{drive_nodes, drive_period}
@@ -40,10 +37,11 @@ use Rattle.day_arrivals.specs.Sheeting.{Begun}
 use Rattle.day_arrivals.proofs.Sheeting.{begun, asked_opens}
 use Rattle.day_arrivals.specs.Numbers.{BeginNumber}
 use Rattle.day_arrivals.proofs.Numbers.{begin_numbers}
+use Rattle.search_path.specs.declared.answer.Arrival.{Arrival}
 use Rattle.day_arrivals.specs.Promise.{ArrivesAt, HoldsDay}
 
 -- Nothing before the work is refused of a network that validates, two of its places, and lists with room.
-pub sheet_passes : (network : List ℕ) (from to work list : ℕ) {h : Header} → validated network ≡ Opened h
+pub sheet_passes : (network : List ℕ) (from to work list : ℕ) {h : Header} → validated network ≡ Ok h
     → from < nodes (decode network) → to < nodes (decode network) → work_size (decode network) ≤ work
     → (decode network).period ≤ list
     → Passed (sheet_begin network from to work list)
@@ -62,24 +60,14 @@ sheet_passes network from to work list {h} e l m o k =
     )
 
 -- how a call ends
-data Ends (network : List ℕ) (from to : ℕ) (b : Opening) (r : Listing) : Type 0 where
-  refused : (q : Refusal) → b ≡ Refused q → BeginNumber q.number → r ≡ listing.Refused q
+data Ends (network : List ℕ) (from to : ℕ) (b : Result Header Refusal) (r : Result ℕ Refusal) : Type 0 where
+  refused : (q : Refusal) → b ≡ Err q → BeginNumber q.number → r ≡ Err q
       → Ends network from to b r
-  no_way : (h : Header) → b ≡ Opened h → (¬ Reachable (graph_of (decode network)) all from to)
-      → r ≡ unlisted 28
+  no_way : (h : Header) → b ≡ Ok h → (¬ Reachable (graph_of (decode network)) all from to)
+      → r ≡ Err (refusal 28 0)
       → Ends network from to b r
-  lists : (h : Header) → b ≡ Opened h → Reachable (graph_of (decode network)) all from to
-      → r ≡ listing.Listed (record { entries = (decode network).period }) → Ends network from to b r
-
-opened_refused : {A : Type 0} {b : Opening} {h : Header} {r : Refusal} → b ≡ Opened h → b ≡ Refused r → A
-opened_refused e f = let z : ◌≡◌ {A = ℕ} 0 1 = cc in absurd (omega arith)
-
-one_count : {a b : Count} → listing.Listed a ≡ listing.Listed b → a ≡ b
-one_count e = cc
-
-not_listed : {A : Type 0} {r : Listing} {k : Count} {q : Refusal} → r ≡ listing.Listed k
-    → r ≡ listing.Refused q → A
-not_listed e f = let z : ◌≡◌ {A = ℕ} 0 1 = cc in absurd (omega arith)
+  lists : (h : Header) → b ≡ Ok h → Reachable (graph_of (decode network)) all from to
+      → r ≡ Ok ((decode network).period) → Ends network from to b r
 
 begin_some : {n : ℕ} → BeginNumber n → (1 ≤ n) × (n ≢ 28)
 begin_some (inl (inl k)) = (k.0, λ e. omega (arith, k.1))
@@ -89,28 +77,28 @@ begin_some (inr (inr (inl e))) = (omega arith, λ f. omega arith)
 begin_some (inr (inr (inr e))) = (omega arith, λ f. omega arith)
 
 module _ (n : Network) (from to : ℕ) where
-  listed_none : eqb (least_ticks (graph_of n) to from 0) never ≡ true → listed n from to ≡ unlisted 28
+  listed_none : eqb (least_ticks (graph_of n) to from 0) never ≡ true → listed n from to ≡ Err (refusal 28 0)
   unfolding listed
   listed_none e = rw e
 
   listed_some : eqb (least_ticks (graph_of n) to from 0) never ≡ false
-      → listed n from to ≡ listing.Listed (record { entries = n.period })
+      → listed n from to ≡ Ok n.period
   unfolding listed
   listed_some e = rw e
 
-number_is : {r c : Listing} → r ≡ c → (listing_says r).number ≡ (listing_says c).number
-number_is e = ap (λ (k : Listing). (listing_says k).number) e
+number_is : {r c : Result ℕ Refusal} → r ≡ c → (number_says r).number ≡ (number_says c).number
+number_is e = ap (λ (k : Result ℕ Refusal). (number_says k).number) e
 
-module _ (network : List ℕ) {from to : ℕ} {work₀ work₁ list₀ list₁ : List ℕ} {r : Listing}
+module _ (network : List ℕ) {from to : ℕ} {work₀ work₁ list₀ list₁ : List ℕ} {r : Result ℕ Refusal}
     (c : DaySheet network from to work₀ work₁ list₀ list₁ r) where
   abbrev g : Graph
   g = graph_of (decode network)
 
-  abbrev before : Opening
+  abbrev before : Result Header Refusal
   before = sheet_begin network from to (length work₀) (length list₀)
 
   -- what is known once nothing before the work is refused
-  module _ {h : Header} (o : before ≡ Opened h) where
+  module _ {h : Header} (o : before ≡ Ok h) where
     call : Begun network h from to (length work₀) (length list₀)
     call = begun network h from to (length work₀) (length list₀) o
 
@@ -132,7 +120,7 @@ module _ (network : List ℕ) {from to : ℕ} {work₀ work₁ list₀ list₁ :
   ends : Ends network from to before r
   ends = go before refl c.answer
     where
-      found : (h : Header) → before ≡ Opened h → r ≡ listed (decode network) from to → (q : Bool)
+      found : (h : Header) → before ≡ Ok h → r ≡ listed (decode network) from to → (q : Bool)
           → eqb (least_ticks g to from 0) never ≡ q → Ends network from to before r
       found h o z true e =
           no_way h o ((least_never (small o) to (from_place o) (some o)).0 (eqb-true _ never e))
@@ -143,48 +131,48 @@ module _ (network : List ℕ) {from to : ℕ} {work₀ work₁ list₀ list₁ :
           lists h o ((least_reach (small o) to {u = from} {x = 0} (from_place o) (some o)).0 (omega arith))
           (z ∙ listed_some (decode network) from to e)
 
-      go : (b : Opening) → before ≡ b → r ≡ sheet_answer b (listed (decode network) from to)
+      go : (b : Result Header Refusal) → before ≡ b → r ≡ sheet_answer b (listed (decode network) from to)
           → Ends network from to before r
-      go (Refused q) f z = refused q f (begin_numbers network from to (length work₀) (length list₀) q f) z
-      go (Opened h) f z = found h f z (eqb (least_ticks g to from 0) never) refl
+      go (Err q) f z = refused q f (begin_numbers network from to (length work₀) (length list₀) q f) z
+      go (Ok h) f z = found h f z (eqb (least_ticks g to from 0) never) refl
 
   -- 28 exactly where nothing before it is refused and there is no way
-  pub sheet_no_way : ((listing_says r).number ≡ 28) ↔ (Passed before × (¬ Reachable g all from to))
+  pub sheet_no_way : ((number_says r).number ≡ 28) ↔ (Passed before × (¬ Reachable g all from to))
   sheet_no_way = (λ n. there n ends, λ q. back q.0.1 q.1 ends)
     where
-      there : (listing_says r).number ≡ 28 → Ends network from to before r
+      there : (number_says r).number ≡ 28 → Ends network from to before r
           → Passed before × (¬ Reachable g all from to)
       there n (refused q f m z) = absurd ((begin_some m).1 (sym (number_is z) ∙ n))
       there n (no_way h f u z) = ((h, f), u)
       there n (lists h f w z) = absurd (omega (arith, number_is z))
 
-      back : {h : Header} → before ≡ Opened h → (¬ Reachable g all from to) → Ends network from to before r
-          → (listing_says r).number ≡ 28
-      back f u (refused q i m z) = opened_refused f i
+      back : {h : Header} → before ≡ Ok h → (¬ Reachable g all from to) → Ends network from to before r
+          → (number_says r).number ≡ 28
+      back f u (refused q i m z) = not_both _ _ (sym i ∙ f)
       back f u (no_way h i w z) = number_is z
       back f u (lists h i w z) = absurd (u w)
 
   -- a way gives a list: the answer is P
   pub sheet_lists : Passed before → Reachable g all from to
-      → r ≡ listing.Listed (record { entries = (decode network).period })
+      → r ≡ Ok ((decode network).period)
   sheet_lists o w = go o.1 ends
     where
-      go : {h : Header} → before ≡ Opened h → Ends network from to before r
-          → r ≡ listing.Listed (record { entries = (decode network).period })
-      go f (refused q i m z) = opened_refused f i
+      go : {h : Header} → before ≡ Ok h → Ends network from to before r
+          → r ≡ Ok ((decode network).period)
+      go f (refused q i m z) = not_both _ _ (sym i ∙ f)
       go f (no_way h i u z) = absurd (u w)
       go f (lists h i u z) = z
 
   -- every refusal leaves the list as it was; all but 28 leave the work list so too, and on 28 and on success
   -- its first entries are zero
-  pub sheet_list_kept : 1 ≤ (listing_says r).number → list₁ ≡ list₀
+  pub sheet_list_kept : 1 ≤ (number_says r).number → list₁ ≡ list₀
   sheet_list_kept l = go r refl
     where
-      go : (a : Listing) → r ≡ a → list₁ ≡ list₀
-      go (listing.Listed k) q = absurd (omega (arith, number_is q))
-      go (listing.Refused k) q = rw q at c.list
+      go : (a : Result ℕ Refusal) → r ≡ a → list₁ ≡ list₀
+      go (Ok k) q = absurd (omega (arith, number_is q))
+      go (Err k) q = rw q at c.list
 
-  pub sheet_work_kept : 1 ≤ (listing_says r).number → (listing_says r).number ≢ 28 → work₁ ≡ work₀
+  pub sheet_work_kept : 1 ≤ (number_says r).number → (number_says r).number ≢ 28 → work₁ ≡ work₀
   sheet_work_kept l n = go ends
     where
       go : Ends network from to before r → work₁ ≡ work₀
@@ -192,7 +180,7 @@ module _ (network : List ℕ) {from to : ℕ} {work₀ work₁ list₀ list₁ :
       go (no_way h f u z) = absurd (n (number_is z))
       go (lists h f w z) = absurd (omega (arith, number_is z))
 
-  pub sheet_work_cleared : ((listing_says r).number ≡ 0) ⊎ ((listing_says r).number ≡ 28)
+  pub sheet_work_cleared : ((number_says r).number ≡ 0) ⊎ ((number_says r).number ≡ 28)
       → work₁ ≡ cleared (decode network) work₀
   sheet_work_cleared n = go ends
     where
@@ -204,21 +192,21 @@ module _ (network : List ℕ) {from to : ℕ} {work₀ work₁ list₀ list₁ :
       go (lists h f w z) = rw f at c.work
 
   -- WHERE IT LISTS
-  module _ {k : Count} (q : r ≡ listing.Listed k) where
+  module _ {k : ℕ} (q : r ≡ Ok k) where
     passed : Passed before
     passed = go ends
       where
         go : Ends network from to before r → Passed before
-        go (refused e f m z) = not_listed q z
-        go (no_way h f u z) = not_listed q z
+        go (refused e f m z) = not_both _ _ (sym z ∙ q)
+        go (no_way h f u z) = not_both _ _ (sym z ∙ q)
         go (lists h f w z) = (h, f)
 
     way : Reachable g all from to
     way = go ends
       where
         go : Ends network from to before r → Reachable g all from to
-        go (refused e f m z) = not_listed q z
-        go (no_way h f u z) = not_listed q z
+        go (refused e f m z) = not_both _ _ (sym z ∙ q)
+        go (no_way h f u z) = not_both _ _ (sym z ∙ q)
         go (lists h f w z) = w
 
     filled : Filled 0 (decode network).period (arrival_at (decode network) from to) list₀ list₁
@@ -228,9 +216,9 @@ module _ (network : List ℕ) {from to : ℕ} {work₀ work₁ list₀ list₁ :
         rw (rw q at c.list, length_tab) l
 
     -- the answer is P, and the list holds the day's earliest arrivals
-    pub sheet_listed : (k.entries ≡ (decode network).period) × HoldsDay network from to list₀ list₁
+    pub sheet_listed : (k ≡ (decode network).period) × HoldsDay network from to list₀ list₁
     sheet_listed = (
-      ap (λ (y : Count). y.entries) (one_count (sym q ∙ sheet_lists passed way)),
+      same_value _ _ (sym q ∙ sheet_lists passed way),
       record {
         earliest = λ t h.
             let o = passed.1 in
@@ -241,7 +229,7 @@ module _ (network : List ℕ) {from to : ℕ} {work₀ work₁ list₀ list₁ :
       },
     )
 
-    agree : {t : ℕ} {path : List ℕ} {a : Answer} → t < (decode network).period
+    agree : {t : ℕ} {path : List ℕ} {a : Result Arrival Refusal} → t < (decode network).period
         → AsGoodAsAny g all from t to path a → ArrivesAt a (get_or list₁ t 0)
     agree {t} h y =
         let (b, z) = y.arrives way in
@@ -253,7 +241,7 @@ module _ (network : List ℕ) {from to : ℕ} {work₀ work₁ list₀ list₁ :
 
     -- Each entry is the plain trip's arrival at that tick: of the trip with any lists that are long enough,
     -- and of the tablet's.
-    pub sheet_plain : {t : ℕ} {arrivals₀ arrivals₁ roads₀ roads₁ : List ℕ} {a : Answer}
+    pub sheet_plain : {t : ℕ} {arrivals₀ arrivals₁ roads₀ roads₁ : List ℕ} {a : Result Arrival Refusal}
         → t < (decode network).period
         → PlainTrip network from to t arrivals₀ arrivals₁ roads₀ roads₁ a
         → nodes (decode network) ≤ length arrivals₀ → length (plain_path network from to t) ≤ length roads₀
@@ -273,8 +261,8 @@ module _ (network : List ℕ) {from to : ℕ} {work₀ work₁ list₀ list₁ :
         h)
 
     -- And it is the flagged trip's, whoever made the plan, wherever the check has accepted it.
-    module _ (plan : List ℕ) (accepted : checking network plan ≡ Accepted) where
-      pub sheet_flagged : {t : ℕ} {arrivals₀ arrivals₁ roads₀ roads₁ : List ℕ} {a : Answer}
+    module _ (plan : List ℕ) (accepted : checking network plan ≡ Ok tt) where
+      pub sheet_flagged : {t : ℕ} {arrivals₀ arrivals₁ roads₀ roads₁ : List ℕ} {a : Result Arrival Refusal}
           → t < (decode network).period
           → FlaggedTrip network plan from to t arrivals₀ arrivals₁ roads₀ roads₁ a
           → nodes (decode network) ≤ length arrivals₀
@@ -306,7 +294,7 @@ module _ (network : List ℕ) {from to : ℕ} {work₀ work₁ list₀ list₁ :
 
   -- From a place to itself each entry is its tick.
   pub sheet_home : Passed before → from ≡ to
-      → (r ≡ listing.Listed (record { entries = (decode network).period }))
+      → (r ≡ Ok ((decode network).period))
       × ((t : ℕ) → t < (decode network).period → get_or list₁ t 0 ≡ t)
   sheet_home o e =
       let q = sheet_lists o (record { path = []; leads = stop e }) in (

@@ -3,17 +3,17 @@
 -- (`sheet_plain`), and the flagged trip's under an accepted plan (`sheet_flagged`).
 use mathlib.Core.{Path.◌≡◌}
 use mathlib.Core.{List.List}
-use Rattle.std.specs.Prelude.{ℕ, ◌≤◌, ◌<◌}
+use Rattle.std.specs.Prelude.{ℕ, ◌≤◌, ◌<◌, Result, Ok}
 use lib.{ListN.length, ListN.get_or}
 use Rattle.theory_paths.specs.Graph.{all, EarliestArrival}
 use Rattle.network.specs.{Decode.decode, Town.graph_of}
-use Rattle.search_path.specs.declared.answer.{Arrival.Arrival, Answer.Answer}
-use Rattle.search_path.specs.declared.answer.Answer.TheVariants.{Arrived}
+use Rattle.file_refusals.specs.declared.Refusal.{Refusal}
+use Rattle.search_path.specs.declared.answer.{Arrival.Arrival}
 
 -- A trip arrives at this tick.
-pub record ArrivesAt (a : Answer) (tick : ℕ) : Type 0 where
+pub record ArrivesAt (a : Result Arrival Refusal) (tick : ℕ) : Type 0 where
   pub arrival : Arrival
-  pub is : a ≡ Arrived arrival
+  pub is : a ≡ Ok arrival
   pub at : arrival.tick ≡ tick
 
 -- A list holds, for every tick of a network's day, the earliest arrival of who leaves then, over all ways;

@@ -1,14 +1,14 @@
 -- FOR THE CODE: what is shown where nothing before the work is refused, a row of travels as the day's
 -- arrivals, and the work list that ends as zero.
 use mathlib.Core.{Path.◌≡◌, List.List}
-use Rattle.std.specs.Prelude.{ℕ, ◌+◌, ◌*◌, ◌^◌, ◌≤◌, ◌<◌}
+use Rattle.std.specs.Prelude.{ℕ, ◌+◌, ◌*◌, ◌^◌, ◌≤◌, ◌<◌, Result}
 use lib.{ListN.length, ListN.get_or}
-use Rattle.file_refusals.specs.declared.listing.Listing.{Listing}
 use Rattle.file_refusals.specs.Listing.{list_after}
 use Rattle.network.specs.declared.header.{Header.Header}
 use Rattle.network.specs.{Limits.most_period}
 use Rattle.network.specs.{Network.Network}
 use Rattle.network.specs.Valid.{ValidFile}
+use Rattle.file_refusals.specs.declared.Refusal.{Refusal}
 use Rattle.day_arrivals.specs.Sheet.{day_arrivals, listed}
 
 -- BEFORE THE WORK: what the call has shown where nothing is refused
@@ -33,6 +33,6 @@ pub record EarlyRow (period p : ℕ) (W : List ℕ) : Type 0 where
   pub early : (t : ℕ) → t < period → t + get_or W (p + t) 0 < 2 ^ 32
 
 -- the answer with the list that it leaves
-pub record Lists (n : Network) (from to : ℕ) (list₀ list₁ : List ℕ) (r : Listing) : Type 0 where
+pub record Lists (n : Network) (from to : ℕ) (list₀ list₁ : List ℕ) (r : Result ℕ Refusal) : Type 0 where
   pub answer : r ≡ listed n from to
   pub list : list₁ ≡ list_after r (day_arrivals n from to) list₀

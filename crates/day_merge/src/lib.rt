@@ -3,31 +3,21 @@
 // comparison serves all ticks. No tick is looked at by itself and nothing is divided. What comes out is
 // painted into a byte for each tick, many spans at once while it stays the same. Over one run of the arc node
 // and head go on side by side (`sweep`), so that a step waits for few reads.
+//   sides  what is held against one another
 // It may call `day_walk` to walk along runs; it cites `day_slopes` for runs and `theory_loops` for filled
 // parts.
 #![tactic(auto)]
 
+pub mod sides;
+
 ghost use Rattle.std.specs.Prelude.{◌≡◌, ◌+◌, ◌≤◌, ◌<◌, length, get_or};
 ghost use Rattle.theory_loops.specs.Fill.{Filled};
-ghost use Rattle.day_slopes.specs.Runs.{Short};
-ghost use Rattle.day_walk.specs.Walk.{At, Listed};
+ghost use Rattle.day_walk.specs.Walk.{At};
 ghost use Rattle.day_merge.specs.Merged;
 ghost use Rattle.day_merge.specs.Merged.{Told, Turned, Swept, painted, always};
 
-use day_walk::walk::{ends, lesser, next, seek, start, until, wide};
-
-fn wide_value(x: u32) -> u64
-    ensures { result ≡ x }
-{
-    x as u64
-}
-
-// What an arc gives: the head's value and the travel.
-fn sum(value: u32, travel: u16) -> u64
-    ensures { result ≡ value + travel }
-{
-    value as u64 + travel as u64
-}
+use crate::sides::Sides;
+use day_walk::walk::ends;
 
 // The bits of a tick at which an arc gives g and the node's own value is o.
 fn bits(same: u8, g: u64, o: u64) -> u8
@@ -42,12 +32,14 @@ fn bits(same: u8, g: u64, o: u64) -> u8
     0
 }
 
-// The bits there, where the arc's travel is w.
-fn judge(vo: &[u32], i: usize, w: u16, vh: &[u32], j: usize, same: u8) -> u8
-    requires { (i < length vo.now) × (j < length vh.now) }
-    ensures { result ≡ Merged.bits same (get_or vh.now j 0 + w) (get_or vo.now i 0) }
+// The bits while the node is in run i and its head in run j, where the arc's travel is w.
+fn judge(sides: &Sides<'_, '_, '_>, i: usize, w: u16, j: usize) -> u8
+    requires { (i < sides.now.own.count) × (j < sides.now.head.count) }
+    ensures { result ≡ Merged.bits sides.now.same (get_or sides.now.head.values.now j 0 + w)
+        (get_or sides.now.own.values.now i 0) }
 {
-    bits(same, sum(vh[j], w), wide_value(vo[i]))
+    let gives = u64::from(sides.head.values[j]) + u64::from(w);
+    bits(sides.same, gives, u64::from(sides.own.values[i]))
 }
 
 // Sets bits of the ticks from `a` up to `b`.
@@ -57,7 +49,7 @@ fn paint(marks: &mut [u8], a: usize, b: usize, more: u8)
         marks.new }
 {
     for x in a..b {
-        marks[x] = marks[x] | more;
+        marks[x] |= more;
     }
 }
 
@@ -97,48 +89,34 @@ struct Place {
 }
 
 // Goes on through run k of the arc, up to its end or to the tick from which on the arc ends a day later.
-fn sweep(
-    so: &[u16],
-    vo: &[u32],
-    no: usize,
-    sa: &[u16],
-    va: &[u16],
-    na: usize,
-    k: usize,
-    sh: &[u16],
-    vh: &[u32],
-    nh: usize,
-    period: usize,
-    same: u8,
-    p: Place,
-    marks: &mut [u8],
-) -> Place
-    requires listed { Listed so.now no period × Listed sa.now na period × Listed sh.now nh period }
-    requires no_in_bounds { (no ≤ length vo.now) × (na ≤ length va.now) × (nh ≤ length vh.now) }
-    requires short { Short va.now na period × (period ≤ 65535) × (period ≤ length marks.old) }
-    requires t_lt_period { (p.t < period) × At so.now no p.i p.t × At sa.now na k p.t × (p.j ≤ nh)
+fn sweep(sides: &Sides<'_, '_, '_>, k: usize, p: Place, marks: &mut [u8]) -> Place
+    requires bytes { sides.now.own.period ≤ length marks.old }
+    requires at { (p.t < sides.now.own.period) × At sides.now.own.starts.now sides.now.own.count p.i p.t
+        × At sides.now.arc.starts.now sides.now.arc.count k p.t × (p.j ≤ sides.now.head.count)
         × (p.since ≤ p.t) }
-    ensures { Swept so.now vo.now sa.now va.now
-        sh.now vh.now no na nh period same k p result marks.old
-        marks.new }
+    ensures { Swept sides.now.own.starts.now sides.now.own.values.now sides.now.arc.starts.now
+        sides.now.arc.values.now sides.now.head.starts.now sides.now.head.values.now
+        sides.now.own.count sides.now.arc.count sides.now.head.count sides.now.own.period
+        sides.now.same k p result marks.old marks.new }
 {
     let from = p.t;
-    let w = va[k];
-    let e = ends(from, wide(w), period);
-    let stop = lesser(start(sa, k + 1), from + (period - e));
+    let period = sides.own.period;
+    let w = sides.arc.values[k];
+    let e = ends(from, usize::from(w), period);
+    let stop = sides.arc.start(k + 1).min(from + (period - e));
     let mut t = from;
     let mut i = p.i;
-    let mut j = seek(sh, nh, p.j, e, period);
+    let mut j = sides.head.seek(p.j, e);
     let mut since = p.since;
     let mut held = p.held;
     while t < stop {
         let end = e + (t - from);
-        let to = until(so, no, i, sh, nh, j, t, end, stop, period);
-        let more = judge(vo, i, w, vh, j, same);
+        let to = sides.own.until(i, &sides.head, j, t, end, stop);
+        let more = judge(sides, i, w, j);
         since = turn(marks, since, t, held, more);
         held = more;
-        i = next(so, no, i, t, to, period);
-        j = next(sh, nh, j, end, end + (to - t), period);
+        i = sides.own.next(i, t, to);
+        j = sides.head.next(j, end, end + (to - t));
         t = to;
     }
     Place {
@@ -151,29 +129,15 @@ fn sweep(
 }
 
 // Holds what an arc gives against the node's own profile, at all ticks: at a tick sets bit 1 where it gives
-// less and the bits of `same` where it gives the same. The runs of the node's profile are `so`, `vo`, those
-// of the arc's travel `sa`, `va`, of its head's profile `sh`, `vh`.
-pub fn merge(
-    so: &[u16],
-    vo: &[u32],
-    no: usize,
-    sa: &[u16],
-    va: &[u16],
-    na: usize,
-    sh: &[u16],
-    vh: &[u32],
-    nh: usize,
-    period: usize,
-    same: u8,
-    marks: &mut [u8],
-)
-    requires listed { Listed so.now no period × Listed sa.now na period × Listed sh.now nh period }
-    requires no_in_bounds { (no ≤ length vo.now) × (na ≤ length va.now) × (nh ≤ length vh.now) }
-    requires short { Short va.now na period }
-    requires period_nonzero { (0 < period) × (period ≤ 65535) × (period ≤ length marks.old) }
-    ensures { Told so.now vo.now sa.now va.now
-        sh.now vh.now no na nh period same marks.old marks.new }
+// less and the bits of `same` where it gives the same.
+pub fn merge(sides: &Sides<'_, '_, '_>, marks: &mut [u8])
+    requires { sides.now.own.period ≤ length marks.old }
+    ensures { Told sides.now.own.starts.now sides.now.own.values.now sides.now.arc.starts.now
+        sides.now.arc.values.now sides.now.head.starts.now sides.now.head.values.now
+        sides.now.own.count sides.now.arc.count sides.now.head.count sides.now.own.period
+        sides.now.same marks.old marks.new }
 {
+    let period = sides.own.period;
     let mut p = Place {
         t: 0,
         i: 0,
@@ -184,10 +148,8 @@ pub fn merge(
     let mut k = 0;
     while p.t < period {
         let t = p.t;
-        p = sweep(
-            so, vo, no, sa, va, na, k, sh, vh, nh, period, same, p, marks,
-        );
-        k = next(sa, na, k, t, p.t, period);
+        p = sweep(sides, k, p, marks);
+        k = sides.arc.next(k, t, p.t);
     }
     paint_some(marks, p.since, period, p.held);
 }

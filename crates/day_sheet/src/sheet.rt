@@ -1,7 +1,6 @@
 // The arrivals of a whole day, from one place to another.
-ghost use Rattle.std.specs.Prelude.{◌≡◌, ◌+◌, ◌*◌, ◌≤◌, ◌<◌, length};
+ghost use Rattle.std.specs.Prelude.{◌≡◌, ◌+◌, ◌*◌, ◌≤◌, ◌<◌, length, Ok};
 ghost use Rattle.theory_loops.specs.Fill.{Filled};
-ghost use Rattle.network.specs.declared.answer.Opening.TheVariants.{Opened};
 ghost use Rattle.network.specs.Decode.{decode};
 ghost use Rattle.network.specs.Town.{graph_of};
 ghost use Rattle.network.specs.Valid.{ValidFile};
@@ -11,9 +10,8 @@ ghost use Rattle.day_arrivals.specs.Sheet.{SheetCall, DaySheet};
 ghost use Rattle.day_arrivals.specs.Sheeting.{Asked, EarlyRow, Lists, arrival_in};
 
 use crate::begin::begin_sheet;
-use file_refusals::listing::{Count, Listing, unlisted};
-use file_refusals::number::NO_WAY;
-use network::answer::Opening;
+use file_refusals::reason::Reason;
+use file_refusals::{Refusal, refused};
 use network::header::{Header, Layout};
 use network::limits::{MOST_ARCS, MOST_NODES, MOST_PERIOD, NEVER};
 use search_arcs::times;
@@ -63,7 +61,7 @@ fn list_day(
     to: usize,
     work: &mut [u32],
     list: &mut [u32],
-) -> Listing
+) -> Result<u32, Refusal>
     requires town { Town file.now l }
     requires from_lt_nodes { (from < l.nodes) × (to < l.nodes) × (length work.old ≡ l.nodes * l.period)
         × (l.period ≤ length list.old) }
@@ -73,12 +71,10 @@ fn list_day(
     let p = row_place(l, from);
     let never = work[p] == NEVER;
     if never {
-        return unlisted(NO_WAY);
+        return refused(Reason::NoWay, 0);
     }
     put_arrivals(l.period, p, work, list);
-    Listing::Listed(Count {
-        entries: l.period as u32,
-    })
+    Ok(l.period as u32)
 }
 
 // The sheet, once nothing before its work is refused; the work list ends as zero.
@@ -89,10 +85,10 @@ fn fill_sheet(
     to: usize,
     work: &mut [u32],
     list: &mut [u32],
-) -> Listing
+) -> Result<u32, Refusal>
     requires valid_file { ValidFile network.now h }
     requires asked { Asked h from to (length work.old) (length list.old) }
-    ensures { SheetCall (Opened h) (decode network.now) from to work.old
+    ensures { SheetCall (Ok h) (decode network.now) from to work.old
         work.new list.old list.new result }
 {
     let l = h.layout();
@@ -104,12 +100,16 @@ fn fill_sheet(
 
 // From one node to another: the earliest tick of arrival for every leaving tick of the day, in the first
 // entries of a list; or a refusal, with the list as it was.
-pub fn day_sheet(network: &[u8], from: u32, to: u32, work: &mut [u32], list: &mut [u32]) -> Listing
+pub fn day_sheet(
+    network: &[u8],
+    from: u32,
+    to: u32,
+    work: &mut [u32],
+    list: &mut [u32],
+) -> Result<u32, Refusal>
     ensures { DaySheet network.now from to work.old work.new
         list.old list.new result }
 {
-    match begin_sheet(network, from, to, work.len(), list.len()) {
-        Opening::Refused(r) => Listing::Refused(r),
-        Opening::Opened(h) => fill_sheet(network, h, from as usize, to as usize, work, list),
-    }
+    let h = begin_sheet(network, from, to, work.len(), list.len())?;
+    fill_sheet(network, h, from as usize, to as usize, work, list)
 }

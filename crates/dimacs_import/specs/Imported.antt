@@ -1,6 +1,6 @@
 -- The network that a text gives: its entries, and that those of an accepted text are proper and sound.
 use mathlib.Core.{Path.◌≡◌, Path.sym, Path.◌∙◌, List.List, List.map}
-use Rattle.std.specs.Prelude.{ℕ, ◌-◌, ◌<◌, length, get_or, replicate}
+use Rattle.std.specs.Prelude.{Ok, ℕ, ◌-◌, ◌<◌, length, get_or, replicate}
 use native.Mathlib.{Decide.dec_lt, Omega.arith}
 use Rattle.std.proofs.lemmas.List.{length-map, length-replicate, get_or-replicate}
 use Rattle.std.proofs.Math.ListN.{get_or-map}
@@ -11,7 +11,6 @@ use Rattle.network.specs.Limits.{most_period, WithinLimits}
 use Rattle.network.specs.Network.{cell, tail, head, count, tick, travel}
 use Rattle.network_encode.specs.Encode.{header_of}
 use Rattle.dimacs_line.specs.declared.line.{Sizes.Sizes, Arc.Arc}
-use Rattle.dimacs_reading.specs.declared.verdict.Judgement.TheVariants.{Accepted}
 use Rattle.dimacs_reading.specs.{Reading.judging, Accepted.SizesWithin, AcceptedExact.accepted_exactly}
 use Rattle.dimacs_text.specs.Arcs.{arcs_of, arc_at, nowhere, Fit, text_arcs, text_fit}
 use Rattle.dimacs_import.specs.Import.{network_by}
@@ -43,7 +42,7 @@ module _ (number nodes : ℕ) (arcs : List Arc) (i : ℕ) where
   travel_at_lem = get_or-map (λ (a : Arc). a.weight) arcs i nowhere
 
 -- AN ACCEPTED TEXT: its arcs fit its sizes
-pub accepted_fit : (text : List ℕ) (k : Sizes) → judging text ≡ Accepted k → Fit k (arcs_of (lines_of text))
+pub accepted_fit : (text : List ℕ) (k : Sizes) → judging text ≡ Ok k → Fit k (arcs_of (lines_of text))
 accepted_fit text k e =
     let (arcs, t) = (accepted_exactly text k).0 e in
     rw (text_arcs k (lines_of text) arcs t) (text_fit k (lines_of text) arcs t)

@@ -1,20 +1,18 @@
 -- What an import is good for: where a text is imported, it is one that the wish describes, and opening the
 -- file shows each of its arcs once, in order, nodes lowered by one, its weight the travel at every tick
 -- (`imported_opens`); where it is not, the refusal is 35, 36 or 31 (`import_numbers`).
-use mathlib.Core.{Path.◌≡◌, Path.refl, Path.sym, Path.◌∙◌, Path.ap, Path.subst⁻¹, Bool.false, Bool.cond}
+use mathlib.Core.{Path.◌≡◌, Path.refl, Path.sym, Path.◌∙◌, Path.subst⁻¹, Bool.false, Bool.cond}
 use mathlib.Core.{Logic.◌⊎◌, Logic.inl, Logic.inr, List.List}
-use Rattle.std.specs.Prelude.{ℕ, ◌-◌, ◌^◌, ◌<◌, get_or, take}
+use Rattle.std.specs.Prelude.{Option, Some, None, Result, Ok, Err, ℕ, ◌-◌, ◌^◌, ◌<◌, get_or, take}
+use Rattle.std.specs.Option.{option_map_or}
 use Rattle.std.proofs.Common.{arith}
 use Rattle.std.proofs.Math.ListN.{length, get_or-append}
 use Rattle.std.proofs.lemmas.List.{length-map, length-replicate}
-use lib.{ListN.get_or-replicate, Seq.take_at, Dec.eqb, Dec.ltb}
+use lib.{ListN.get_or-replicate, Seq.take_at, Dec.ltb}
 use Rattle.theory_loops.specs.{Fill.overwritten, Pick.cond_holds, Pick.passed_by_lem}
 use Rattle.file_refusals.specs.declared.Refusal.{Refusal}
 use Rattle.file_refusals.specs.{Refusal.refusal, Writing.written_into}
-use Rattle.file_refusals.specs.declared.writing.{Length.Length, Writing.Writing}
-use Rattle.file_refusals.specs.declared.writing.Writing.TheVariants.{Written, Refused}
-use Rattle.network.specs.declared.answer.Opening.{Opening}
-use Rattle.network.specs.declared.answer.Opening.TheVariants.{Opened}
+use Rattle.file_refusals.specs.Apart.{same_value, not_both, same_number}
 use Rattle.network.specs.declared.header.Header.{Header}
 use Rattle.network.specs.{Limits.most_period, Decode.decode, Network.Network, Tables.Tables, Town.travel_at}
 use Rattle.network.specs.{Validate.validated}
@@ -24,10 +22,8 @@ use Rattle.network_encode.specs.Encode.{header_of, encode}
 use Rattle.network_pack.specs.RoundTrip.{decode_encode, encode_valid}
 use Rattle.text_lines.specs.Lines.{lines_of}
 use Rattle.dimacs_line.specs.declared.line.{Sizes.Sizes, Arc.Arc}
-use Rattle.dimacs_reading.specs.declared.verdict.Judgement.{Judgement}
-use Rattle.dimacs_reading.specs.declared.verdict.Judgement.TheVariants.{Accepted, Refused as Rejected}
 use Rattle.dimacs_reading.specs.declared.reading.Reading.{Reading}
-use Rattle.dimacs_reading.specs.Reading.{begun, read_all, unfinished, judged, judging}
+use Rattle.dimacs_reading.specs.Reading.{begun, read_all, tellable, unfinished, valued, judged, judging}
 use Rattle.dimacs_reading.specs.{Accepted.RoadText, AcceptedExact.accepted_exactly}
 use Rattle.dimacs_text.specs.Arcs.{arc_at, Fit, text_arcs, text_fit}
 use Rattle.dimacs_import.specs.Import.{network_by, imported, imported_file, answer_by, importing}
@@ -36,8 +32,8 @@ use Rattle.dimacs_import.specs.Imported.{cell_at, tail_at, head_at, count_at, ti
 use Rattle.dimacs_import.specs.Sound.{imported_proper, imported_sound, imported_travel}
 
 -- the header and the tables that Open leaves, by a text's sizes and roads
-pub record OpensTo (number : ℕ) (k : Sizes) (roads : List Arc) (after : Tables) (r : Opening) : Type 0 where
-  pub opened : r ≡ Opened (header_for number k)
+pub record OpensTo (number : ℕ) (k : Sizes) (roads : List Arc) (after : Tables) (r : Result Header Refusal) : Type 0 where
+  pub opened : r ≡ Ok (header_for number k)
   pub cells : (v : ℕ) → v < k.nodes → get_or after.cells v 0 ≡ 0
   pub open_all_day : (v : ℕ) → v < k.nodes
       → (get_or after.opens v 0 ≡ 0) × (get_or after.closes v 0 ≡ most_period)
@@ -53,7 +49,7 @@ pub record Shows (text : List ℕ) (number : ℕ) (file : List ℕ) : Type 0 whe
   pub sizes : Sizes
   pub roads : List Arc
   pub described : RoadText sizes (lines_of text) roads
-  pub opens : (before after : Tables) (r : Opening) → OpenCall file before after r
+  pub opens : (before after : Tables) (r : Result Header Refusal) → OpenCall file before after r
       → too_short (header_for number sizes) before ≡ false → OpensTo number sizes roads after r
   pub travels : (i x : ℕ) → i < sizes.arcs → x < most_period
       → travel_at (decode file) i x ≡ (arc_at roads i).weight
@@ -67,21 +63,21 @@ module _ (number : ℕ) (k : Sizes) (roads : List Arc) (f : Fit k roads) (b : nu
   abbrev n : Network
   n = network_by number k.nodes roads
 
-  valid_opens : validated (encode n) ≡ Opened (header_for number k)
+  valid_opens : validated (encode n) ≡ Ok (header_for number k)
   valid_opens =
-      subst⁻¹ (λ (h : Header). validated (encode n) ≡ Opened h) (header_is number k roads f)
+      subst⁻¹ (λ (h : Header). validated (encode n) ≡ Ok h) (header_is number k roads f)
       ((valid_exactly (encode n) (header_of n)).1
       (encode_valid (imported_proper number k roads f b) (imported_sound number k roads f)))
 
   decoded : decode (encode n) ≡ n
   decoded = decode_encode (imported_proper number k roads f b) (imported_sound number k roads f)
 
-  module _ (before after : Tables) (r : Opening) (c : OpenCall (encode n) before after r)
+  module _ (before after : Tables) (r : Result Header Refusal) (c : OpenCall (encode n) before after r)
       (s : too_short (header_for number k) before ≡ false) where
-    is_opened : r ≡ Opened (header_for number k)
+    is_opened : r ≡ Ok (header_for number k)
     is_opened = c.answer ∙ rw (valid_opens, s)
 
-    tables_are : after ≡ tables_after (Opened (header_for number k)) n before
+    tables_are : after ≡ tables_after (Ok (header_for number k)) n before
     tables_are = c.written ∙ rw (is_opened, decoded)
 
     opens_to : OpensTo number k roads after r
@@ -126,34 +122,28 @@ module _ (number : ℕ) (k : Sizes) (roads : List Arc) (f : Fit k roads) (b : nu
   }
 
 -- THE CALL: what it leaves where it imports
-not_written : (q : Refusal) (y : Length) → Refused q ≡ Written y → ⊥
-not_written q y e = let z : ◌≡◌ {A = ℕ} 0 1 = cc in omega arith
-
-one_length : (a b : Length) → Written a ≡ Written b → a ≡ b
-one_length a b e = cc
-
-module _ (text : List ℕ) (number : ℕ) (before after : List ℕ) (y : Length)
-    (c : ImportCall text number before after (Written y)) where
+module _ (text : List ℕ) (number : ℕ) (before after : List ℕ) (y : ℕ)
+    (c : ImportCall text number before after (Ok y)) where
   -- the text was accepted
-  accepted : (j : Judgement) → judging text ≡ j → (k : Sizes) × (judging text ≡ Accepted k)
-  accepted (Accepted k) e = (k, e)
-  accepted (Rejected q) e = absurd (not_written q y (sym (c.answer ∙ rw e)))
+  accepted : (j : Result Sizes Refusal) → judging text ≡ j → (k : Sizes) × (judging text ≡ Ok k)
+  accepted (Ok k) e = (k, e)
+  accepted (Err q) e = not_both q y (sym (c.answer ∙ rw e))
 
   -- and its file stands in the first bytes
-  front : (k : Sizes) → judging text ≡ Accepted k
-      → take y.bytes after ≡ encode (imported number k.nodes (lines_of text))
+  front : (k : Sizes) → judging text ≡ Ok k
+      → take y after ≡ encode (imported number k.nodes (lines_of text))
   unfolding written_into
   front k e =
       let file = encode (imported number k.nodes (lines_of text)) in
-      let a : cond (ltb (length before) (length file)) (Refused (refusal 31 0))
-      (Written (record { bytes = length file })) ≡ Written y = sym (c.answer ∙ rw e) in
+      let a : cond (ltb (length before) (length file)) (Err (refusal 31 0))
+      (Ok (length file)) ≡ Ok y = sym (c.answer ∙ rw e) in
       let (_, w) =
-      passed_by_lem (ltb (length before) (length file)) _ _ (Written y) (not_written (refusal 31 0) y) a in
-      let long : length file ≡ y.bytes = ap (λ (z : Length). z.bytes) (one_length _ y w) in
+      passed_by_lem (ltb (length before) (length file)) _ _ (Ok y) (not_both (refusal 31 0) y) a in
+      let long : length file ≡ y = same_value _ y w in
       let left : after ≡ overwritten file before = c.written ∙ rw e in
-      rw left (take_at file _ y.bytes long)
+      rw left (take_at file _ y long)
 
-  pub imported_opens : number < 2 ^ 32 → Shows text number (take y.bytes after)
+  pub imported_opens : number < 2 ^ 32 → Shows text number (take y after)
   imported_opens b =
       let (k, e) = accepted (judging text) refl in
       let (roads, t) = (accepted_exactly text k).0 e in
@@ -166,29 +156,31 @@ module _ (text : List ℕ) (number : ℕ) (before after : List ℕ) (y : Length)
 abbrev pub ImportNumber : ℕ → Type 0
 ImportNumber n = (n ≡ 35) ⊎ ((n ≡ 36) ⊎ (n ≡ 31))
 
-abbrev Fine : Writing → Type 0
-Fine a = (r : Refusal) → a ≡ Refused r → ImportNumber r.number
+abbrev Fine : Result ℕ Refusal → Type 0
+Fine a = (r : Refusal) → a ≡ Err r → ImportNumber r.number
 
-same_refused : (q r : Refusal) → Refused q ≡ Refused r → q.number ≡ r.number
-same_refused q r e = let z : q ≡ r = cc in ap (λ (y : Refusal). y.number) z
-
-abbrev Sane : Judgement → Type 0
-Sane (Accepted k) = ℕ
-Sane (Rejected q) = ImportNumber q.number
+abbrev Sane : Result Sizes Refusal → Type 0
+Sane (Ok k) = ℕ
+Sane (Err q) = ImportNumber q.number
 
 judged_sane : (r : Reading) → Sane (judged r)
 unfolding judged
-judged_sane r =
-    cond_holds Sane (unfinished r) _ _ (inl refl) (cond_holds Sane (eqb r.wrong 0) _ _ 0 (inr (inl refl)))
+judged_sane r = cond_holds Sane (unfinished r) _ _ (inl refl) (by r.sizes r.wrong)
+  where
+    by : (o : Option Sizes) (w : Option ℕ)
+        → Sane (option_map_or (valued w) o (Err (refusal 35 (tellable r.lines))))
+    by None w = inl refl
+    by (Some k) None = 0
+    by (Some k) (Some line) = inr (inl refl)
 
-answer_fine : (j : Judgement) → Sane j → (long room : ℕ) → Fine (answer_by j long room)
+answer_fine : (j : Result Sizes Refusal) → Sane j → (long room : ℕ) → Fine (answer_by j long room)
 unfolding written_into
-answer_fine (Accepted k) s long room =
-    cond_holds Fine (ltb room long) _ _ (λ r e. rw (← same_refused (refusal 31 0) r e) (inr (inr refl)))
-    (λ r e. absurd (not_written r (record { bytes = long }) (sym e)))
-answer_fine (Rejected q) s long room = λ r e. rw (← same_refused q r e) s
+answer_fine (Ok k) s long room =
+    cond_holds Fine (ltb room long) _ _ (λ r e. rw (← same_number (refusal 31 0) r e) (inr (inr refl)))
+    (λ r e. not_both r long (sym e))
+answer_fine (Err q) s long room = λ r e. rw (← same_number q r e) s
 
-pub import_numbers : (text : List ℕ) (number room : ℕ) (r : Refusal) → importing text number room ≡ Refused r
+pub import_numbers : (text : List ℕ) (number room : ℕ) (r : Refusal) → importing text number room ≡ Err r
     → ImportNumber r.number
 import_numbers text number room r e =
     answer_fine (judging text) (judged_sane (read_all begun (lines_of text)))

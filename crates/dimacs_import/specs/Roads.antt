@@ -2,13 +2,14 @@
 -- that the text gives.
 use mathlib.Core.{Path.◌≡◌, Path.refl, Path.sym, Path.◌∙◌, Path.ap, List.List, List.◌∷◌}
 use Rattle.std.specs.Prelude.{ℕ, zero, suc, ◌-◌, ◌*◌, ◌^◌, ◌≤◌, ◌<◌, length, get_or, take, replicate}
+use Rattle.std.specs.Prelude.{Result, Ok}
 use Rattle.std.proofs.Common.{arith, length-take-le, get_or-take, ext_get_or}
 use Rattle.std.proofs.lemmas.List.{length-map, length-replicate}
 use Rattle.theory_loops.specs.Fill.{overwritten}
 use Rattle.file_fields.specs.Block.{block_size}
-use Rattle.file_refusals.specs.declared.writing.Writing.{Writing}
-use Rattle.file_refusals.specs.declared.writing.Writing.TheVariants.{Written}
-use Rattle.file_refusals.specs.Writing.{unwritten, written_into, Writes, into_short, into_whole}
+use Rattle.file_refusals.specs.declared.Refusal.{Refusal}
+use Rattle.file_refusals.specs.Refusal.{refused}
+use Rattle.file_refusals.specs.Writing.{written_into, Writes, into_short, into_whole}
 use Rattle.text_lines.specs.Lines.{lines_of}
 use Rattle.network.specs.declared.header.Layout.{Layout}
 use Rattle.network.specs.{Limits.most_nodes, Limits.most_arcs, Limits.most_period, Validate.blocks_few}
@@ -20,31 +21,30 @@ use Rattle.network_pack.specs.Proper.{packed_long}
 use Rattle.dimacs_line.specs.declared.line.{Sizes.Sizes, Arc.Arc}
 use Rattle.dimacs_reading.specs.{Accepted.SizesWithin, Reading.judging}
 use Rattle.dimacs_text.specs.{Arcs.arcs_of, Arcs.arc_at, Arcs.Fit, Noting.JudgedInto}
-use Rattle.dimacs_reading.specs.declared.verdict.Judgement.{Judgement}
-use Rattle.dimacs_reading.specs.declared.verdict.Judgement.TheVariants.{Accepted}
-use Rattle.dimacs_text.specs.Noting.{lowered, shortened, tail_of, head_of, travel_of, TablesLong, Column, Noted}
+use Rattle.dimacs_text.specs.declared.roads.Roads.{Roads}
+use Rattle.dimacs_text.specs.Noting.{lowered, shortened, tail_of, head_of, travel_of}
+use Rattle.dimacs_text.specs.Noting.{TablesLong, Column, Noted}
 use Rattle.dimacs_import.specs.Import.{network_by, ImportCall, import_accepted}
 use Rattle.dimacs_import.specs.Imported.{tail_at, head_at, travel_at_lem, accepted_fit, header_for}
 use Rattle.dimacs_import.specs.Imported.{header_within}
 
 -- each node in cell 0 and open all day, and each arc with one point, at tick 0
-abbrev pub road_tables : List ℕ → List ℕ → List ℕ → Tables
-road_tables tails heads travels =
-    tables (replicate most_arcs 0) (replicate most_arcs 0) (replicate most_nodes most_period) tails heads
-    (replicate most_arcs 1) (replicate most_arcs 0) travels
+abbrev pub road_tables : Roads → Tables
+road_tables roads =
+    tables (replicate most_arcs 0) (replicate most_arcs 0) (replicate most_nodes most_period) roads.tails
+    roads.heads (replicate most_arcs 1) (replicate most_arcs 0) roads.travels
 
-abbrev pub roads_file : ℕ → Sizes → List ℕ → List ℕ → List ℕ → List ℕ
-roads_file number k tails heads travels =
-    encode (network_of (header_for number k) (road_tables tails heads travels))
+abbrev pub roads_file : ℕ → Sizes → Roads → List ℕ
+roads_file number k roads = encode (network_of (header_for number k) (road_tables roads))
 
 pub roads_few : (number : ℕ) (k : Sizes) (l : Layout) → SizesWithin k → l ≡ layout_of (header_for number k)
     → l.blocks ≤ most_blocks
 roads_few number k l w is = blocks_few (header_for number k) l (header_within number k w) is
 
 -- FOR THE CODE: its writing
-module _ (number : ℕ) (k : Sizes) (l : Layout) (tails heads travels : List ℕ) (w : SizesWithin k)
-    (t : TablesLong tails heads travels) (b : number < 2 ^ 32) (is : l ≡ layout_of (header_for number k)) where
-  pub roads_packable : Packable (header_for number k) l (road_tables tails heads travels)
+module _ (number : ℕ) (k : Sizes) (l : Layout) (roads : Roads) (w : SizesWithin k)
+    (t : TablesLong roads) (b : number < 2 ^ 32) (is : l ≡ layout_of (header_for number k)) where
+  pub roads_packable : Packable (header_for number k) l (road_tables roads)
   roads_packable =
       let q = layout_blocks is in
       let zeros = length-replicate {A = ℕ} most_arcs 0 in
@@ -66,23 +66,23 @@ module _ (number : ℕ) (k : Sizes) (l : Layout) (tails heads travels : List ℕ
         };
       }
 
-  pub roads_long : block_size * l.blocks ≡ length (roads_file number k tails heads travels)
-  roads_long = sym (packed_long (road_tables tails heads travels) roads_packable)
+  pub roads_long : block_size * l.blocks ≡ length (roads_file number k roads)
+  roads_long = sym (packed_long (road_tables roads) roads_packable)
 
   module _ (before : List ℕ) where
-    pub roads_short : (r : Writing) → length before < block_size * l.blocks → r ≡ unwritten 31
-        → Writes (written_into (length (roads_file number k tails heads travels)) (length before))
-        (roads_file number k tails heads travels) before before r
-    roads_short r m e = into_short (roads_file number k tails heads travels) before r (rw roads_long at m) e
+    pub roads_short : (r : Result ℕ Refusal) → length before < block_size * l.blocks → r ≡ refused 31 0
+        → Writes (written_into (length (roads_file number k roads)) (length before))
+        (roads_file number k roads) before before r
+    roads_short r m e = into_short (roads_file number k roads) before r (rw roads_long at m) e
 
     pub roads_whole : (after : List ℕ) → block_size * l.blocks ≤ length before
-        → after ≡ overwritten (roads_file number k tails heads travels) before
-        → Writes (written_into (length (roads_file number k tails heads travels)) (length before))
-        (roads_file number k tails heads travels) before after
-        (Written (record { bytes = block_size * l.blocks }))
+        → after ≡ overwritten (roads_file number k roads) before
+        → Writes (written_into (length (roads_file number k roads)) (length before))
+        (roads_file number k roads) before after
+        (Ok (block_size * l.blocks))
     roads_whole after m e =
         rw roads_long
-        (into_whole (roads_file number k tails heads travels) before after (rw roads_long at m) e)
+        (into_whole (roads_file number k roads) before after (rw roads_long at m) e)
 
 -- AN ACCEPTED TEXT: a column of a table is the network's list, where each number fits its entry
 take_alike : (n m v : ℕ) → n ≤ m → take n (replicate {A = ℕ} m v) ≡ replicate n v
@@ -123,9 +123,9 @@ module _ (number : ℕ) (k : Sizes) (arcs : List Arc) (f : Fit k arcs) where
       omega (arith, (f.fits i l).weight_most) in
       z ∙ sym (travel_at_lem number k.nodes arcs i)
 
-  pub roads_network : (tails heads travels : List ℕ) → Noted arcs k.arcs tails heads travels
-      → network_of (header_for number k) (road_tables tails heads travels) ≡ network_by number k.nodes arcs
-  roads_network tails heads travels t =
+  pub roads_network : (roads : Roads) → Noted arcs k.arcs roads
+      → network_of (header_for number k) (road_tables roads) ≡ network_by number k.nodes arcs
+  roads_network roads t =
       let w = f.within in
       let zeros : take k.nodes (replicate {A = ℕ} most_arcs 0) ≡ replicate k.nodes 0 =
       take_alike k.nodes most_arcs 0 (omega (arith, w.nodes_few)) in
@@ -144,30 +144,30 @@ module _ (number : ℕ) (k : Sizes) (arcs : List Arc) (f : Fit k arcs) where
         cell_of = zeros i;
         opens = zeros i;
         closes = ends i;
-        tails = column_is tail_of tails n.tails t.tails_are (length-map arcs _) tail_is i;
-        heads = column_is head_of heads n.heads t.heads_are (length-map arcs _) head_is i;
+        tails = column_is tail_of roads.tails n.tails t.tails_are (length-map arcs _) tail_is i;
+        heads = column_is head_of roads.heads n.heads t.heads_are (length-map arcs _) head_is i;
         counts = ones i;
         ticks = ticks i;
-        travels = column_is travel_of travels n.travels t.travels_are (length-map arcs _) travel_is i;
+        travels = column_is travel_of roads.travels n.travels t.travels_are (length-map arcs _) travel_is i;
       }
 
 -- THE CALL, where a text is accepted
-pub roads_imported : (text : List ℕ) (number : ℕ) (k : Sizes) (tails heads travels before after : List ℕ)
-    (j : Judgement) (r : Writing) → JudgedInto text j tails heads travels → j ≡ Accepted k
-    → Writes (written_into (length (roads_file number k tails heads travels)) (length before))
-    (roads_file number k tails heads travels) before after r
+pub roads_imported : (text : List ℕ) (number : ℕ) (k : Sizes) (roads : Roads) (before after : List ℕ)
+    (j : Result Sizes Refusal) (r : Result ℕ Refusal) → JudgedInto text j roads → j ≡ Ok k
+    → Writes (written_into (length (roads_file number k roads)) (length before))
+    (roads_file number k roads) before after r
     → ImportCall text number before after r
-roads_imported text number k tails heads travels before after j r h e w =
-    let a : judging text ≡ Accepted k = sym h.told ∙ e in
-    import_accepted text number before k a (roads_file number k tails heads travels)
+roads_imported text number k roads before after j r h e w =
+    let a : judging text ≡ Ok k = sym h.told ∙ e in
+    import_accepted text number before k a (roads_file number k roads)
     (ap encode
-    (roads_network number k (arcs_of (lines_of text)) (accepted_fit text k a) tails heads travels
+    (roads_network number k (arcs_of (lines_of text)) (accepted_fit text k a) roads
     (h.noted k e)))
     after r w
 
-pub accepted_within : (text : List ℕ) (k : Sizes) (tails heads travels : List ℕ) (j : Judgement)
-    → JudgedInto text j tails heads travels → j ≡ Accepted k → SizesWithin k × TablesLong tails heads travels
-accepted_within text k tails heads travels j h e = (
+pub accepted_within : (text : List ℕ) (k : Sizes) (roads : Roads) (j : Result Sizes Refusal)
+    → JudgedInto text j roads → j ≡ Ok k → SizesWithin k × TablesLong roads
+accepted_within text k roads j h e = (
   (accepted_fit text k (sym h.told ∙ e)).within,
   record {
     tails_long = (h.noted k e).tails_are.long;

@@ -152,7 +152,8 @@ module _ (number : ℕ) (k : Sizes) (roads : List Arc) (f : Fit k roads) where
   }
 
   -- the travel is the weight, all day
-  pub imported_travel : (a x : ℕ) → a < length roads → x < most_period → travel_at n a x ≡ (arc_at roads a).weight
+  pub imported_travel : (a x : ℕ) → a < length roads → x < most_period
+      → travel_at n a x ≡ (arc_at roads a).weight
   unfolding travel_at
   imported_travel a x l m =
       let d = (points_sound_lem a l).day in

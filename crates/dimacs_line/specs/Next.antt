@@ -11,16 +11,12 @@ use Rattle.text_numbers.specs.Digits.{part, DigitsAt, part_split, part_first, di
 use Rattle.dimacs_line.specs.declared.line.Arc.{Arc}
 use Rattle.dimacs_line.specs.declared.line.Shape.TheVariants.{Remark}
 use Rattle.dimacs_line.specs.declared.line.Shape.TheVariants.{Arc as ArcLine}
-use Rattle.dimacs_line.specs.declared.next.{Line.Line, Met.Met}
+use Rattle.dimacs_line.specs.declared.next.Line.{Line}
 use Rattle.dimacs_line.specs.{Shape.shape_of, ShapeExact.remark_exactly, ShapeExact.arc_exactly}
 
 pub record NextLine (text : List ℕ) (at : ℕ) (l : Line) : Type 0 where
   pub to : LineTo text at l.end
   pub is : l.shape ≡ shape_of (part text at l.end)
-
--- the line of an arc that is met
-abbrev pub line_by : Met → Line
-line_by m = record { shape = ArcLine m.arc; end = m.end }
 
 -- `a `, with room for three numbers of nine digits; and bytes with this one behind them
 pub record ArcStart (text : List ℕ) (at : ℕ) : Type 0 where
@@ -68,7 +64,8 @@ module _ (text : List ℕ) (from mid end : ℕ) (value byte : ℕ) (digits : Dig
 module _ (text : List ℕ) (at tail tailEnd head head_end weight end : ℕ) (start : ArcStart text at)
     (tails : DigitsAt text (at + 2) tailEnd tail) (tailEnded : EndedBy text (at + 2) tailEnd 32)
     (heads : DigitsAt text (tailEnd + 1) head_end head) (headEnded : EndedBy text (tailEnd + 1) head_end 32)
-    (weights : DigitsAt text (head_end + 1) end weight) (weightEnded : EndedBy text (head_end + 1) end 10) where
+    (weights : DigitsAt text (head_end + 1) end weight)
+    (weightEnded : EndedBy text (head_end + 1) end 10) where
   within : end < length text
   within = omega (arith, start.room, tails.few, heads.few, weights.few)
 
@@ -132,9 +129,6 @@ module _ (text : List ℕ) (at tail tailEnd head head_end weight end : ℕ) (sta
 -- FOR A TEST that answers a bool: what holds if the answer is yes
 pub false_true : {P : Type 0} → ◌≡◌ {A = Bool} false true → P
 false_true e = let z : ◌≡◌ {A = ℕ} 0 1 = cc in absurd (omega arith)
-
-pub unmet : {P : Type 0} (at end : ℕ) → end ≡ at → at < end → P
-unmet at end e l = absurd (omega arith)
 
 pub ended_so : (text : List ℕ) (from end byte : ℕ) → from < end → eqb (get_or text end 0) byte ≡ true
     → EndedBy text from end byte

@@ -2,10 +2,14 @@
 -- TAIL HEAD WEIGHT` is an arc; numbers have one to nine digits, leading zeros counted, one space apart, and
 -- nothing stands before or after. `shape_of` works out which of these a line is.
 use mathlib.Core.{Path.◌≡◌, Path.refl, Path.sym, Path.◌∙◌, List.List, List.[], List.◌∷◌, List.◌++◌}
-use Rattle.std.specs.Prelude.{Bool, true, false, cond, ◌&&◌, ℕ, zero, suc, ◌-◌, ◌≤◌, ◌<◌}
-use native.Mathlib.{Decide.dec_lt, Omega.arith}
-use lib.{ListN.length, ListN.get_or, ListN.take, ListN.drop, ListN.length-drop, Seq.take_all, Dec.eqb}
-use Rattle.std.proofs.Common.{eq-eqb, ne_eqb}
+use Rattle.std.specs.Prelude.{Option, Some, None, Bool, true, false, cond, ◌&&◌, ℕ}
+use Rattle.std.specs.Prelude.{MatchOption, nat_eq}
+use Rattle.std.specs.Option.{option_map_or}
+use Rattle.std.specs.Cmp.Lexicographic.{pointwise}
+use Rattle.std.proofs.Math.Bool.{and-eq-true_iff}
+use native.Mathlib.{Decide.ℕ_discrete, Omega.arith}
+use lib.{ListN.length, ListN.take, ListN.drop, Dec.eqb}
+use Rattle.std.proofs.Common.{eqb-true, ne_eqb}
 use Rattle.text_spaced.specs.declared.spaced.Scan.{Scan}
 use Rattle.text_numbers.specs.{Text.ascii, Spaced.Spaced}
 use Rattle.text_spaced.specs.Scanning.{fresh, scanned_all, whole}
@@ -41,11 +45,19 @@ sizes_by s = record { nodes = s.first; arcs = s.value }
 abbrev pub arc_by : Scan → Arc
 arc_by s = record { tail = s.first; head = s.second; weight = s.value }
 
-unfoldable pub sizes_shape : Scan → Shape
-sizes_shape s = cond (whole s 2) (SizesLine (sizes_by s)) Other
+unfoldable pub sizes_met : Option Scan → Option Sizes
+sizes_met None = None
+sizes_met (Some s) = cond (whole s 2) (Some (sizes_by s)) None
 
-unfoldable pub arc_shape : Scan → Shape
-arc_shape s = cond (whole s 3) (ArcLine (arc_by s)) Other
+unfoldable pub arc_met : Option Scan → Option Arc
+arc_met None = None
+arc_met (Some s) = cond (whole s 3) (Some (arc_by s)) None
+
+unfoldable pub sizes_shape : Option Scan → Shape
+sizes_shape s = option_map_or SizesLine (sizes_met s) Other
+
+unfoldable pub arc_shape : Option Scan → Shape
+arc_shape s = option_map_or ArcLine (arc_met s) Other
 
 -- the shape of a line
 unfoldable pub shape_of : List ℕ → Shape
@@ -54,63 +66,89 @@ shape_of line =
     (cond (starts_with (ascii "a ") line) (arc_shape (scanned_all 9 fresh (drop 2 line)))
     (cond (starts_with (ascii "p sp ") line) (sizes_shape (scanned_all 9 fresh (drop 5 line))) Other))
 
--- FOR THE LOOP that compares: where the line is shorter or a byte differs, and where none does
-and_no : (t u : Bool) → u ≡ false → (t && u) ≡ false
-and_no true u e = e
-and_no false u e = refl
+zero_one : ◌≡◌ {A = ℕ} 0 1 → ⊥
+zero_one z = omega arith
 
-pub starts_short : (word line : List ℕ) → length line < length word → starts_with word line ≡ false
+-- a line that starts with a word is that word and the rest
+pub starts_is : (word line : List ℕ) → starts_with word line ≡ true → line ≡ word ++ drop (length word) line
 unfolding starts_with
-starts_short [] line l = absurd (omega arith)
-starts_short (b ∷ w) [] l = refl
-starts_short (b ∷ w) (c ∷ line) l = and_no (eqb c b) (starts_with w line) (starts_short w line (omega arith))
+starts_is [] line e = refl
+starts_is (b ∷ w) [] e = absurd (zero_one (cc))
+starts_is (b ∷ w) (c ∷ line) e =
+    let (p, q) = (and-eq-true_iff (eqb c b) (starts_with w line)).0 e in
+    rw (← starts_is w line q, eqb-true c b p)
 
-pub starts_differ : (word line : List ℕ) (i : ℕ) → i < length word → i < length line
-    → (get_or line i 0 ≡ get_or word i 0 → ⊥)
-    → starts_with word line ≡ false
+-- FOR THE CODE: the library's tests of a prefix say the same
+strip_same : (word line : List ℕ) → pointwise nat_eq (take (length word) line) word ≡ starts_with word line
 unfolding starts_with
-starts_differ [] line i l m n = absurd (omega arith)
-starts_differ (b ∷ w) [] i l m n = refl
-starts_differ (b ∷ w) (c ∷ line) zero l m n = rw (ne_eqb c b n)
-starts_differ (b ∷ w) (c ∷ line) (suc i) l m n =
-    and_no (eqb c b) (starts_with w line) (starts_differ w line i (omega arith) (omega arith) n)
+strip_same [] line = refl
+strip_same (b ∷ w) [] = refl
+strip_same (b ∷ w) (c ∷ line) = rw (strip_same w line)
 
-pub starts_alike : (word line : List ℕ) → length word ≤ length line
-    → ((k : ℕ) → k < length word → get_or line k 0 ≡ get_or word k 0)
-    → starts_with word line ≡ true
-unfolding starts_with
-starts_alike [] line l h = refl
-starts_alike (b ∷ w) [] l h = absurd (omega arith)
-starts_alike (b ∷ w) (c ∷ line) l h =
-    rw (eq-eqb c b (h 0 (omega arith)))
-    (starts_alike w line (omega arith) (λ k m. h (suc k) (omega arith)))
-
-pub starts_long : (word line : List ℕ) (r : Bool) → r ≡ starts_with word line → r ≡ true
-    → length word ≤ length line
-starts_long word line r e f = elim (dec_lt (length line) (length word)) [
-  | yes l ↦
-      let z : ◌≡◌ {A = ℕ} 0 1 = true_false (sym f ∙ (e ∙ starts_short word line l)) in
-      absurd (omega arith)
-  | no l ↦ omega arith
+eqb_turn : (b c : ℕ) → eqb b c ≡ eqb c b
+eqb_turn b c = elim (ℕ_discrete b c) [
+  | yes e ↦ rw e
+  | no n ↦ rw (ne_eqb b c n, ne_eqb c b (λ e. n (sym e)))
 ]
-  where
-    true_false : ◌≡◌ {A = Bool} true false → ◌≡◌ {A = ℕ} 0 1
-    true_false e = cc
 
--- what is lent of a line from byte n on
-pub whole_tail : (n : ℕ) (line : List ℕ) → take (length line - n) (drop n line) ≡ drop n line
-whole_tail n line = take_all (length line - n) (drop n line) (omega (arith, length-drop n line))
+start_same : (word line : List ℕ) → pointwise nat_eq word (take (length word) line) ≡ starts_with word line
+unfolding starts_with
+start_same [] line = refl
+start_same (b ∷ w) [] = refl
+start_same (b ∷ w) (c ∷ line) = rw (eqb_turn b c, start_same w line)
 
--- the shape of a line by the first test that holds, and by the numbers in the part after the letters
-module _ (line part : List ℕ) (r : Shape) (s : Scan) (c : Bool) (no-remark : c ≡ starts_with (ascii "c") line)
-    (passed : c ≡ false) (scan : s ≡ scanned_all 9 fresh part) where
-  pub arc_told : (a : Bool) → a ≡ starts_with (ascii "a ") line → a ≡ true → part ≡ drop 2 line
-      → r ≡ arc_shape s → r ≡ shape_of line
+-- a shape made of what is met, and `Other` where nothing is
+shape_made : {A : Type 0} (f : A → Shape) (o : Option A) (r : Shape)
+    → MatchOption o (r ≡ Other) (λ x. r ≡ f x) → r ≡ option_map_or f o Other
+shape_made f None r e = e
+shape_made f (Some x) r e = e
+
+module _ (line : List ℕ) (c : Bool) (letter : c ≡ pointwise nat_eq (ascii "c") (take 1 line)) where
+  -- the shape of a line by the first test that holds
+  remark : c ≡ starts_with (ascii "c") line
+  remark = letter ∙ start_same (ascii "c") line
+
+  pub remark_told : c ≡ true → Remark ≡ shape_of line
   unfolding shape_of
-  arc_told a e f d g = rw (← no-remark, passed, ← e, f, ← d, ← scan) g
+  remark_told e = rw (← remark, e)
 
-  pub sizes_told : (a p : Bool) → a ≡ starts_with (ascii "a ") line → a ≡ false
-      → p ≡ starts_with (ascii "p sp ") line → p ≡ true → part ≡ drop 5 line → r ≡ sizes_shape s
-      → r ≡ shape_of line
-  unfolding shape_of
-  sizes_told a p e f k l d g = rw (← no-remark, passed, ← e, f, ← k, l, ← d, ← scan) g
+  module _ (passed : c ≡ false) where
+    pub arc_told : (rest : List ℕ) (o : Option Arc) (r : Shape)
+        → pointwise nat_eq (take 2 line) (ascii "a ") ≡ true → rest ≡ drop 2 line
+        → o ≡ arc_met (scanned_all 9 fresh rest) → MatchOption o (r ≡ Other) (λ x. r ≡ ArcLine x)
+        → r ≡ shape_of line
+    unfolding shape_of arc_shape
+    arc_told rest o r a d m h =
+        shape_made ArcLine o r h
+        ∙ rw (← remark, passed, ← strip_same (ascii "a ") line, a, ← d, ← m)
+
+    module _ (other : pointwise nat_eq (take 2 line) (ascii "a ") ≡ false) where
+      pub sizes_told : (rest : List ℕ) (o : Option Sizes) (r : Shape)
+          → pointwise nat_eq (take 5 line) (ascii "p sp ") ≡ true → rest ≡ drop 5 line
+          → o ≡ sizes_met (scanned_all 9 fresh rest) → MatchOption o (r ≡ Other) (λ x. r ≡ SizesLine x)
+          → r ≡ shape_of line
+      unfolding shape_of sizes_shape
+      sizes_told rest o r p d m h =
+          shape_made SizesLine o r h
+          ∙ rw (
+            ← remark,
+            passed,
+            ← strip_same (ascii "a ") line,
+            other,
+            ← strip_same (ascii "p sp ") line,
+            p,
+            ← d,
+            ← m,
+          )
+
+      pub other_told : pointwise nat_eq (take 5 line) (ascii "p sp ") ≡ false → Other ≡ shape_of line
+      unfolding shape_of
+      other_told p =
+          rw (
+            ← remark,
+            passed,
+            ← strip_same (ascii "a ") line,
+            other,
+            ← strip_same (ascii "p sp ") line,
+            p,
+          )

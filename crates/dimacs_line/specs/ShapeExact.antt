@@ -1,9 +1,9 @@
 -- A line has a shape exactly where it is such a line (`remark_exactly`, `sizes_exactly`, `arc_exactly`).
-use mathlib.Core.{Path.◌≡◌, Path.refl, Path.subst, Logic.◌↔◌, List.List, List.[], List.◌∷◌, List.◌++◌}
-use Rattle.std.specs.Prelude.{Bool, true, false, cond, ℕ}
-use Rattle.std.proofs.Math.Bool.{and-eq-true_iff}
-use Rattle.std.proofs.Common.{arith, lt-ltb, eqb-true}
-use lib.{ListN.length, ListN.drop, Dec.eqb}
+use mathlib.Core.{Path.◌≡◌, Path.refl, Path.subst, Logic.◌↔◌, List.List, List.[], List.◌∷◌}
+use Rattle.std.specs.Prelude.{Option, Some, None, Bool, true, false, cond, ℕ}
+use Rattle.std.specs.Option.{option_map_or}
+use Rattle.std.proofs.Common.{◌∙◌, arith, lt-ltb}
+use lib.ListN.{drop}
 use Rattle.text_spaced.specs.declared.spaced.Scan.{Scan}
 use Rattle.text_numbers.specs.{Text.ascii, Spaced.Spaced}
 use Rattle.text_spaced.specs.Scanning.{fresh, scanned_all, whole}
@@ -11,43 +11,70 @@ use Rattle.text_spaced.specs.SpacedExact.{scanned_spaced, two_values, three_valu
 use Rattle.dimacs_line.specs.declared.line.{Sizes.Sizes, Arc.Arc, Shape.Shape}
 use Rattle.dimacs_line.specs.declared.line.Shape.TheVariants.{Remark, Other}
 use Rattle.dimacs_line.specs.declared.line.Shape.TheVariants.{Sizes as SizesLine, Arc as ArcLine}
-use Rattle.dimacs_line.specs.Shape.{IsRemark, IsSizes, IsArc, starts_with, sizes_by, arc_by, sizes_shape}
-use Rattle.dimacs_line.specs.Shape.{arc_shape, shape_of}
+use Rattle.dimacs_line.specs.Shape.{IsRemark, IsSizes, IsArc, starts_with, starts_is, sizes_by, arc_by}
+use Rattle.dimacs_line.specs.Shape.{sizes_met, arc_met, sizes_shape, arc_shape, shape_of}
 
 zero_one : ◌≡◌ {A = ℕ} 0 1 → ⊥
 zero_one z = omega arith
 
--- a line that starts with a word is that word and the rest
-starts_is : (word line : List ℕ) → starts_with word line ≡ true → line ≡ word ++ drop (length word) line
-unfolding starts_with
-starts_is [] line e = refl
-starts_is (b ∷ w) [] e = absurd (zero_one (cc))
-starts_is (b ∷ w) (c ∷ line) e =
-    let (p, q) = (and-eq-true_iff (eqb c b) (starts_with w line)).0 e in
-    rw (← starts_is w line q, eqb-true c b p)
+none_some : {A : Type 0} {P : Type 0} {x : A} → None ≡ Some x → P
+none_some e = absurd (zero_one (cc))
 
--- the shapes of three and of two numbers
+same_some : {A : Type 0} (x y : A) → Some x ≡ Some y → x ≡ y
+same_some x y e = cc
+
+-- what is met of three and of two numbers, and the shape that is made of it
+arc_is_met : (rest : List ℕ) (a : Arc) → arc_met (scanned_all 9 fresh rest) ≡ Some a
+    → Spaced 9 rest (a.tail ∷ a.head ∷ a.weight ∷ [])
+unfolding arc_met
+arc_is_met rest a e = read (scanned_all 9 fresh rest) refl
+  where
+    go : (s : Scan) (t : Bool) → scanned_all 9 fresh rest ≡ Some s → whole s 3 ≡ t
+        → Spaced 9 rest (a.tail ∷ a.head ∷ a.weight ∷ [])
+    go s true g f =
+        let k : arc_by s ≡ a = same_some (arc_by s) a (rw (g, f) at e) in
+        subst (λ (a : Arc). Spaced 9 rest (a.tail ∷ a.head ∷ a.weight ∷ [])) k
+        (rw (three_values s f) at (scanned_spaced 9 3 rest s g f))
+    go s false g f = none_some (rw (g, f) at e)
+
+    read : (o : Option Scan) → scanned_all 9 fresh rest ≡ o
+        → Spaced 9 rest (a.tail ∷ a.head ∷ a.weight ∷ [])
+    read None g = none_some (rw g at e)
+    read (Some s) g = go s (whole s 3) g refl
+
+sizes_are_met : (rest : List ℕ) (k : Sizes) → sizes_met (scanned_all 9 fresh rest) ≡ Some k
+    → Spaced 9 rest (k.nodes ∷ k.arcs ∷ [])
+unfolding sizes_met
+sizes_are_met rest k e = read (scanned_all 9 fresh rest) refl
+  where
+    go : (s : Scan) (t : Bool) → scanned_all 9 fresh rest ≡ Some s → whole s 2 ≡ t
+        → Spaced 9 rest (k.nodes ∷ k.arcs ∷ [])
+    go s true g f =
+        let j : sizes_by s ≡ k = same_some (sizes_by s) k (rw (g, f) at e) in
+        subst (λ (k : Sizes). Spaced 9 rest (k.nodes ∷ k.arcs ∷ [])) j
+        (rw (two_values s f) at (scanned_spaced 9 2 rest s g f))
+    go s false g f = none_some (rw (g, f) at e)
+
+    read : (o : Option Scan) → scanned_all 9 fresh rest ≡ o → Spaced 9 rest (k.nodes ∷ k.arcs ∷ [])
+    read None g = none_some (rw g at e)
+    read (Some s) g = go s (whole s 2) g refl
+
 arc_of_lem : (rest : List ℕ) (a : Arc) → arc_shape (scanned_all 9 fresh rest) ≡ ArcLine a
     → Spaced 9 rest (a.tail ∷ a.head ∷ a.weight ∷ [])
 unfolding arc_shape
-arc_of_lem rest a e = go (whole s 3) refl
+arc_of_lem rest a e = go (arc_met (scanned_all 9 fresh rest)) refl
   where
-    s : Scan
-    s = scanned_all 9 fresh rest
-
-    same : (k a : Arc) → ArcLine k ≡ ArcLine a → k ≡ a
-    same k a e = cc
-
-    go : (t : Bool) → whole s 3 ≡ t → Spaced 9 rest (a.tail ∷ a.head ∷ a.weight ∷ [])
-    go true f =
-        let k : arc_by s ≡ a = same (arc_by s) a (rw f at e) in
-        subst (λ (a : Arc). Spaced 9 rest (a.tail ∷ a.head ∷ a.weight ∷ [])) k
-        (rw (three_values s f) at (scanned_spaced 9 3 rest f))
-    go false f = let h : Other ≡ ArcLine a = rw f at e in absurd (zero_one (cc))
+    go : (o : Option Arc) → arc_met (scanned_all 9 fresh rest) ≡ o
+        → Spaced 9 rest (a.tail ∷ a.head ∷ a.weight ∷ [])
+    go None g = let h : Other ≡ ArcLine a = rw g at e in absurd (zero_one (cc))
+    go (Some b) g =
+        let h : ArcLine b ≡ ArcLine a = rw g at e in
+        let k : Some b ≡ Some a = cc in
+        arc_is_met rest a (g ∙ k)
 
 arc_read : (rest : List ℕ) (a : Arc) → Spaced 9 rest (a.tail ∷ a.head ∷ a.weight ∷ [])
     → arc_shape (scanned_all 9 fresh rest) ≡ ArcLine a
-unfolding arc_shape whole
+unfolding arc_shape arc_met whole
 arc_read rest a h =
     let (d, l, e) = three_read 9 rest a.tail a.head a.weight h in
     rw (e, lt-ltb 0 d l)
@@ -55,45 +82,41 @@ arc_read rest a h =
 sizes_of_lem : (rest : List ℕ) (k : Sizes) → sizes_shape (scanned_all 9 fresh rest) ≡ SizesLine k
     → Spaced 9 rest (k.nodes ∷ k.arcs ∷ [])
 unfolding sizes_shape
-sizes_of_lem rest k e = go (whole s 2) refl
+sizes_of_lem rest k e = go (sizes_met (scanned_all 9 fresh rest)) refl
   where
-    s : Scan
-    s = scanned_all 9 fresh rest
-
-    same : (j k : Sizes) → SizesLine j ≡ SizesLine k → j ≡ k
-    same j k e = cc
-
-    go : (t : Bool) → whole s 2 ≡ t → Spaced 9 rest (k.nodes ∷ k.arcs ∷ [])
-    go true f =
-        let j : sizes_by s ≡ k = same (sizes_by s) k (rw f at e) in
-        subst (λ (k : Sizes). Spaced 9 rest (k.nodes ∷ k.arcs ∷ [])) j
-        (rw (two_values s f) at (scanned_spaced 9 2 rest f))
-    go false f = let h : Other ≡ SizesLine k = rw f at e in absurd (zero_one (cc))
+    go : (o : Option Sizes) → sizes_met (scanned_all 9 fresh rest) ≡ o
+        → Spaced 9 rest (k.nodes ∷ k.arcs ∷ [])
+    go None g = let h : Other ≡ SizesLine k = rw g at e in absurd (zero_one (cc))
+    go (Some j) g =
+        let h : SizesLine j ≡ SizesLine k = rw g at e in
+        let i : Some j ≡ Some k = cc in
+        sizes_are_met rest k (g ∙ i)
 
 sizes_read : (rest : List ℕ) (k : Sizes) → Spaced 9 rest (k.nodes ∷ k.arcs ∷ [])
     → sizes_shape (scanned_all 9 fresh rest) ≡ SizesLine k
-unfolding sizes_shape whole
+unfolding sizes_shape sizes_met whole
 sizes_read rest k h =
     let (d, l, e) = two_read 9 rest k.nodes k.arcs h in
     rw (e, lt-ltb 0 d l)
 
 -- numbers make no other shape than theirs
-arc_only : (s : Scan) (x : Shape) → ((a : Arc) → ArcLine a ≡ x → ⊥) → (Other ≡ x → ⊥) → arc_shape s ≡ x → ⊥
+arc_only : (s : Option Scan) (x : Shape) → ((a : Arc) → ArcLine a ≡ x → ⊥) → (Other ≡ x → ⊥)
+    → arc_shape s ≡ x → ⊥
 unfolding arc_shape
-arc_only s x never other e = go (whole s 3) e
+arc_only s x never other e = go (arc_met s) e
   where
-    go : (t : Bool) → cond t (ArcLine (arc_by s)) Other ≡ x → ⊥
-    go true f = never (arc_by s) f
-    go false f = other f
+    go : (o : Option Arc) → option_map_or ArcLine o Other ≡ x → ⊥
+    go None f = other f
+    go (Some a) f = never a f
 
-sizes_only : (s : Scan) (x : Shape) → ((k : Sizes) → SizesLine k ≡ x → ⊥) → (Other ≡ x → ⊥)
+sizes_only : (s : Option Scan) (x : Shape) → ((k : Sizes) → SizesLine k ≡ x → ⊥) → (Other ≡ x → ⊥)
     → sizes_shape s ≡ x → ⊥
 unfolding sizes_shape
-sizes_only s x never other e = go (whole s 2) e
+sizes_only s x never other e = go (sizes_met s) e
   where
-    go : (t : Bool) → cond t (SizesLine (sizes_by s)) Other ≡ x → ⊥
-    go true f = never (sizes_by s) f
-    go false f = other f
+    go : (o : Option Sizes) → option_map_or SizesLine o Other ≡ x → ⊥
+    go None f = other f
+    go (Some k) f = never k f
 
 -- which of the tests a line of a shape has passed
 module _ (line : List ℕ) where
@@ -118,7 +141,8 @@ module _ (line : List ℕ) where
 
       go : (t : Bool) → starts_with (ascii "c") line ≡ t → IsRemark line
       go true f = record { rest = drop 1 line; is = starts_is (ascii "c") line f }
-      go false f = absurd (later (starts_with (ascii "a ") line) (starts_with (ascii "p sp ") line) (rw f at e))
+      go false f =
+          absurd (later (starts_with (ascii "a ") line) (starts_with (ascii "p sp ") line) (rw f at e))
 
   is_remark : IsRemark line → shape_of line ≡ Remark
   unfolding shape_of starts_with

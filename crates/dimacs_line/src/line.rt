@@ -1,8 +1,9 @@
 // A line of a road file: a remark, the sizes, an arc, or of no such shape.
 ghost use Rattle.std.specs.Prelude.{◌≡◌};
-ghost use Rattle.dimacs_line.specs.Shape.{starts_with, arc_shape, sizes_shape, shape_of};
+ghost use Rattle.text_spaced.specs.Scanning.{fresh, scanned_all};
+ghost use Rattle.dimacs_line.specs.Shape.{arc_met, sizes_met, shape_of};
 
-use text_spaced::spaced::{Scan, is_whole, scan_line};
+use text_spaced::spaced::{is_whole, scan_line};
 
 // The most digits of a number.
 const DIGITS: u32 = 9;
@@ -30,61 +31,49 @@ pub enum Shape {
     Other,
 }
 
-// Does the line start with these bytes?
-fn starts_with(line: &[u8], word: &[u8]) -> bool
-    ensures { result ≡ starts_with word.now line.now }
+// The arc of three numbers.
+#[tactic(auto, unfolding(crate::specs::Shape::arc_met))]
+fn arc_of(numbers: &[u8]) -> Option<Arc>
+    ensures { result ≡ arc_met (scanned_all 9 fresh numbers.now) }
 {
-    let long = word.len();
-    if line.len() < long {
-        return false;
+    let s = scan_line(numbers, DIGITS)?;
+    if !is_whole(s, 3) {
+        return None;
     }
-    for i in 0..long {
-        if line[i] != word[i] {
-            return false;
-        }
-    }
-    true
-}
-
-// An arc of three numbers.
-fn arc_of(s: Scan) -> Shape
-    ensures { result ≡ arc_shape s }
-{
-    if is_whole(s, 3) {
-        return Shape::Arc(Arc {
-            tail: s.first,
-            head: s.second,
-            weight: s.value,
-        });
-    }
-    Shape::Other
+    Some(Arc {
+        tail: s.first,
+        head: s.second,
+        weight: s.value,
+    })
 }
 
 // The sizes of two numbers.
-fn sizes_of(s: Scan) -> Shape
-    ensures { result ≡ sizes_shape s }
+#[tactic(auto, unfolding(crate::specs::Shape::sizes_met))]
+fn sizes_of(numbers: &[u8]) -> Option<Sizes>
+    ensures { result ≡ sizes_met (scanned_all 9 fresh numbers.now) }
 {
-    if is_whole(s, 2) {
-        return Shape::Sizes(Sizes {
-            nodes: s.first,
-            arcs: s.value,
-        });
+    let s = scan_line(numbers, DIGITS)?;
+    if !is_whole(s, 2) {
+        return None;
     }
-    Shape::Other
+    Some(Sizes {
+        nodes: s.first,
+        arcs: s.value,
+    })
 }
 
 // The shape of a line.
 pub fn shape_of(line: &[u8]) -> Shape
     ensures { result ≡ shape_of line.now }
 {
-    if starts_with(line, b"c") {
+    if line.starts_with(b"c") {
         return Shape::Remark;
     }
-    if starts_with(line, b"a ") {
-        return arc_of(scan_line(&line[2..], DIGITS));
+    if let Some(numbers) = line.strip_prefix(b"a ") {
+        return arc_of(numbers).map_or(Shape::Other, Shape::Arc);
     }
-    if starts_with(line, b"p sp ") {
-        return sizes_of(scan_line(&line[5..], DIGITS));
+    if let Some(numbers) = line.strip_prefix(b"p sp ") {
+        return sizes_of(numbers).map_or(Shape::Other, Shape::Sizes);
     }
     Shape::Other
 }

@@ -1,7 +1,7 @@
 // The next line of a text, by its shape. A remark is known by its first byte, and an arc is read as its
 // numbers come, which finds the line's end too; any other line is looked at whole.
-ghost use Rattle.std.specs.Prelude.{◌≡◌, true, ◌≤◌, ◌<◌, length};
-ghost use Rattle.dimacs_line.specs.Next.{NextLine, ArcStart, EndedBy, line_by};
+ghost use Rattle.std.specs.Prelude.{◌≡◌, true, ◌≤◌, ◌<◌, length, IfSome};
+ghost use Rattle.dimacs_line.specs.Next.{NextLine, ArcStart, EndedBy};
 
 use crate::line::{Arc, Shape, shape_of};
 use text_lines::lines::line_end;
@@ -12,13 +12,6 @@ use text_numbers::digits::number_at;
 pub struct Line {
     pub shape: Shape,
     pub end: usize,
-}
-
-// An arc whose line ends at `end`, behind its start; where the line is not one, `end` is its start.
-#[derive(Clone, Copy)]
-struct Met {
-    arc: Arc,
-    end: usize,
 }
 
 // The most bytes of an arc's line: two, and three times nine digits and a byte behind them.
@@ -55,51 +48,37 @@ fn is_arc_start(text: &[u8], at: usize) -> bool
     text[at] == b'a' && text[at + 1] == b' '
 }
 
-// No arc is met at byte `at`.
-fn nothing(at: usize) -> Met
-    ensures { result.end ≡ at }
-{
-    Met {
-        arc: Arc {
-            tail: 0,
-            head: 0,
-            weight: 0,
-        },
-        end: at,
-    }
-}
-
-// The arc of a line that starts as one, if its numbers are met.
-fn arc_at(text: &[u8], at: usize) -> Met
+// The line of an arc, which starts as one, if its numbers are met.
+fn arc_at(text: &[u8], at: usize) -> Option<Line>
     requires { ArcStart text.now at }
-    ensures { at < result.end → NextLine text.now at (line_by result) }
+    ensures { IfSome result (NextLine text.now at) }
 {
     let tail_at = at + 2;
     let tail = number_at(text, tail_at);
     let tail_end = tail.end;
     if !is_ended(text, tail_at, tail_end, b' ') {
-        return nothing(at);
+        return None;
     }
     let head_at = tail_end + 1;
     let head = number_at(text, head_at);
     let head_end = head.end;
     if !is_ended(text, head_at, head_end, b' ') {
-        return nothing(at);
+        return None;
     }
     let weight_at = head_end + 1;
     let weight = number_at(text, weight_at);
     let end = weight.end;
     if !is_ended(text, weight_at, end, b'\n') {
-        return nothing(at);
+        return None;
     }
-    Met {
-        arc: Arc {
+    Some(Line {
+        shape: Shape::Arc(Arc {
             tail: tail.value,
             head: head.value,
             weight: weight.value,
-        },
+        }),
         end,
-    }
+    })
 }
 
 // The line that starts at byte `at`.
@@ -114,14 +93,8 @@ pub fn next_line(text: &[u8], at: usize) -> Line
         };
     }
     if is_arc_start(text, at) {
-        let met = arc_at(text, at);
-        let end = met.end;
-        if at < end {
-            let arc = met.arc;
-            return Line {
-                shape: Shape::Arc(arc),
-                end,
-            };
+        if let Some(line) = arc_at(text, at) {
+            return line;
         }
     }
     whole_line(text, at)

@@ -2,11 +2,12 @@
 -- 35 is at the first line of no shape, at a second `p` line, at an `a` line that no count of arcs covers, or,
 -- at the line count, where the `p` line or arcs are missing. It is judged of the whole text before 36, which
 -- is at the first line whose sizes, ends or weight are outside what a network may hold.
-use mathlib.Core.{Path.◌≡◌, Path.refl, Path.sym, Path.◌∙◌, Path.ap, Logic.◌≢◌, List.List, List.[], List.◌∷◌}
-use Rattle.std.specs.Prelude.{Bool, true, false, cond, not, ◌||◌, ℕ, ◌+◌, ◌-◌, ◌≤◌, ◌<◌, min}
+use mathlib.Core.{Path.◌≡◌, Path.refl, Path.sym, Path.◌∙◌, Path.ap, List.List, List.[], List.◌∷◌}
+use Rattle.std.specs.Prelude.{Option, Some, None, is_some, Result, Ok, Err}
+use Rattle.std.specs.Option.{option_map_or}
+use Rattle.std.specs.Prelude.{Bool, true, false, cond, ◌||◌, ℕ, ◌+◌, ◌-◌, ◌≤◌, ◌<◌, min}
 use Rattle.std.proofs.Common.{arith}
 use lib.{ListN.length, ListN.take, ListN.drop, Dec.eqb, Dec.leb, Dec.ltb}
-use borrow.Author.Tests.{lt-leb, ne_eqb}
 use Rattle.theory_loops.specs.Pick.{cond_holds}
 use Rattle.file_refusals.specs.declared.Refusal.{Refusal}
 use Rattle.file_refusals.specs.Refusal.{refusal}
@@ -17,12 +18,10 @@ use Rattle.dimacs_line.specs.declared.line.Shape.TheVariants.{Remark, Other}
 use Rattle.dimacs_line.specs.declared.line.Shape.TheVariants.{Sizes as SizesLine, Arc as ArcLine}
 use Rattle.dimacs_line.specs.Shape.{shape_of}
 use Rattle.dimacs_reading.specs.declared.reading.Reading.{Reading}
-use Rattle.dimacs_reading.specs.declared.verdict.Judgement.{Judgement}
-use Rattle.dimacs_reading.specs.declared.verdict.Judgement.TheVariants.{Accepted, Refused}
 
 -- before the first line
 abbrev pub begun : Reading
-begun = record { lines = 0; stopped = false; sized = false; nodes = 0; arcs = 0; seen = 0; wrong = 0 }
+begun = record { lines = 0; stopped = false; sizes = None; seen = 0; wrong = None }
 
 -- 36: sizes outside the limits; equal ends, an end that is none of the nodes, or a weight that is no travel
 unfoldable pub outside : Sizes → Bool
@@ -36,47 +35,41 @@ misfit nodes a =
     || (eqb a.head 0 || (ltb nodes a.head || (eqb a.weight 0 || ltb most_period a.weight)))))
 
 -- the first wrong line: the one that was, or this line where it is at fault
-unfoldable pub noted : ℕ → ℕ → Bool → ℕ
-noted wrong line fault = cond (eqb wrong 0) (cond fault line 0) wrong
+unfoldable pub noted : Option ℕ → ℕ → Bool → Option ℕ
+noted None line fault = cond fault (Some line) None
+noted (Some wrong) line fault = Some wrong
 
 -- ONE MORE LINE that changes nothing: a remark, or one that is refused as 35
 abbrev pub passed_by : Reading → Bool → Reading
-passed_by r stopped = record {
-  lines = r.lines + 1;
-  stopped = stopped;
-  sized = r.sized;
-  nodes = r.nodes;
-  arcs = r.arcs;
-  seen = r.seen;
-  wrong = r.wrong;
-}
+passed_by r stopped =
+    record { lines = r.lines + 1; stopped = stopped; sizes = r.sizes; seen = r.seen; wrong = r.wrong }
 
 -- the sizes, once; an arc, if there are to be more; and any line by its shape
 unfoldable pub sized_by : Reading → Sizes → Reading
 sized_by r k =
-    cond r.sized (passed_by r true)
+    cond (is_some r.sizes) (passed_by r true)
     (record {
       lines = r.lines + 1;
       stopped = false;
-      sized = true;
-      nodes = k.nodes;
-      arcs = k.arcs;
+      sizes = Some k;
       seen = 0;
       wrong = noted r.wrong (r.lines + 1) (outside k);
     })
 
-unfoldable pub arc_by : Reading → Arc → Reading
-arc_by r a =
-    cond (leb r.arcs r.seen) (passed_by r true)
+unfoldable pub arc_within : Reading → Arc → Option Sizes → Reading
+arc_within r a None = passed_by r true
+arc_within r a (Some k) =
+    cond (leb k.arcs r.seen) (passed_by r true)
     (record {
       lines = r.lines + 1;
       stopped = false;
-      sized = r.sized;
-      nodes = r.nodes;
-      arcs = r.arcs;
+      sizes = r.sizes;
       seen = r.seen + 1;
-      wrong = noted r.wrong (r.lines + 1) (misfit r.nodes a);
+      wrong = noted r.wrong (r.lines + 1) (misfit k.nodes a);
     })
+
+unfoldable pub arc_by : Reading → Arc → Reading
+arc_by r a = arc_within r a r.sizes
 
 unfoldable pub stepped : Reading → Shape → Reading
 stepped r Remark = passed_by r false
@@ -93,78 +86,27 @@ read_all r (line ∷ lines) = cond r.stopped r (read_all (stepped r (shape_of li
 abbrev pub tellable : ℕ → ℕ
 tellable line = min line 4294967295
 
-unfoldable pub unfinished : Reading → Bool
-unfinished r = r.stopped || (not r.sized || ltb r.seen r.arcs)
+-- the sizes or arcs are missing
+abbrev pub missing : Option Sizes → ℕ → Bool
+missing None seen = true
+missing (Some k) seen = ltb seen k.arcs
 
-unfoldable pub judged : Reading → Judgement
+unfoldable pub unfinished : Reading → Bool
+unfinished r = r.stopped || missing r.sizes r.seen
+
+-- the judgement of a text that is finished: of its values
+abbrev pub valued : Option ℕ → Sizes → Result Sizes Refusal
+valued None k = Ok k
+valued (Some line) k = Err (refusal 36 (tellable line))
+
+unfoldable pub judged : Reading → Result Sizes Refusal
 judged r =
-    cond (unfinished r) (Refused (refusal 35 (tellable r.lines)))
-    (cond (eqb r.wrong 0) (Accepted (record { nodes = r.nodes; arcs = r.arcs }))
-    (Refused (refusal 36 (tellable r.wrong))))
+    let form = Err (refusal 35 (tellable r.lines)) in
+    cond (unfinished r) form (option_map_or (valued r.wrong) r.sizes form)
 
 -- the judgement of a text
-abbrev pub judging : List ℕ → Judgement
+abbrev pub judging : List ℕ → Result Sizes Refusal
 judging text = judged (read_all begun (lines_of text))
-
--- FOR THE CODE: the sizes and an arc that go on, and one more line by its shape
-module _ (r : Reading) (wrong : ℕ) (fault : Bool) (e : wrong ≡ noted r.wrong (r.lines + 1) fault) where
-  pub sized_told : (k : Sizes) → r.sized ≡ false → fault ≡ outside k
-      → record {
-        lines = r.lines + 1;
-        stopped = false;
-        sized = true;
-        nodes = k.nodes;
-        arcs = k.arcs;
-        seen = 0;
-        wrong = wrong;
-      } ≡ sized_by r k
-  unfolding sized_by
-  sized_told k s f = rw (s, e, f)
-
-  pub arc_told : (a : Arc) → r.seen < r.arcs → fault ≡ misfit r.nodes a
-      → record {
-        lines = r.lines + 1;
-        stopped = false;
-        sized = r.sized;
-        nodes = r.nodes;
-        arcs = r.arcs;
-        seen = r.seen + 1;
-        wrong = wrong;
-      } ≡ arc_by r a
-  unfolding arc_by
-  arc_told a s f = rw (lt-leb r.arcs r.seen s, e, f)
-
-module _ (r s : Reading) (shape : Shape) where
-  pub remark_stepped : shape ≡ Remark → s ≡ passed_by r false → s ≡ stepped r shape
-  unfolding stepped
-  remark_stepped e f = rw e f
-
-  pub sizes_stepped : (k : Sizes) → shape ≡ SizesLine k → s ≡ sized_by r k → s ≡ stepped r shape
-  unfolding stepped
-  sizes_stepped k e f = rw e f
-
-  pub arc_stepped : (a : Arc) → shape ≡ ArcLine a → s ≡ arc_by r a → s ≡ stepped r shape
-  unfolding stepped
-  arc_stepped a e f = rw e f
-
-  pub other_stepped : shape ≡ Other → s ≡ passed_by r true → s ≡ stepped r shape
-  unfolding stepped
-  other_stepped e f = rw e f
-
--- for `search steps`
-pub ruleset steps = (remark_stepped, sizes_stepped, arc_stepped, other_stepped)
-
--- 35, and 36
-module _ (r : Reading) (line : ℕ) (q : Refusal) where
-  pub judged_form : (t : Bool) → t ≡ unfinished r → t ≡ true → line ≡ tellable r.lines
-      → q ≡ refusal 35 line → Refused q ≡ judged r
-  unfolding judged
-  judged_form t e f l g = rw (← e, f, ← l, g)
-
-  pub judged_value : (t : Bool) → t ≡ unfinished r → t ≡ false → r.wrong ≢ 0 → line ≡ tellable r.wrong
-      → q ≡ refusal 36 line → Refused q ≡ judged r
-  unfolding judged
-  judged_value t e f n l g = rw (← e, f, ne_eqb r.wrong 0 n, ← l, g)
 
 -- FOR THE LOOP over the lines
 pub read_stopped : (r : Reading) (lines : List (List ℕ)) → r.stopped ≡ true → read_all r lines ≡ r
@@ -182,11 +124,14 @@ unfolding read_all
 read_none r = refl
 
 one_more : (r : Reading) (shape : Shape) → (stepped r shape).lines ≡ r.lines + 1
-unfolding stepped sized_by arc_by
+unfolding stepped sized_by arc_by arc_within
 one_more r Remark = refl
-one_more r (SizesLine k) = cond_holds (λ (x : Reading). x.lines ≡ r.lines + 1) r.sized _ _ refl refl
-one_more r (ArcLine a) =
-    cond_holds (λ (x : Reading). x.lines ≡ r.lines + 1) (leb r.arcs r.seen) _ _ refl refl
+one_more r (SizesLine k) = cond_holds (λ (x : Reading). x.lines ≡ r.lines + 1) (is_some r.sizes) _ _ refl refl
+one_more r (ArcLine a) = by r.sizes
+  where
+    by : (o : Option Sizes) → (arc_within r a o).lines ≡ r.lines + 1
+    by None = refl
+    by (Some k) = cond_holds (λ (x : Reading). x.lines ≡ r.lines + 1) (leb k.arcs r.seen) _ _ refl refl
 one_more r Other = refl
 
 -- none of the lines before byte `at` is refused as 35, and they come to r

@@ -13,18 +13,15 @@ const ARCS: u32 = MOST_ARCS as u32;
 
 const PERIOD: u32 = MOST_PERIOD as u32;
 
-// How many lines have been read, and whether the last of them is refused as 35; whether the sizes have been
-// read, and which they are; how many arcs; and the number of the first line that is to be refused as 36, or
-// 0.
+// How many lines have been read, and whether the last of them is refused as 35; the sizes, once they have
+// been read; how many arcs; and the number of the first line that is to be refused as 36.
 #[derive(Clone, Copy)]
 pub struct Reading {
     pub lines: usize,
     pub stopped: bool,
-    pub sized: bool,
-    pub nodes: u32,
-    pub arcs: u32,
+    pub sizes: Option<Sizes>,
     pub seen: u32,
-    pub wrong: usize,
+    pub wrong: Option<usize>,
 }
 
 // Before the first line.
@@ -34,42 +31,40 @@ pub fn begun() -> Reading
     Reading {
         lines: 0,
         stopped: false,
-        sized: false,
-        nodes: 0,
-        arcs: 0,
+        sizes: None,
         seen: 0,
-        wrong: 0,
+        wrong: None,
     }
 }
 
 // Are the sizes outside the limits?
+#[tactic(auto, unfolding(crate::specs::Reading::outside))]
 fn is_outside(k: Sizes) -> bool
     ensures { result ≡ outside k }
 {
-    k.nodes == 0 || (NODES < k.nodes || ARCS < k.arcs)
+    k.nodes == 0 || NODES < k.nodes || ARCS < k.arcs
 }
 
 // Has the arc equal ends, an end that is none of the nodes, or a weight that is no travel?
+#[tactic(auto, unfolding(crate::specs::Reading::misfit))]
 fn is_misfit(nodes: u32, a: Arc) -> bool
     ensures { result ≡ misfit nodes a }
 {
     a.tail == a.head
-        || (a.tail == 0
-            || (nodes < a.tail
-                || (a.head == 0 || (nodes < a.head || (a.weight == 0 || PERIOD < a.weight)))))
+        || a.tail == 0
+        || nodes < a.tail
+        || a.head == 0
+        || nodes < a.head
+        || a.weight == 0
+        || PERIOD < a.weight
 }
 
 // The first line that is wrong: the one that was, or this line.
-fn note(wrong: usize, line: usize, fault: bool) -> usize
+#[tactic(auto, unfolding(crate::specs::Reading::noted))]
+fn note(wrong: Option<usize>, line: usize, fault: bool) -> Option<usize>
     ensures { result ≡ noted wrong line fault }
 {
-    if wrong != 0 {
-        return wrong;
-    }
-    if fault {
-        return line;
-    }
-    0
+    wrong.or(fault.then_some(line))
 }
 
 // A line that changes nothing: a remark, or one that stops the reading.
@@ -80,55 +75,53 @@ fn after_line(r: Reading, stopped: bool) -> Reading
     Reading {
         lines: r.lines + 1,
         stopped,
-        sized: r.sized,
-        nodes: r.nodes,
-        arcs: r.arcs,
-        seen: r.seen,
-        wrong: r.wrong,
+        ..r
     }
 }
 
 // The sizes: they come once.
+#[tactic(auto, unfolding(crate::specs::Reading::sized_by))]
 fn after_sizes(r: Reading, k: Sizes) -> Reading
     requires { r.lines + 1 < 2 ^ 64 }
     ensures { result ≡ sized_by r k }
 {
-    if r.sized {
+    if r.sizes.is_some() {
         return after_line(r, true);
     }
     let line = r.lines + 1;
     Reading {
         lines: line,
         stopped: false,
-        sized: true,
-        nodes: k.nodes,
-        arcs: k.arcs,
+        sizes: Some(k),
         seen: 0,
         wrong: note(r.wrong, line, is_outside(k)),
     }
 }
 
-// An arc: there are as many as the sizes say.
+// An arc: there are as many as the sizes say, and none before them.
+#[tactic(auto, unfolding(crate::specs::Reading::arc_by, crate::specs::Reading::arc_within))]
 fn after_arc(r: Reading, a: Arc) -> Reading
     requires { r.lines + 1 < 2 ^ 64 }
     ensures { result ≡ arc_by r a }
 {
-    if r.arcs <= r.seen {
+    let Some(sizes) = r.sizes else {
+        return after_line(r, true);
+    };
+    if sizes.arcs <= r.seen {
         return after_line(r, true);
     }
     let line = r.lines + 1;
     Reading {
         lines: line,
         stopped: false,
-        sized: r.sized,
-        nodes: r.nodes,
-        arcs: r.arcs,
         seen: r.seen + 1,
-        wrong: note(r.wrong, line, is_misfit(r.nodes, a)),
+        wrong: note(r.wrong, line, is_misfit(sizes.nodes, a)),
+        ..r
     }
 }
 
 // One more line.
+#[tactic(auto, unfolding(crate::specs::Reading::stepped))]
 pub fn step(r: Reading, shape: Shape) -> Reading
     requires { r.lines + 1 < 2 ^ 64 }
     ensures { result ≡ stepped r shape }

@@ -2,50 +2,33 @@
 // wrong, 36 where a size, an end or a weight is.
 ghost use Rattle.std.specs.Prelude.{◌≡◌};
 ghost use Rattle.dimacs_reading.specs.Reading as readings;
-ghost use Rattle.dimacs_reading.specs.Reading.{tellable, unfinished};
+ghost use Rattle.dimacs_reading.specs.Reading.{tellable};
 
 use crate::reading::Reading;
 use dimacs_line::line::Sizes;
-use file_refusals::{Refusal, number, refuse};
+use file_refusals::reason::Reason;
+use file_refusals::{Refusal, refuse};
 
-#[derive(Clone, Copy)]
-pub enum Judgement {
-    Accepted(Sizes),
-    Refused(Refusal),
-}
-
-// The greatest number of a line that can be told.
-const MOST_TOLD: usize = 4294967295;
-
-// The number of a line, as it is told.
+// The number of a line, as it is told: at most the greatest of 32 bits.
 fn told(line: usize) -> u32
     ensures { result ≡ tellable line }
 {
-    if line < MOST_TOLD {
-        return line as u32;
-    }
-    MOST_TOLD as u32
+    u32::try_from(line).unwrap_or(u32::MAX)
 }
 
-// Was the last line refused, or are the sizes or arcs missing?
-fn is_unfinished(r: Reading) -> bool
-    ensures { result ≡ unfinished r }
-{
-    r.stopped || (!r.sized || r.seen < r.arcs)
-}
-
-// The judgement of the lines that have been read.
-pub fn judged(r: Reading) -> Judgement
+// The judgement of the lines that have been read: 35 where the last was refused, or the sizes or arcs are
+// missing, and 36 where a line is wrong.
+#[tactic(auto, unfolding(crate::specs::Reading::judged, crate::specs::Reading::unfinished))]
+pub fn judged(r: Reading) -> Result<Sizes, Refusal>
     ensures { result ≡ readings.judged r }
 {
-    if is_unfinished(r) {
-        return Judgement::Refused(refuse(number::TEXT_FORM, told(r.lines)));
+    let unfinished = refuse(Reason::TextForm, told(r.lines));
+    let sizes = r.sizes.ok_or(unfinished)?;
+    if r.stopped || r.seen < sizes.arcs {
+        return Err(unfinished);
     }
-    if r.wrong != 0 {
-        return Judgement::Refused(refuse(number::TEXT_VALUE, told(r.wrong)));
+    match r.wrong {
+        Some(line) => Err(refuse(Reason::TextValue, told(line))),
+        None => Ok(sizes),
     }
-    Judgement::Accepted(Sizes {
-        nodes: r.nodes,
-        arcs: r.arcs,
-    })
 }

@@ -1,4 +1,5 @@
 // dimacs_text: the text of a DIMACS road file, judged in one reading, with its arcs noted in tables.
+//   roads    tables of arcs
 //   noting   its arcs, in tables
 //   judge    the whole text
 // It may call `dimacs_line` for the next line and its shape and `dimacs_reading` for what the lines come to;
@@ -7,3 +8,4 @@
 
 pub mod judge;
 pub mod noting;
+pub mod roads;

@@ -1,102 +1,85 @@
-// Answers as lines of standard output. Where the system takes no more of a text, the program goes on without.
+// Answers as texts: how each is displayed.
 use file_refusals::Refusal;
-use file_refusals::writing::Writing;
-use network::answer::Opening;
-use network::limits::MOST_ROADS;
-use plan_check::answer::Checking;
-use search_path::answer::Answer;
-
-pub fn say(rt: &impl Print, text: &str) {
-    let _ = rt.print(text);
-}
-
-pub fn end_line(rt: &impl Print) {
-    say(rt, "\n");
-}
-
-pub fn print_number(rt: &impl Print, n: u32) {
-    let _ = rt.print(n);
-}
+use network::header::Header;
+use search_path::answer::Arrival;
+use std::fmt;
 
 // A refusal and its three places.
-fn print_refusal(rt: &impl Print, r: Refusal) {
-    say(rt, "refused ");
-    print_number(rt, r.number);
-    say(rt, " at ");
-    print_number(rt, r.first);
-    say(rt, ", ");
-    print_number(rt, r.second);
-    say(rt, ", ");
-    print_number(rt, r.third);
-    end_line(rt);
-}
+#[derive(Drop)]
+struct Refused(Refusal);
 
-pub fn print_writing(rt: &impl Print, answer: Writing) {
-    match answer {
-        Writing::Written(l) => {
-            say(rt, "packed, ");
-            print_number(rt, l.bytes);
-            say(rt, " bytes");
-            end_line(rt);
-        }
-        Writing::Refused(r) => print_refusal(rt, r),
+impl fmt::Display for Refused {
+    fn fmt<W: fmt::Write>(&self, f: &mut fmt::Formatter<W>) -> fmt::Result {
+        let r = self.0;
+        write!(
+            f,
+            "refused {} at {}, {}, {}",
+            r.number, r.first, r.second, r.third
+        )
     }
 }
 
-pub fn print_opening(rt: &impl Print, answer: Opening) {
-    match answer {
-        Opening::Opened(h) => {
-            say(rt, "opened, number ");
-            print_number(rt, h.number);
-            end_line(rt);
+// What packing a network answers.
+#[derive(Drop)]
+pub struct Packed(pub Result<u32, Refusal>);
+
+impl fmt::Display for Packed {
+    fn fmt<W: fmt::Write>(&self, f: &mut fmt::Formatter<W>) -> fmt::Result {
+        match self.0 {
+            Ok(long) => write!(f, "packed, {long} bytes"),
+            Err(r) => write!(f, "{}", Refused(r)),
         }
-        Opening::Refused(r) => print_refusal(rt, r),
+    }
+}
+
+// What opening a network answers.
+#[derive(Drop)]
+pub struct Opened(pub Result<Header, Refusal>);
+
+impl fmt::Display for Opened {
+    fn fmt<W: fmt::Write>(&self, f: &mut fmt::Formatter<W>) -> fmt::Result {
+        match self.0 {
+            Ok(h) => write!(f, "opened, number {}", h.number),
+            Err(r) => write!(f, "{}", Refused(r)),
+        }
+    }
+}
+
+// What the check of a plan answers.
+#[derive(Drop)]
+pub struct Checked(pub Result<(), Refusal>);
+
+impl fmt::Display for Checked {
+    fn fmt<W: fmt::Write>(&self, f: &mut fmt::Formatter<W>) -> fmt::Result {
+        match self.0 {
+            Ok(()) => write!(f, "accepted"),
+            Err(r) => write!(f, "{}", Refused(r)),
+        }
     }
 }
 
-pub fn print_checking(rt: &impl Print, answer: Checking) {
-    match answer {
-        Checking::Accepted => say(rt, "accepted\n"),
-        Checking::Refused(r) => print_refusal(rt, r),
-    }
+// A trip: from, to, leave; arrive and the roads of the list that it counts, or the refusal.
+#[derive(Drop)]
+pub struct Trip<'a> {
+    pub from: u32,
+    pub to: u32,
+    pub leave: u32,
+    pub answer: Result<Arrival, Refusal>,
+    pub roads: &'a [u16],
 }
 
-fn wide(road: u16) -> u32 {
-    road as u32
-}
-
-// The first roads of a list, as many as counted and as it has.
-fn print_roads(rt: &impl Print, roads: &[u16; MOST_ROADS], count: usize) {
-    for i in 0..MOST_ROADS {
-        if i < count {
-            say(rt, " ");
-            print_number(rt, wide(roads[i]));
+impl fmt::Display for Trip<'_> {
+    fn fmt<W: fmt::Write>(&self, f: &mut fmt::Formatter<W>) -> fmt::Result {
+        write!(f, "{} {} {}: ", self.from, self.to, self.leave)?;
+        match self.answer {
+            Ok(a) => {
+                write!(f, "{} by", a.tick)?;
+                for road in self.roads.iter().take(a.count) {
+                    write!(f, " {road}")?;
+                }
+                Ok(())
+            }
+            Err(r) => write!(f, "{}", Refused(r)),
         }
-    }
-    end_line(rt);
-}
-
-// From, to, leave; arrive, road count and roads, or the refusal.
-pub fn print_trip(
-    rt: &impl Print,
-    from: u32,
-    to: u32,
-    departure: u32,
-    answer: Answer,
-    roads: &[u16; MOST_ROADS],
-) {
-    print_number(rt, from);
-    say(rt, " ");
-    print_number(rt, to);
-    say(rt, " ");
-    print_number(rt, departure);
-    say(rt, ": ");
-    match answer {
-        Answer::Arrived(a) => {
-            print_number(rt, a.tick);
-            say(rt, " by");
-            print_roads(rt, roads, a.count);
-        }
-        Answer::Refused(r) => print_refusal(rt, r),
     }
 }

@@ -1,5 +1,5 @@
 // The town's files: the network, packed from its tables, and plans, read from files.
-use file_refusals::writing::Writing;
+use file_refusals::Refusal;
 use network_pack::pack::pack_network;
 use std::fs;
 use std::io::Read;
@@ -9,7 +9,7 @@ use std::rt::Files;
 pub const LONG: usize = 2048;
 
 // Writes the network, with this travel at road 1's second point.
-pub fn pack(travel: u16, out: &mut [u8; LONG]) -> Writing {
+pub fn pack(travel: u16, out: &mut [u8; LONG]) -> Result<u32, Refusal> {
     let cells = [0u16, 0, 1, 1];
     let opens = [0u16; 4];
     let closes = [10u16; 4];

@@ -2,12 +2,13 @@
 -- computes it for all rows, by the quick forms of validation, and a law turns the test into the rule.
 use Rattle.std.proofs.Math.Logic.Or
 use mathlib.Core.{Path.◌≡◌, Path.refl, Path.sym, Path.◌∙◌}
-use Rattle.std.specs.Prelude.{Bool, true, false, cond, ◌&&◌, ℕ}
+use Rattle.std.specs.Prelude.{Option, Some, None, Bool, true, false, cond, ◌&&◌, ℕ, Result, Ok, Err, ⊤}
 use Rattle.std.proofs.Math.Bool.{and-eq-true_iff, So-prop}
 use Rattle.std.proofs.Common.{true≢false, eqb-true}
 use mathlib.Core.List.{List, [], ◌∷◌, ◌++◌, Mem, not-mem-nil, eq-or-mem_of_mem-cons}
 use lib.{ListN.length, ListN.take, Dec.eqb, Dec.ltb}
-use Rattle.theory_loops.specs.{First.first, Pick.first_rung, Triple.first_triple_rung, Select.select, Fill.tab}
+use Rattle.theory_loops.specs.{First.first, Pick.first_rung, Triple.first_triple_rung}
+use Rattle.theory_loops.specs.{Select.select, Fill.tab}
 use Rattle.theory_loops.specs.Total.{total}
 use Rattle.theory_paths.specs.{Graph.all, Graph.ends, Labels.relaxed, Labels.rounds, Labels.labels, Hops.hops}
 use Rattle.theory_paths.specs.Chosen.{lowest, back, traced, chosen}
@@ -15,10 +16,9 @@ use Rattle.theory_travel.specs.{Line.line, Points.segment, Points.value, Day.clo
 use Rattle.theory_travel.specs.{Table.entry_at, Ticks.bad_tick}
 use Rattle.file_blocks.specs.Place.{offset}
 use Rattle.file_forms.specs.Form.{bad_length}
-use Rattle.network.specs.declared.answer.Opening.{Opening}
-use Rattle.network.specs.declared.answer.Opening.TheVariants as opening
 use Rattle.network.specs.declared.header.Header.{Header}
-use Rattle.network.specs.{Limits.most_nodes, Limits.most_roads, Limits.made, Answer.opening_says, Decode.decode}
+use Rattle.network.specs.{Limits.most_nodes, Limits.most_roads, Limits.made}
+use Rattle.network.specs.{Answer.opening_says, Decode.decode}
 use Rattle.network.specs.{Network.Network, Network.start, Validate.validated}
 use Rattle.network.specs.Rules.{
   judged,
@@ -36,21 +36,16 @@ use Rattle.network.specs.Rules.{
 use Rattle.network.specs.Node.{node_kind, node_size, node_per, node_blocks}
 use Rattle.network.specs.Town.{graph_of, partition_of, travel_at}
 use Rattle.network_open.specs.Open.{opened_in, too_short, too_short_by}
-use Rattle.plan.specs.declared.answer.Planning.{Planning}
 use Rattle.plan.specs.{Border.borders, Border.is_border, Plan.point_start, Plan.profile_value}
 use Rattle.plan.specs.{PlanDecode.decode_plan, PlanValidate.matching, PlanValidate.planned}
 use Rattle.plan.specs.PlanRules as rules
 use Rattle.plan_tests.specs.Tests.{fails, fails22, given}
-use Rattle.plan_check.specs.declared.answer.Checking.{Checking}
-use Rattle.plan_check.specs.declared.answer.Checking.TheVariants as checking
 use Rattle.plan_check.specs.{Answer.checking_says, Check.checked, Check.triple_rung, CheckPlan.checked_by}
-use Rattle.search_path.specs.declared.answer.Answer.{Answer}
 use Rattle.trip_call.specs.Trip.{asked, and_then, trip_answer}
 use Rattle.search_path.specs.Answer.{searched}
 use Rattle.trip.specs.{Flagged.planned_then, Flagged.flagged_arcs, Calls.plain_path, Calls.flagged_path}
 use Rattle.text_numbers.specs.{Text.ascii, Number.decimal, Number.digits_of}
-use Rattle.sheet_line.specs.declared.line.Line.{Line}
-use Rattle.sheet_line.specs.declared.line.Line.TheVariants.{Asks, Other}
+use Rattle.sheet_line.specs.declared.line.Asking.{Asking}
 use Rattle.text_spaced.specs.Fold.{folded}
 use Rattle.text_spaced.specs.Scanning.{scanned, space_scanned, digit_scanned, whole}
 use Rattle.sheet_line.specs.Line.{ended}
@@ -67,6 +62,9 @@ use Rattle.example_theorem.specs.Validation.{
   validated_quick,
   planned_quick,
 }
+use Rattle.file_refusals.specs.declared.Refusal.{Refusal}
+use Rattle.plan.specs.declared.header.PlanHeader.{PlanHeader}
+use Rattle.search_path.specs.declared.answer.Arrival.{Arrival}
 use Rattle.example_theorem.specs.Rows.{
   Question,
   blocks,
@@ -87,33 +85,33 @@ use Rattle.example_theorem.specs.Rows.{
 }
 
 -- THE ANSWERS with the validation of networks and of plans as arguments
-module _ (opened : List ℕ → Opening) (planning : Header → Network → List ℕ → Planning) where
-  abbrev plain_by : List ℕ → ℕ → ℕ → ℕ → Answer
+module _ (opened : List ℕ → Result Header Refusal) (planning : Header → Network → List ℕ → Result PlanHeader Refusal) where
+  abbrev plain_by : List ℕ → ℕ → ℕ → ℕ → Result Arrival Refusal
   plain_by network from to departure =
       trip_answer (and_then (opened network) (λ h. asked h from to departure most_nodes))
       (searched (graph_of (decode network)) all from to departure most_roads)
 
-  abbrev flagged_by : List ℕ → List ℕ → ℕ → ℕ → ℕ → Answer
+  abbrev flagged_by : List ℕ → List ℕ → ℕ → ℕ → ℕ → Result Arrival Refusal
   flagged_by network file from to departure =
       trip_answer
       (and_then (opened network)
       (λ h. planned_then (planning h (decode network) file) (asked h from to departure most_nodes)))
       (searched (graph_of (decode network)) (flagged_arcs network file to) from to departure most_roads)
 
-  abbrev checked_over : List ℕ → List ℕ → Opening → Checking
-  checked_over network file (opening.Refused r) = checking.Refused r
-  checked_over network file (opening.Opened h) =
+  abbrev checked_over : List ℕ → List ℕ → Result Header Refusal → Result ⊤ Refusal
+  checked_over network file (Err r) = Err r
+  checked_over network file (Ok h) =
       checked_by (partition_of (decode network)) (decode_plan file) (planning h (decode network) file)
 
-  abbrev check_by : List ℕ → List ℕ → Checking
+  abbrev check_by : List ℕ → List ℕ → Result ⊤ Refusal
   check_by network file = checked_over network file (opened network)
 
   -- the run sheet, of files that are not too large
-  abbrev line_by : List ℕ → List ℕ → Line → List ℕ
-  line_by network file (Asks a) =
+  abbrev line_by : List ℕ → List ℕ → Option Asking → List ℕ
+  line_by network file (Some a) =
       asking_text a ++ answer_text (flagged_by network file a.from a.to a.leave)
       (path_for network file a)
-  line_by network file Other = ascii "refused 32\n"
+  line_by network file None = ascii "refused 32\n"
 
   abbrev sheet_by : List ℕ → List ℕ → List ℕ → List ℕ
   sheet_by network file input =
@@ -136,11 +134,11 @@ module _ (opened : List ℕ → Opening) (planning : Header → Network → List
       trip_told (flagged_by network file from to departure) (flagged_path network file from to departure)
   answer_by (prints network file input) = sheet_by network file input
 
-line_by_lem : (network file : List ℕ) (line : Line)
+line_by_lem : (network file : List ℕ) (line : Option Asking)
     → line_text network file line ≡ line_by validated planned network file line
 unfolding line_text trip_text trip_of
-line_by_lem network file (Asks a) = refl
-line_by_lem network file Other = refl
+line_by_lem network file (Some a) = refl
+line_by_lem network file None = refl
 
 answer_by_lem : (q : Question) → answer_to q ≡ answer_by validated planned q
 unfolding sheet_text head_text reads
@@ -154,13 +152,15 @@ answer_by_lem (checks network file) = refl
 answer_by_lem (flagged network file from to departure) = refl
 answer_by_lem (prints network file input) = λ i.
     head_text network file
-    ++ cond (reads network file) (texts_of (λ line. line_by_lem network file line i) (take 64 (lines_of input))) []
+    ++ cond (reads network file)
+    (texts_of (λ line. line_by_lem network file line i) (take 64 (lines_of input))) []
 
 abbrev quick_answer : Question → List ℕ
 quick_answer q = answer_by quick_validated quick_planned q
 
 answer_quick : (q : Question) → answer_to q ≡ quick_answer q
-answer_quick q = answer_by_lem q ∙ (λ i. answer_by (λ f. validated_quick f i) (λ h n f. planned_quick h n f i) q)
+answer_quick q =
+    answer_by_lem q ∙ (λ i. answer_by (λ f. validated_quick f i) (λ h n f. planned_quick h n f i) q)
 
 -- THE TEST: two lists have the same numbers; a row's answer is the answer to its question; and all rows' are
 same : List ℕ → List ℕ → Bool

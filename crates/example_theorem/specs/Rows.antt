@@ -1,7 +1,7 @@
 -- The rows of document 01's section on Quay town, and of its run sheet: a question each, about files given by
 -- their bytes, and its answer. What is told of a question is stated by the definitions that the contracts of
 -- the operations cite, and what an answer says by the one definition for each enum of answers.
-use Rattle.std.specs.Prelude.{List, [], ◌∷◌, ◌++◌, ℕ, ◌/◌, ◌%◌, length, take, replicate}
+use Rattle.std.specs.Prelude.{List, [], ◌∷◌, ◌++◌, ℕ, ◌/◌, ◌%◌, length, take, replicate, Result}
 use Rattle.theory_paths.specs.Graph.{driven}
 use Rattle.file_refusals.specs.Says as says
 use Rattle.file_fields.specs.Block.{block_size}
@@ -10,11 +10,12 @@ use Rattle.network.specs.Town.{travel_at, graph_of, partition_of}
 use Rattle.network_open.specs.Open.{opening}
 use Rattle.plan.specs.Border.{borders}
 use Rattle.plan_check.specs.{Answer.checking_says, CheckPlan.checking}
-use Rattle.search_path.specs.declared.answer.Answer.{Answer}
 use Rattle.search_path.specs.Says.{trip_says, trip_count}
 use Rattle.trip.specs.Calls.{plain_call, plain_path, flagged_call, flagged_path}
 use Rattle.text_numbers.specs.Text.{ascii}
 use Rattle.sheet.specs.Sheet.{sheet_text}
+use Rattle.file_refusals.specs.declared.Refusal.{Refusal}
+use Rattle.search_path.specs.declared.answer.Arrival.{Arrival}
 use Rattle.example_theorem.specs.Files.{network_file, plan_file, point}
 
 -- how many bytes a file has beyond whole blocks, and how many blocks; the borders of a network; the travel of
@@ -36,7 +37,7 @@ pub data Question : Type 0 where
 abbrev pub numbers_told : says.Says → List ℕ
 numbers_told s = s.number ∷ says.numbers_of s
 
-abbrev pub trip_told : Answer → List ℕ → List ℕ
+abbrev pub trip_told : Result Arrival Refusal → List ℕ → List ℕ
 trip_told a path = numbers_told (trip_says a) ++ take (trip_count a) path
 
 -- the tables that are lent to Open have room for 4 nodes, 4 arcs and 5 points

@@ -4,7 +4,8 @@
 use mathlib.Core.{Path.◌≡◌, Path.◌∙◌, Path.ap, List.List}
 use Rattle.std.specs.Prelude.{ℕ, ◌+◌, ◌-◌, ◌*◌, ◌/◌, ◌%◌, ◌^◌, ◌≤◌, ◌<◌, min, length}
 use Rattle.std.proofs.Common.{mod-lt, le-div_iff_mul-le, div-mul-le_self, mod-eq_of_lt, mul_comm}
-use Rattle.std.proofs.Math.Nat.{mul-le-mul_left, div-add-mod, mul-add-div, mul-add-mod_self_left, div-eq_of_lt, min-le_left}
+use Rattle.std.proofs.Math.Nat.{mul-le-mul_left, div-add-mod, mul-add-div, mul-add-mod_self_left}
+use Rattle.std.proofs.Math.Nat.{div-eq_of_lt, min-le_left}
 use native.Mathlib.Omega.{arith}
 use Rattle.file_fields.specs.Block.{block_size, summed_size, head_size, entries_size}
 

@@ -45,8 +45,8 @@ module _ (from per size i : ℕ) (pos : 0 < per) (fit : size * per ≤ entries_s
           let z : i % per + 1 ≡ per = omega (arith, mod-lt i pos) in
           let q : i + 1 ≡ per * (i / per + 1) + 0 = omega (arith, is) in
           let w : size * (i % per + 1) ≡ size * per = ap (λ (n : ℕ). size * n) z in
-          let a : block_size * (from + i / per) + head_size + size * (i % per) + size + (block_size - size * per)
-          ≡ block_size * (from + (i / per + 1)) + head_size + size * 0 = omega (arith, w) in
+          let a : block_size * (from + i / per) + head_size + size * (i % per) + size
+          + (block_size - size * per) ≡ block_size * (from + (i / per + 1)) + head_size + size * 0 = omega (arith, w) in
           let b : per - 0 ≡ per = omega arith in
           rw (q, index_block per pos (i / per + 1) 0 pos, index_entry per pos (i / per + 1) 0 pos)
           (rw (a, b))

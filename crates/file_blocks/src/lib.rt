@@ -1,6 +1,6 @@
 // file_blocks: files of 512-byte blocks, whatever their entries mean: where the entries stand.
-//   kind    the table of kinds
-//   place   where the entries of a kind stand, and a table filled from them
+//   kind    the table of kinds, and what entries of a kind take
+//   place   runs of entries in a file: where they stand, and a table filled from them
 //   pairs   two tables filled at once, from entries of two fields
 //   walk    a walk over entries in their order
 // It may call `file_fields` for fields, and cites `theory_loops`.

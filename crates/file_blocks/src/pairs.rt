@@ -6,7 +6,8 @@ ghost use Rattle.file_blocks.specs.Place.{RunInFile};
 ghost use Rattle.file_blocks.specs.Table.{entry16, part16};
 ghost use Rattle.file_blocks.specs.Pairs.{pair_size, PairAt};
 
-use crate::place::{blocks, entries_in};
+use crate::place::Run;
+use file_fields::fields::le32;
 use file_fields::{BLOCK, HEAD};
 
 // The bytes of an entry, and the numbers of a field.
@@ -14,24 +15,13 @@ const PAIR: usize = 4;
 
 const FIELD: u32 = 65536;
 
-// A byte as a wider number: what the read below needs of a cast.
-fn byte(b: u8) -> u32
-    ensures { (result ≡ b) × (result < 256) }
-{
-    b as u32
-}
-
-// The entry at byte o as one number: its first field below its second. It is made of the four bytes, and not
-// of the two fields, so that the compiler reads it at once before it sees that the fields are wanted apart.
+// The entry at byte o as one number: its first field below its second. It is read as one, and not as the two
+// fields, so that the compiler reads its four bytes at once before it sees that the fields are wanted apart.
 fn pair_at(file: &[u8], o: usize) -> u32
     requires { o + pair_size ≤ length file.now }
     ensures { PairAt file.now o result }
 {
-    let p = o + 2;
-    byte(file[o])
-        + 256 * byte(file[o + 1])
-        + FIELD * byte(file[p])
-        + 256 * FIELD * byte(file[p + 1])
+    le32(file, o)
 }
 
 // The m entries of `lows` and of `highs` from `first` on become the first and the second fields of the m
@@ -58,24 +48,18 @@ fn decode_part_pairs(
     }
 }
 
-// The first n entries of `lows` and of `highs` become the first and the second fields of a kind's entries.
-pub fn decode_pairs(
-    file: &[u8],
-    from: usize,
-    per: usize,
-    n: usize,
-    lows: &mut [u16],
-    highs: &mut [u16],
-)
-    requires run_in_file { RunInFile from per pair_size n file.now }
-    requires n_in_bounds { (n ≤ length lows.old) × (n ≤ length highs.old) }
-    ensures { Filled 0 n (entry16 file.now from per pair_size 0) lows.old
+// The first entries of `lows` and of `highs` become the first and the second fields of a run's entries.
+pub fn decode_pairs(file: &[u8], run: Run, lows: &mut [u16], highs: &mut [u16])
+    requires run_in_file { RunInFile run.from run.kind.per pair_size run.count file.now }
+    requires n_in_bounds { (run.count ≤ length lows.old) × (run.count ≤ length highs.old) }
+    ensures { Filled 0 run.count (entry16 file.now run.from run.kind.per pair_size 0) lows.old
         lows.new
-        × Filled 0 n (entry16 file.now from per pair_size 2) highs.old
+        × Filled 0 run.count (entry16 file.now run.from run.kind.per pair_size 2) highs.old
         highs.new }
 {
-    for j in 0..blocks(per, n) {
-        let m = entries_in(per, n, j);
-        decode_part_pairs(file, BLOCK * (from + j) + HEAD, m, lows, highs, per * j);
+    for j in 0..run.blocks() {
+        let m = run.entries_in(j);
+        let base = BLOCK * (run.from + j) + HEAD;
+        decode_part_pairs(file, base, m, lows, highs, run.kind.per * j);
     }
 }

@@ -5,7 +5,7 @@ ghost use Rattle.file_fields.specs.Block.{block_size, entries_size};
 ghost use Rattle.file_fields.specs.Fields;
 ghost use Rattle.file_blocks.specs.Walk.{walk_at, stepped};
 
-use crate::place::offset;
+use crate::kind::Kind;
 use file_fields::BLOCK;
 use file_fields::fields::{le16, le32};
 
@@ -17,31 +17,31 @@ pub struct Walk {
 }
 
 impl Walk {
-    // Before entry i of a run.
-    pub fn new(from: usize, per: usize, size: usize, i: usize) -> Walk
-        requires { (0 < per) × (size * per ≤ entries_size) × (from + i / per < 2 ^ 54) }
-        ensures { result ≡ walk_at from per size i }
+    // Before entry i of a run from block `from` on.
+    pub fn new(from: usize, kind: Kind, i: usize) -> Walk
+        requires { (0 < kind.per) × (kind.size * kind.per ≤ entries_size) × (from + i / kind.per < 2 ^ 54) }
+        ensures { result ≡ walk_at from kind.per kind.size i }
     {
         Walk {
-            at: offset(from, per, size, i),
-            left: per - i % per,
+            at: kind.offset(from, i),
+            left: kind.per - i % kind.per,
         }
     }
 
-    // Before the next entry, in a run of `per` entries a block, of `size` bytes each.
-    pub fn next(self, per: usize, size: usize) -> Walk
-        requires { (0 < per) × (size * per ≤ entries_size) × (self.at + block_size < 2 ^ 64) }
-        ensures { result ≡ stepped per size self }
+    // Before the next entry. The kind comes with each call, so that its numbers are constant there.
+    pub fn next(self, kind: Kind) -> Walk
+        requires { (0 < kind.per) × (kind.size * kind.per ≤ entries_size) × (self.at + block_size < 2 ^ 64) }
+        ensures { result ≡ stepped kind.per kind.size self }
     {
         if 1 < self.left {
             return Walk {
-                at: self.at + size,
+                at: self.at + kind.size,
                 left: self.left - 1,
             };
         }
         Walk {
-            at: self.at + size + (BLOCK - size * per),
-            left: per,
+            at: self.at + kind.size + (BLOCK - kind.size * kind.per),
+            left: kind.per,
         }
     }
 
@@ -50,7 +50,7 @@ impl Walk {
         requires { self.at + at + 2 ≤ length file.now }
         ensures { (result ≡ Fields.le16 file.now (self.at + at)) × (result < 65536) }
     {
-        le16(file, self.at + at) as usize
+        usize::from(le16(file, self.at + at))
     }
 
     // The 32 bits there.

@@ -1,10 +1,15 @@
 -- Fields written low byte first: what a write leaves, that it is read back, and a run of fields written one
 -- after the other. Stated once, over the width.
-use mathlib.Core.{Path.◌≡◌, Path.refl, Path.ap, Path.◌∙◌, List.List}
+use mathlib.Core.{Path.◌≡◌, Path.refl, Path.ap, Path.sym, Path.◌∙◌, List.List}
 use Rattle.std.specs.Prelude.{ℕ, zero, suc, ◌+◌, ◌-◌, ◌*◌, ◌/◌, ◌%◌, ◌^◌, ◌≤◌, ◌<◌}
 use native.Mathlib.{Nat.add-zero, Nat.mul_assoc, Nat.pow-succ', Omega.arith}
-use lib.{ListN.length, ListN.set, Seq.sets}
-use Rattle.theory_loops.specs.Fill.{Filled, tab, fill_none, fill_up, fill_end}
+use lib.{ListN.length, ListN.set, ListN.drop, Seq.sets}
+use Rattle.std.specs.Int.{w16, w32, w64, to_le_bytes}
+use Rattle.std.proofs.lemmas.List.Edits.{sets-eq}
+use borrow.Rule.Slice.PartMut.{put_mid}
+use Rattle.std.proofs.Common.{append_assoc}
+use Rattle.std.proofs.lemmas.List.{drop-drop}
+use Rattle.theory_loops.specs.Fill.{Filled, tab, length_tab, fill_none, fill_up, fill_end}
 use Rattle.file_fields.specs.Fields.{byte_of}
 
 -- the list with the w bytes of v at byte o and after
@@ -48,16 +53,7 @@ put_filled w s o v h =
     let q : k ≡ o + k - o = omega arith in
     ap (byte_of v) q)
 
--- FOR THE CODE, which stores a byte, or a field of two bytes, after the other
-pub put_one : (s : List ℕ) (o v : ℕ) → v < 256 → set s o v ≡ put 1 s o v
-unfolding put
-put_one s o v l = let q : v % 256 ≡ v = omega arith in rw q
-
-pub put_two : (s : List ℕ) (o v : ℕ) → v < 65536 → set (set s o (v % 256)) (o + 1) (v / 256) ≡ put 2 s o v
-unfolding put
-put_two s o v l = let q : v / 256 % 256 ≡ v / 256 = omega arith in rw q
-
--- of two fields, one behind the other, the low one of w bytes
+-- two fields, one behind the other, the low one of w bytes, are one
 pub put_join : (w m : ℕ) (s t u : List ℕ) (o x y : ℕ) → x < 256 ^ w → t ≡ put w s o x → u ≡ put m t (o + w) y
     → u ≡ put (w + m) s o (x + 256 ^ w * y)
 unfolding put
@@ -74,18 +70,37 @@ put_join (suc w) m s t u o x y l e f =
     rw (z, v, put, q, d) (put_join w m (set s o (x % 256)) t u (o + 1) (x / 256) y
     (omega (arith, pow-succ' 256 w)) e (rw p at f))
 
-pub put_four : (s t u : List ℕ) (o v : ℕ) → t ≡ put 2 s o (v % 65536) → u ≡ put 2 t (o + 2) (v / 65536)
-    → u ≡ put 4 s o v
-put_four s t u o v e f =
-    let q : v % 65536 + 65536 * (v / 65536) ≡ v = omega arith in
-    let h : u ≡ put 4 s o (v % 65536 + 65536 * (v / 65536)) =
-    put_join 2 2 s t u o (v % 65536) (v / 65536) (omega arith) e f in
-    rw q at h
+-- FOR THE CODE, which stores a byte, or copies w bytes over those at o: those of a number
+pub put_one : (s : List ℕ) (o v : ℕ) → v < 256 → set s o v ≡ put 1 s o v
+unfolding put
+put_one s o v l = let q : v % 256 ≡ v = omega arith in rw q
 
-pub put_eight : (s t u : List ℕ) (o v : ℕ) → t ≡ put 4 s o (v % 2 ^ 32) → u ≡ put 4 t (o + 4) (v / 2 ^ 32)
-    → u ≡ put 8 s o v
-put_eight s t u o v e f =
-    let q : v % 2 ^ 32 + 2 ^ 32 * (v / 2 ^ 32) ≡ v = omega arith in
-    let h : u ≡ put 8 s o (v % 2 ^ 32 + 2 ^ 32 * (v / 2 ^ 32)) =
-    put_join 4 4 s t u o (v % 2 ^ 32) (v / 2 ^ 32) (omega arith) e f in
-    rw q at h
+pub put_part : (w k : ℕ) (s t : List ℕ) (o v : ℕ) → k ≡ w → o + w ≤ length s → t ≡ tab w (byte_of v)
+    → put_mid o k s t ≡ put w s o v
+put_part w k s t o v f l e =
+    let n : length (tab w (byte_of v)) ≡ w = length_tab w (byte_of v) in
+    let d : drop w (drop o s) ≡ drop (o + w) s = drop-drop w o s in
+    rw (f, e, d)
+    (sym (put_stores w s o v ∙ sets-eq (tab w (byte_of v)) s o (omega arith) ∙ rw (n, append_assoc)))
+
+pub two_bytes : (v : ℕ) → to_le_bytes w16 v ≡ tab 2 (byte_of v)
+unfolding tab byte_of
+two_bytes v = refl
+
+pub four_bytes : (v : ℕ) → to_le_bytes w32 v ≡ tab 4 (byte_of v)
+unfolding tab byte_of
+four_bytes v =
+    let d : v / 65536 ≡ v / 256 / 256 = omega arith in
+    let e : v / 16777216 ≡ v / 256 / 256 / 256 = omega arith in
+    rw (d, e)
+
+pub eight_bytes : (v : ℕ) → to_le_bytes w64 v ≡ tab 8 (byte_of v)
+unfolding tab byte_of
+eight_bytes v =
+    let d : v / 65536 ≡ v / 256 / 256 = omega arith in
+    let e : v / 16777216 ≡ v / 256 / 256 / 256 = omega arith in
+    let f : v / 2 ^ 32 ≡ v / 256 / 256 / 256 / 256 = omega arith in
+    let g : v / 2 ^ 40 ≡ v / 256 / 256 / 256 / 256 / 256 = omega arith in
+    let h : v / 2 ^ 48 ≡ v / 256 / 256 / 256 / 256 / 256 / 256 = omega arith in
+    let i : v / 2 ^ 56 ≡ v / 256 / 256 / 256 / 256 / 256 / 256 / 256 = omega arith in
+    rw (d, e, f, g, h, i)

@@ -2,6 +2,7 @@
 // whose part is lent to the sum. The definition in specs/Sum.antt reduces at each word; the code adds plain
 // numbers and reduces once.
 ghost use Rattle.std.specs.Prelude.{◌≡◌, ◌+◌, ◌*◌, ◌%◌, ◌^◌, ◌≤◌, ◌<◌, length};
+ghost use Rattle.file_fields.specs.Fields;
 ghost use Rattle.file_fields.specs.Block.{block_size, summed_size, summed_words};
 ghost use Rattle.file_fields.specs.Sum.{sums, good};
 
@@ -38,6 +39,14 @@ fn reduced_both(a: u32, b: u32) -> Sums
     }
 }
 
+// The word at byte o, to be added up.
+fn word(s: &[u8], o: usize) -> u32
+    requires { o + 2 ≤ length s.now }
+    ensures { (result ≡ Fields.le16 s.now o) × (result < 65536) }
+{
+    u32::from(le16(s, o))
+}
+
 // A and B over the 254 words of 508 bytes. Four columns of 63 words are added up side by side, which a
 // processor does at once, and joined at the end with the last two words. All sums stay below 2^32.
 pub fn sums_of(s: &[u8]) -> Sums
@@ -53,17 +62,17 @@ pub fn sums_of(s: &[u8]) -> Sums
     let mut b2: u32 = 0;
     let mut b3: u32 = 0;
     for i in 0..63 {
-        a0 += le16(s, 8 * i) as u32;
-        a1 += le16(s, 8 * i + 2) as u32;
-        a2 += le16(s, 8 * i + 4) as u32;
-        a3 += le16(s, 8 * i + 6) as u32;
+        a0 += word(s, 8 * i);
+        a1 += word(s, 8 * i + 2);
+        a2 += word(s, 8 * i + 4);
+        a3 += word(s, 8 * i + 6);
         b0 += a0;
         b1 += a1;
         b2 += a2;
         b3 += a3;
     }
-    let x = le16(s, 504) as u32;
-    let y = le16(s, 506) as u32;
+    let x = word(s, 504);
+    let y = word(s, 506);
     let a = 1 + a0 + a1 + a2 + a3;
     let b = 252 + 4 * (b0 + b1 + b2 + b3) - (a1 + 2 * a2 + 3 * a3);
     reduced_both(a + x + y, b + 2 * a + 2 * x + y)

@@ -3,11 +3,14 @@
 -- the code makes it.
 use mathlib.Core.{Path.◌≡◌, Path.refl, Path.sym, Path.◌∙◌, Path.ap, List.List}
 use Rattle.std.specs.Prelude.{Bool, true, false, ◌&&◌, ◌||◌, ℕ, ◌+◌, ◌-◌, ◌*◌, ◌%◌, ◌≤◌, ◌<◌}
+use Rattle.std.specs.Prelude.{take, drop, length}
+use Rattle.std.specs.{Bool.MatchBool, List.AllWithin, List.HoldsAt}
 use Rattle.std.proofs.Math.Bool.{not, and-eq-true_iff}
 use native.Mathlib.{Decide.dec_lt, Omega.arith}
 use lib.{ListN.get_or, Dec.ltb, Dec.eqb}
+use Rattle.std.proofs.Common.{length-take, length-drop, get_or-take, get_or-drop}
 use borrow.Author.Tests.{eq-eqb, ne_eqb, eqb-true, eqb-false, le-ltb, ltb-false, not-true, not-false}
-use Rattle.theory_loops.specs.First.{first, any, First, some, none, none_yet, pass, clear, first_le, first_is}
+use Rattle.theory_loops.specs.First.{first, any, First, some, clear, first_le, first_is}
 use Rattle.theory_loops.specs.Pick.{first_rung, at_first, past_first, rung_passed, rung_clear, or_passed}
 use Rattle.file_fields.specs.{Fields.le16, Fields.le32, Block.block_size, Block.summed_size, Block.head_size}
 use Rattle.file_blocks.specs.Place.{blocks, entries_in}
@@ -51,23 +54,7 @@ unformed_or file from kind per size n b =
 unfoldable pub bad_length : ℕ → ℕ → Bool
 bad_length most long = eqb long 0 || (not (eqb (long % block_size) 0) || ltb most long)
 
--- FOR THE LOOP over the bytes
 module _ (file : List ℕ) (a : ℕ) where
-  pub zero_none : first 0 (nonzero file a) ≡ 0
-  zero_none = none_yet (nonzero file a)
-
-  pub zero_pass : (k : ℕ) → first k (nonzero file a) ≡ k → get_or file (a + k) 0 ≡ 0
-      → first (k + 1) (nonzero file a) ≡ k + 1
-  zero_pass k h e = pass (nonzero file a) k h (ap not (eq-eqb _ _ e))
-
-  pub zero_stop : (e k : ℕ) → k < e - a → (get_or file (a + k) 0 ≡ 0 → ⊥) → false ≡ zeros file a e
-  zero_stop e k l h = ap not (some (nonzero file a) (e - a) k l (ap not (ne_eqb _ _ h)))
-
-  pub zero_end : (e k : ℕ) → first k (nonzero file a) ≡ k → k ≤ e - a → e - a ≤ k → true ≡ zeros file a e
-  zero_end e k h l m = ap not (none (nonzero file a) (e - a) k h l m)
-
-  pub ruleset zeroed = (zero_none, zero_pass, zero_stop, zero_end)
-
   -- FOR A READER of the test: it says that each byte is 0, and no less
   pub zeros_each : (e : ℕ) → zeros file a e ≡ true → (i : ℕ) → a ≤ i → i < e → get_or file i 0 ≡ 0
   zeros_each e h i l m =
@@ -90,6 +77,30 @@ module _ (file : List ℕ) (a : ℕ) where
             before = λ k l. ap not (eq-eqb _ _ (h (a + k) (omega arith) (omega arith)));
             at = λ l. absurd (omega arith);
           }
+
+-- FOR THE CODE of `zeros`, which has asked each byte of the part xs
+module _ (file xs : List ℕ) (a e : ℕ) (q : xs ≡ take (e - a) (drop a file)) (l : e ≤ length file) where
+  part_long : length xs ≡ e - a
+  part_long = ap length q ∙ simp (length-take, length-drop) (omega arith)
+
+  part_byte : (k : ℕ) → k < e - a → get_or xs k 0 ≡ get_or file (a + k) 0
+  part_byte k n = rw q (get_or-take (e - a) (drop a file) k 0 n ∙ get_or-drop a file k 0)
+
+  pub zeros_told : (r : Bool)
+      → MatchBool r (AllWithin (λ b. b ≡ 0) xs 0 (length xs))
+      ((k : ℕ) × (k < length xs) × HoldsAt (λ b. b ≡ 0 → ⊥) xs k)
+      → r ≡ zeros file a e
+  zeros_told true h =
+      sym
+      (zeros_all file a e
+      (λ i f g.
+      let z : a + (i - a) ≡ i = omega arith in
+      let b : get_or file (a + (i - a)) 0 ≡ 0 =
+      sym (part_byte (i - a) (omega arith)) ∙ h (i - a) 0 (omega arith) (omega (arith, part_long)) in
+      rw z at b))
+  zeros_told false (k, n, h) =
+      let m : k < e - a = omega (arith, part_long) in
+      ap not (some (nonzero file a) (e - a) k m (ap not (ne_eqb _ _ (λ z. h 0 (part_byte k m ∙ z)))))
 
 -- FOR THE CODE of `formed`: the first test that fails decides, and the last is left when all before it hold
 module _ (file : List ℕ) (b kind entries used : ℕ) where

@@ -1,6 +1,5 @@
 // A reader that carries the lent blocks and the number of the next one: specs/Read.antt. One is made for a
-// file and stepped from block to block, by thin functions over `good_at`, whose parameters are plain. A
-// function that holds a reader is proved by a walk of its MIR.
+// file and stepped from block to block.
 ghost use Rattle.std.specs.Prelude.{◌≡◌, ◌+◌, ◌/◌, ◌<◌, ◌^◌, length};
 ghost use Rattle.theory_loops.specs.First.{first};
 ghost use Rattle.file_fields.specs.Block.{block_size};
@@ -22,28 +21,30 @@ fn good_at(file: &[u8], b: usize) -> bool
     b < file.len() / BLOCK && is_good(file, b)
 }
 
-// A reader before the first block.
-pub fn new<'a>(file: &'a [u8]) -> Blocks<'a>
-    ensures { (result.file ≡ file.entry) × (result.at ≡ 0) }
-{
-    Blocks { file, at: 0 }
-}
+impl<'a> Blocks<'a> {
+    // A reader before the first block.
+    pub fn new(file: &'a [u8]) -> Blocks<'a>
+        ensures { (result.file ≡ file.entry) × (result.at ≡ 0) }
+    {
+        Blocks { file, at: 0 }
+    }
 
-// Whether there is a next block, and its check is right.
-pub fn next_is_good<'a>(blocks: Blocks<'a>) -> bool
-    ensures { result ≡ good_at blocks.entry.file.now blocks.entry.at }
-{
-    good_at(blocks.file, blocks.at)
-}
+    // Whether there is a next block, and its check is right.
+    pub fn next_is_good(self) -> bool
+        ensures { result ≡ good_at self.entry.file.now self.entry.at }
+    {
+        good_at(self.file, self.at)
+    }
 
-// The same blocks, past the next one.
-pub fn past<'a>(blocks: Blocks<'a>) -> Blocks<'a>
-    requires { blocks.at + 1 < 2 ^ 64 }
-    ensures { (result.file ≡ blocks.entry.file) × (result.at ≡ blocks.entry.at + 1) }
-{
-    Blocks {
-        file: blocks.file,
-        at: blocks.at + 1,
+    // The same blocks, past the next one.
+    pub fn past(self) -> Blocks<'a>
+        requires { self.at + 1 < 2 ^ 64 }
+        ensures { (result.file ≡ self.entry.file) × (result.at ≡ self.entry.at + 1) }
+    {
+        Blocks {
+            file: self.file,
+            at: self.at + 1,
+        }
     }
 }
 
@@ -51,9 +52,9 @@ pub fn past<'a>(blocks: Blocks<'a>) -> Blocks<'a>
 pub fn first_bad_sum(file: &[u8]) -> usize
     ensures { result ≡ first (length file.now / block_size) (bad file.now) }
 {
-    let mut blocks = new(file);
-    while next_is_good(blocks) {
-        blocks = past(blocks);
+    let mut blocks = Blocks::new(file);
+    while blocks.next_is_good() {
+        blocks = blocks.past();
     }
     blocks.at
 }

@@ -9,23 +9,17 @@ ghost use Rattle.file_forms.specs.Read.{bad};
 ghost use Rattle.file_forms.specs.SoundBlock.{sound_block};
 
 use crate::form::is_unformed;
+use file_blocks::place::Run;
 use file_fields::sum::is_good;
 
-// Has block j of a run of n entries a right check and its form?
-pub fn is_sound_block(
-    file: &[u8],
-    from: usize,
-    kind: u8,
-    per: usize,
-    size: usize,
-    n: usize,
-    j: usize,
-) -> bool
-    requires run_in_file { RunInFile from per size n file.now }
-    requires j_bound { j < Place.blocks per n }
-    ensures { result ≡ sound_block file.now from kind per size n j }
+// Has block j of a run a right check and its form?
+pub fn is_sound_block(file: &[u8], run: Run, j: usize) -> bool
+    requires run_in_file { RunInFile run.from run.kind.per run.kind.size run.count file.now }
+    requires j_bound { j < Place.blocks run.kind.per run.count }
+    ensures { result
+        ≡ sound_block file.now run.from run.kind.number run.kind.per run.kind.size run.count j }
 {
-    is_good(file, from + j) && !is_unformed(file, from, kind, per, size, n, j)
+    is_good(file, run.from + j) && !is_unformed(file, run, j)
 }
 
 // The first of the file's first n blocks whose check is wrong, or n.

@@ -5,7 +5,7 @@ ghost use Rattle.file_fields.specs.Block.{block_size, summed_size};
 ghost use Rattle.file_blocks.specs.Place;
 ghost use Rattle.file_frames.specs.Framed.{frame_byte, block_byte, FrameRoom, Framed};
 
-use file_blocks::place::{blocks, entries_in};
+use file_blocks::place::Run;
 use file_fields::{BLOCK, HEAD, SUMMED};
 use file_write::write::{write_head, write_zeros};
 
@@ -20,13 +20,14 @@ fn write_frame(out: &mut [u8], b: usize, kind: u8, entries: usize)
     write_zeros(out, at + HEAD, at + SUMMED);
 }
 
-// The blocks of n entries of a kind, from block `from` on.
-pub fn frame_run(out: &mut [u8], from: usize, kind: u8, per: usize, n: usize)
-    requires { FrameRoom from per n (length out.old) }
-    ensures { Framed kind per n from (Place.blocks per n) out.old out.new }
+// The blocks of a run.
+pub fn frame_run(out: &mut [u8], run: Run)
+    requires { FrameRoom run.from run.kind.per run.count (length out.old) }
+    ensures { Framed run.kind.number run.kind.per run.count run.from
+        (Place.blocks run.kind.per run.count) out.old out.new }
 {
-    for j in 0..blocks(per, n) {
-        let entries = entries_in(per, n, j);
-        write_frame(out, from + j, kind, entries);
+    for j in 0..run.blocks() {
+        let entries = run.entries_in(j);
+        write_frame(out, run.from + j, run.kind.number, entries);
     }
 }

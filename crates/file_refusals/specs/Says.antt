@@ -1,7 +1,7 @@
 -- What an answer says, in document 01's terms: the number of its refusal, or 0, the three places, and the
--- values that it gives. Beside each enum of answers stands the definition that gives this for every case;
+-- values that it gives. Beside each kind of answer stands the definition that gives this for every case;
 -- replies, promises and the worked example use it.
-use Rattle.std.specs.Prelude.{List, ◌∷◌, ℕ, replicate}
+use Rattle.std.specs.Prelude.{List, [], ◌∷◌, ℕ, replicate, Result, Ok, Err}
 use Rattle.file_refusals.specs.declared.Refusal.{Refusal}
 
 pub record Says : Type 0 where
@@ -25,6 +25,12 @@ refuses count r =
       third = r.third;
       values = replicate count 0;
     }
+
+-- the answer of an operation that writes a file or fills a lent list: one number, the file's length or how many
+-- entries were filled
+abbrev pub number_says : Result ℕ Refusal → Says
+number_says (Ok number) = answers (number ∷ [])
+number_says (Err r) = refuses 1 r
 
 -- in lent numbers: the three places, then the values
 abbrev pub numbers_of : Says → List ℕ

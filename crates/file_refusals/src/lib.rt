@@ -1,19 +1,19 @@
 // file_refusals: what every operation refuses with: a number of document 01 and three places. It calls
-// nothing.
-//   number    the numbers, by name
-//   writing   what an operation that writes a file answers
-//   listing   what an operation that fills a lent list answers
+// nothing. An operation answers a `Result` whose error is a `Refusal`; what writes a file or fills a lent list
+// answers the file's length or how many entries it filled (specs/Writing.antt, specs/Listing.antt).
+//   reason    the causes of refusals, with their numbers
 #![tactic(auto)]
 
-pub mod listing;
-pub mod number;
-pub mod writing;
+pub mod reason;
 
 ghost use Rattle.std.specs.Prelude.{◌≡◌};
+ghost use Rattle.file_refusals.specs.Number.{number_of};
 ghost use Rattle.file_refusals.specs.Refusal as refusals;
 
+use crate::reason::Reason;
+
 // A refusal. Places that document 01 names none for are 0.
-#[derive(Clone, Copy)]
+#[derive(Clone, Copy, PartialEq, Eq)]
 pub struct Refusal {
     pub number: u32,
     pub first: u32,
@@ -21,28 +21,21 @@ pub struct Refusal {
     pub third: u32,
 }
 
-// What rules say of a file's tables.
-#[derive(Clone, Copy)]
-pub enum Judged {
-    Sound,
-    Faulty(Refusal),
-}
-
-// The refusal of a number with one place.
-pub fn refuse(number: u32, place: u32) -> Refusal
-    ensures { result ≡ refusals.refusal number place }
+// The refusal for a cause, at one place.
+pub fn refuse(reason: Reason, place: u32) -> Refusal
+    ensures { result ≡ refusals.refusal (number_of reason) place }
 {
     Refusal {
-        number,
+        number: reason.number(),
         first: place,
         second: 0,
         third: 0,
     }
 }
 
-// A rule that is broken at one place.
-pub fn faulty(number: u32, place: u32) -> Judged
-    ensures { result ≡ refusals.faulty number place }
+// An answer that is so refused.
+pub fn refused<T>(reason: Reason, place: u32) -> Result<T, Refusal>
+    ensures { result ≡ refusals.refused (number_of reason) place }
 {
-    Judged::Faulty(refuse(number, place))
+    Err(refuse(reason, place))
 }

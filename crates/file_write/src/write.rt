@@ -16,7 +16,7 @@ pub fn write_head(out: &mut [u8], b: usize, kind: u8, entries: usize)
     ensures { out.new ≡ headed out.old b kind entries }
 {
     let at = BLOCK * b;
-    put16(out, at, kind as u16);
+    put16(out, at, u16::from(kind));
     put16(out, at + 2, entries as u16);
     put32(out, at + 4, b as u32);
 }
@@ -26,9 +26,7 @@ pub fn write_zeros(out: &mut [u8], a: usize, e: usize)
     requires { (a ≤ e) × (e ≤ length out.old) }
     ensures { Filled a e (λ _. 0) out.old out.new }
 {
-    for i in a..e {
-        out[i] = 0;
-    }
+    out[a..e].fill(0);
 }
 
 // The last four bytes of block b: the check of those before them.

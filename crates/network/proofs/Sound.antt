@@ -1,7 +1,9 @@
 -- What the rules 7 to 10 and 37 ask of a network, said of its nodes, arcs and points (`SoundNetwork`). The
 -- ladder of tests judges a network sound exactly when this holds (`sound_exactly`).
 use mathlib.Core.{Path.◌≡◌, Path.refl, Path.◌∙◌, Logic.◌↔◌, Bool.Bool, Bool.false}
-use Rattle.std.specs.Prelude.{ℕ, zero, suc, ◌≤◌, ◌<◌}
+use Rattle.file_refusals.specs.declared.Refusal.{Refusal}
+use Rattle.file_refusals.specs.{Refusal.refusal, Refusal.refused, Apart.not_both}
+use Rattle.std.specs.Prelude.{ℕ, zero, suc, ◌≤◌, ◌<◌, Result, Ok, ⊤}
 use native.Mathlib.{Omega.arith, Decide.dec_lt}
 use borrow.Author.Tests.{ltb-true, ltb-false, leb-false, eqb-true, eqb-false, not-false, lt-leb, le-ltb}
 use borrow.Author.Tests.{eq-eqb, ne_eqb}
@@ -9,10 +11,8 @@ use Rattle.theory_loops.specs.First.{first, first_le, clear, all_clear, found}
 use Rattle.theory_loops.specs.Pick.{or_passed, passed_by_lem, reached_by, rung_passed, rung_clear}
 use Rattle.theory_travel.specs.{Day.closed_in}
 use Rattle.theory_travel.specs.Ticks.{bad_tick, ticks_day}
-use Rattle.file_refusals.specs.declared.Judged.TheVariants.{Sound}
 use Rattle.network.specs.Network.{Network, nodes, arcs, points, opens_at, closes_at}
 use Rattle.network.specs.Network.{count, start}
-use Rattle.file_refusals.specs.Refusal.{faulty}
 use Rattle.network.specs.Rules.{
   bad_cell,
   part_of_day,
@@ -175,7 +175,7 @@ module _ (n : Network) (a : ℕ) where
 -- where no point of any arc breaks 9 or 10
 pub points_clear : (n : Network)
     → ((a i : ℕ) → a < arcs n → i < count n a → bad_point_of n a i ≡ false)
-    → ((a i : ℕ) → a < arcs n → i < count n a → overtaken_of n a i ≡ false) → judged_points n ≡ Sound
+    → ((a i : ℕ) → a < arcs n → i < count n a → overtaken_of n a i ≡ false) → judged_points n ≡ Ok tt
 unfolding judged_points
 points_clear n f g =
     rw (
@@ -185,19 +185,19 @@ points_clear n f g =
     )
 
 -- no fault is sound
-not_sound : (number place : ℕ) → faulty number place ≡ Sound → ⊥
-not_sound number place e = let z : ◌≡◌ {A = ℕ} 0 1 = cc in omega arith
+not_sound : (number place : ℕ) → ◌≡◌ {A = Result ⊤ Refusal} (refused number place) (Ok tt) → ⊥
+not_sound number place = not_both (refusal number place) tt
 
 -- THE LADDER judges sound exactly where the rules hold
-judged_sound : (n : Network) → judged n ≡ Sound → SoundNetwork n
+judged_sound : (n : Network) → judged n ≡ Ok tt → SoundNetwork n
 unfolding judged judged_hours judged_arcs judged_sum judged_points
 judged_sound n e =
-    let (c, e₀) = rung_passed (faulty 7) (nodes n) (bad_cell n) _ Sound (λ i _. not_sound 7 i) e in
-    let (o, e₁) = rung_passed (faulty 37) (nodes n) (bad_hours_of n) _ Sound (λ i _. not_sound 37 i) e₀ in
-    let (r, e₂) = rung_passed (faulty 8) (arcs n) (bad_arc n) _ Sound (λ i _. not_sound 8 i) e₁ in
-    let (s, e₃) = reached_by _ _ _ Sound (not_sound 8 (arcs n)) e₂ in
-    let (p, e₄) = passed_by_lem _ _ _ Sound (not_sound 9 _) e₃ in
-    let (q, e₅) = passed_by_lem _ _ _ Sound (not_sound 10 _) e₄ in
+    let (c, e₀) = rung_passed (refused 7) (nodes n) (bad_cell n) _ (Ok tt) (λ i _. not_sound 7 i) e in
+    let (o, e₁) = rung_passed (refused 37) (nodes n) (bad_hours_of n) _ (Ok tt) (λ i _. not_sound 37 i) e₀ in
+    let (r, e₂) = rung_passed (refused 8) (arcs n) (bad_arc n) _ (Ok tt) (λ i _. not_sound 8 i) e₁ in
+    let (s, e₃) = reached_by _ _ _ (Ok tt) (not_sound 8 (arcs n)) e₂ in
+    let (p, e₄) = passed_by_lem _ _ _ (Ok tt) (not_sound 9 _) e₃ in
+    let (q, e₅) = passed_by_lem _ _ _ (Ok tt) (not_sound 10 _) e₄ in
     let sum : start n (arcs n) ≡ points n = eqb-true _ _ s in
     let counted : Counted n = record { some = λ a l. (arc_sound n a (r a l)).some; sum = sum } in
     record {
@@ -210,15 +210,15 @@ judged_sound n e =
           (λ i m. clear_points n (overtaken_of n) counted (ltb-false _ _ q) a i l m);
     }
 
-sound_judged : (n : Network) → SoundNetwork n → judged n ≡ Sound
+sound_judged : (n : Network) → SoundNetwork n → judged n ≡ Ok tt
 unfolding judged judged_hours judged_arcs judged_sum
 sound_judged n s =
-    rung_clear (faulty 7) (nodes n) (bad_cell n) _ (λ v l. lt-leb _ _ (s.cells_below v l))
-    ∙ rung_clear (faulty 37) (nodes n) (bad_hours_of n) _ (λ v l. sound_hours n v (s.hours v l))
-    ∙ rung_clear (faulty 8) (arcs n) (bad_arc n) _ (λ a l. sound_arc n a (s.arc a l))
+    rung_clear (refused 7) (nodes n) (bad_cell n) _ (λ v l. lt-leb _ _ (s.cells_below v l))
+    ∙ rung_clear (refused 37) (nodes n) (bad_hours_of n) _ (λ v l. sound_hours n v (s.hours v l))
+    ∙ rung_clear (refused 8) (arcs n) (bad_arc n) _ (λ a l. sound_arc n a (s.arc a l))
     ∙ rw (eq-eqb (start n (arcs n)) (points n) s.sum)
     (points_clear n (λ a i l m. sound_fine n a (s.points_of a l) i m)
     (λ a i l m. sound_kept n a (s.points_of a l) i m))
 
-pub sound_exactly : (n : Network) → (judged n ≡ Sound) ↔ SoundNetwork n
+pub sound_exactly : (n : Network) → (judged n ≡ Ok tt) ↔ SoundNetwork n
 sound_exactly n = (judged_sound n, sound_judged n)

@@ -2,7 +2,9 @@
 -- exactly what is let pass (`valid_exactly`). Nothing of the file is left out: its length, every sum, every
 -- block's form, the header and the tables.
 use mathlib.Core.{Path.◌≡◌, Path.refl, Path.◌∙◌, Path.ap, Path.subst, Logic.◌↔◌, List.List}
-use Rattle.std.specs.Prelude.{false, ℕ, ◌+◌, ◌*◌, ◌/◌, ◌≤◌, ◌<◌}
+use Rattle.file_refusals.specs.Apart.{not_both}
+use Rattle.file_refusals.specs.Refusal.{refusal, refused}
+use Rattle.std.specs.Prelude.{false, ℕ, ◌+◌, ◌*◌, ◌/◌, ◌≤◌, ◌<◌, Result, Ok, Err, Option, Some, None, ⊤}
 use Rattle.std.proofs.Math.Bool.{not}
 use Rattle.std.proofs.Common.{arith}
 use lib.{ListN.length, Dec.ltb, Dec.eqb}
@@ -12,20 +14,17 @@ use Rattle.file_blocks.specs.{Laid.laid_by, Kind.point_per}
 use Rattle.file_forms.specs.Read.{bad}
 use Rattle.file_fields.specs.{Block.block_size, Block.head_size}
 use Rattle.file_forms.specs.Form.{formed, RunFormed, bad_length, formed_past, past_formed, fine_length}
-use Rattle.file_refusals.specs.declared.Judged.{Judged}
-use Rattle.file_refusals.specs.declared.Judged.TheVariants.{Sound, Faulty}
-use Rattle.network.specs.declared.answer.Opening.TheVariants.{Opened}
-use Rattle.network.specs.declared.header.{Header.Header, Made.Made}
-use Rattle.network.specs.declared.header.Made.TheVariants.{Inside, Outside}
+use Rattle.network.specs.declared.header.{Header.Header}
 use Rattle.network.specs.{Limits.within_made, Rules.judged}
 use Rattle.network.specs.Layout.{arc_block, point_block, all_blocks, layout_of, most_bytes}
 use Rattle.network.specs.Decode.{decode, Laid}
 use Rattle.network.proofs.Sound.{sound_exactly}
-use Rattle.network.specs.Validate.{unopened, first_unformed}
+use Rattle.network.specs.Validate.{first_unformed}
 use Rattle.network.specs.Validate.{validated_rules, validated_form, validated_length, validated_header}
 use Rattle.network.specs.Validate.{made_at, validated_first, validated, header_within, header_is}
 use Rattle.file_blocks.specs.Kind.{network_kind, network_size, arc_kind, arc_size, arc_per, point_kind, point_size}
 use Rattle.network.specs.Node.{node_kind, node_size, node_per, node_blocks, node_blocks_most}
+use Rattle.file_refusals.specs.declared.Refusal.{Refusal}
 use Rattle.network.specs.Valid.{ValidFile}
 
 -- such a file is laid out as its header says
@@ -33,17 +32,14 @@ pub valid_laid : {file : List ℕ} {h : Header} → ValidFile file h → Laid fi
 valid_laid v = laid_by v.is refl v.within v.long
 
 -- no refusal opens
-not_opened : (number place : ℕ) (h : Header) → unopened number place ≡ Opened h → ⊥
-not_opened number place h e = let z : ◌≡◌ {A = ℕ} 0 1 = cc in omega arith
+rules_passed : (h k : Header) (j : Result ⊤ Refusal) → validated_rules k j ≡ Ok h → (j ≡ Ok tt) × (k ≡ h)
+rules_passed h k (Ok _) e = (refl, (cc))
+rules_passed h k (Err r) e = let z : ◌≡◌ {A = ℕ} 0 1 = cc in absurd (omega arith)
 
-rules_passed : (h k : Header) (j : Judged) → validated_rules k j ≡ Opened h → (j ≡ Sound) × (k ≡ h)
-rules_passed h k Sound e = (refl, (cc))
-rules_passed h k (Faulty r) e = let z : ◌≡◌ {A = ℕ} 0 1 = cc in absurd (omega arith)
-
-header_passed : (file : List ℕ) (h : Header) (m : Made) → validated_header file m ≡ Opened h
-    → (k : Header) × (m ≡ Inside k) × (validated_length file k ≡ Opened h)
-header_passed file h (Inside k) e = (k, refl, e)
-header_passed file h Outside e = absurd (not_opened 4 0 h e)
+header_passed : (file : List ℕ) (h : Header) (m : Option Header) → validated_header file m ≡ Ok h
+    → (k : Header) × (m ≡ Some k) × (validated_length file k ≡ Ok h)
+header_passed file h (Some k) e = (k, refl, e)
+header_passed file h None e = not_both (refusal 4 0) h e
 
 -- the runs are in their form where no block out of it is found before the end
 module _ (file : List ℕ) (h : Header) where
@@ -76,21 +72,21 @@ pub within_file : (b n long : ℕ) → long ≡ block_size * n → b < n → b <
 within_file b n long e l = omega arith
 
 module _ (file : List ℕ) (h : Header) where
-  validated_valid : validated file ≡ Opened h → ValidFile file h
+  validated_valid : validated file ≡ Ok h → ValidFile file h
   unfolding validated validated_first validated_length validated_form
   validated_valid e =
-      let (_, e₁) = passed_by_lem (bad_length most_bytes (length file)) (unopened 1 0)
-      (first_rung (unopened 2) (length file / block_size) (bad file) (validated_first file)) (Opened h)
-      (not_opened 1 0 h) e in
-      let (s, e₂) = rung_passed (unopened 2) (length file / block_size) (bad file) (validated_first file)
-      (Opened h) (λ i _. not_opened 2 i h) e₁ in
+      let (_, e₁) = passed_by_lem (bad_length most_bytes (length file)) (refused 1 0)
+      (first_rung (refused 2) (length file / block_size) (bad file) (validated_first file)) (Ok h)
+      (not_both (refusal 1 0) h) e in
+      let (s, e₂) = rung_passed (refused 2) (length file / block_size) (bad file) (validated_first file)
+      (Ok h) (λ i _. not_both (refusal 2 i) h) e₁ in
       let (f, e₃) = reached_by (formed file 0 network_kind 1 (head_size + network_size))
-      (validated_header file (made_at file)) (unopened 3 0) (Opened h) (not_opened 3 0 h) e₂ in
+      (validated_header file (made_at file)) (refused 3 0) (Ok h) (not_both (refusal 3 0) h) e₂ in
       let (k, m, e₄) = header_passed file h (made_at file) e₃ in
       let (l, e₅) = reached_by (eqb (length file) (block_size * all_blocks k)) (validated_form file k)
-      (unopened 5 0) (Opened h) (not_opened 5 0 h) e₄ in
-      let (n, e₆) = passed_by_lem (ltb (first_unformed file k) (all_blocks k)) (unopened 6 (first_unformed file k))
-      (validated_rules k (judged (decode file))) (Opened h) (not_opened 6 (first_unformed file k) h) e₅ in
+      (refused 5 0) (Ok h) (not_both (refusal 5 0) h) e₄ in
+      let (n, e₆) = passed_by_lem (ltb (first_unformed file k) (all_blocks k)) (refused 6 (first_unformed file k))
+      (validated_rules k (judged (decode file))) (Ok h) (not_both (refusal 6 (first_unformed file k)) h) e₅ in
       let (j, q) = rules_passed h k (judged (decode file)) e₆ in
       let g = all_formed file k (ltb-false _ _ n) in
       let long : length file ≡ block_size * all_blocks k = eqb-true _ _ l in
@@ -113,10 +109,10 @@ module _ (file : List ℕ) (h : Header) where
     length_passed = fine_length _ _ _ v.long (omega arith)
         (omega (arith, v.within, node_blocks_most h.hours v.within.nodes_most))
 
-    made_inside : made_at file ≡ Inside h
+    made_inside : made_at file ≡ Some h
     made_inside = rw v.is (within_made _ _ _ _ _ _ _ (rw v.is at v.within))
 
-    form_passed : validated_form file h ≡ Opened h
+    form_passed : validated_form file h ≡ Ok h
     unfolding validated_form
     form_passed =
         let f : RunsFormed file h =
@@ -131,14 +127,14 @@ module _ (file : List ℕ) (h : Header) where
           (sound_exactly (decode file)).1 v.sound,
         )
 
-    valid_validated : validated file ≡ Opened h
+    valid_validated : validated file ≡ Ok h
     unfolding validated validated_first validated_length
     valid_validated =
         rw (length_passed)
-        (rung_clear (unopened 2) (length file / block_size) (bad file) _
+        (rung_clear (refused 2) (length file / block_size) (bad file) _
         (λ b l. ap not (v.sums b (omega (arith, v.long))))
         ∙ rw (v.first_formed_lem, made_inside, eq-eqb (length file) (block_size * all_blocks h) v.long)
         form_passed)
 
-pub valid_exactly : (file : List ℕ) (h : Header) → (validated file ≡ Opened h) ↔ ValidFile file h
+pub valid_exactly : (file : List ℕ) (h : Header) → (validated file ≡ Ok h) ↔ ValidFile file h
 valid_exactly file h = (validated_valid file h, valid_validated file h)

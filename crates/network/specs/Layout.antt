@@ -2,10 +2,13 @@
 -- hours are held), the arcs (kind 3) and the points (kind 4), each a run of blocks of its own.
 use Rattle.std.specs.Prelude.{◌≡◌, refl, ℕ, ◌+◌, ◌*◌}
 use Rattle.file_fields.specs.Block.{block_size}
-use Rattle.file_blocks.specs.{Place.blocks, Kind.hours_per, Kind.arc_per, Kind.point_per}
+use Rattle.file_blocks.specs.Place.{blocks}
+use Rattle.file_blocks.specs.Kind.{cell_kind, cell_size, cell_per, hours_kind, hours_size, hours_per}
+use Rattle.file_blocks.specs.Kind.{arc_kind, arc_size, arc_per, point_kind, point_size, point_per}
+use Rattle.file_blocks.specs.declared.place.Run.{Run}
 use Rattle.network.specs.Limits.{most_nodes, most_arcs, most_points}
 use Rattle.network.specs.declared.header.{Header.Header, Layout.Layout}
-use Rattle.network.specs.Node.{node_per, node_blocks}
+use Rattle.network.specs.Node.{node_kind, node_size, node_per, node_blocks}
 
 -- the first block of the arcs and of the points, and how many blocks there are
 abbrev pub arc_block : Header → ℕ
@@ -62,6 +65,42 @@ layout_blocks e = rw e (record {
   pointblock = refl;
   all = refl;
 })
+
+-- the runs: of the nodes, which are of the one kind or of the other, of the arcs and of the points
+abbrev pub nodes_run : Layout → Run
+nodes_run l = record {
+  from = 1;
+  kind = record { number = node_kind l.hours; size = node_size l.hours; per = node_per l.hours };
+  count = l.nodes;
+}
+
+abbrev pub cells_run : Layout → Run
+cells_run l = record {
+  from = 1;
+  kind = record { number = cell_kind; size = cell_size; per = cell_per };
+  count = l.nodes;
+}
+
+abbrev pub hours_run : Layout → Run
+hours_run l = record {
+  from = 1;
+  kind = record { number = hours_kind; size = hours_size; per = hours_per };
+  count = l.nodes;
+}
+
+abbrev pub arcs_run : Layout → Run
+arcs_run l = record {
+  from = l.arcblock;
+  kind = record { number = arc_kind; size = arc_size; per = arc_per };
+  count = l.arcs;
+}
+
+abbrev pub points_run : Layout → Run
+points_run l = record {
+  from = l.pointblock;
+  kind = record { number = point_kind; size = point_size; per = point_per };
+  count = l.points;
+}
 
 -- FOR THE CODE, which has counted the blocks of each run
 pub layout_told : (h : Header) (per a b c : ℕ) → per ≡ node_per h.hours → a ≡ blocks per h.nodes

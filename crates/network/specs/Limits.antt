@@ -1,10 +1,9 @@
 -- The limits of a network's numbers, and the header that numbers within them make.
 use mathlib.Core.{Path.◌≡◌, Path.refl, Path.sym, Bool.Bool, Bool.true, Bool.false, Bool.cond}
-use Rattle.std.specs.Prelude.{ℕ, ◌-◌, ◌≤◌, ltb}
+use Rattle.std.specs.Prelude.{ℕ, ◌-◌, ◌≤◌, ltb, Option, Some, None}
 use Rattle.std.proofs.Common.{arith}
 use borrow.Author.Tests.{ltb-false, le-ltb}
-use Rattle.network.specs.declared.header.{Header.Header, Made.Made}
-use Rattle.network.specs.declared.header.Made.TheVariants.{Inside, Outside}
+use Rattle.network.specs.declared.header.{Header.Header}
 
 abbrev pub most_period : ℕ
 most_period = 2880
@@ -30,18 +29,18 @@ abbrev pub most_roads : ℕ
 most_roads = most_nodes - 1
 
 -- a period, nodes and cells are 1 or more
-unfoldable pub made : ℕ → ℕ → ℕ → ℕ → ℕ → ℕ → ℕ → Made
+unfoldable pub made : ℕ → ℕ → ℕ → ℕ → ℕ → ℕ → ℕ → Option Header
 made number period nodes arcs cells points hours =
-    cond (ltb period 1) Outside
-    (cond (ltb most_period period) Outside
-    (cond (ltb nodes 1) Outside
-    (cond (ltb most_nodes nodes) Outside
-    (cond (ltb most_arcs arcs) Outside
-    (cond (ltb cells 1) Outside
-    (cond (ltb most_cells cells) Outside
-    (cond (ltb most_points points) Outside
-    (cond (ltb most_hours hours) Outside
-    (Inside (record {
+    cond (ltb period 1) None
+    (cond (ltb most_period period) None
+    (cond (ltb nodes 1) None
+    (cond (ltb most_nodes nodes) None
+    (cond (ltb most_arcs arcs) None
+    (cond (ltb cells 1) None
+    (cond (ltb most_cells cells) None
+    (cond (ltb most_points points) None
+    (cond (ltb most_hours hours) None
+    (Some (record {
       number = number;
       period = period;
       nodes = nodes;
@@ -64,11 +63,11 @@ pub record WithinLimits (h : Header) : Type 0 where
   pub hours_most : h.hours ≤ most_hours
 
 -- a limit that is passed where a header is made
-limit_passed : (t : Bool) (m : Made) (h : Header) → cond t Outside m ≡ Inside h → (t ≡ false) × (m ≡ Inside h)
+limit_passed : (t : Bool) (m : Option Header) (h : Header) → cond t None m ≡ Some h → (t ≡ false) × (m ≡ Some h)
 limit_passed true m h e = let z : ◌≡◌ {A = ℕ} 0 1 = cc in absurd (omega arith)
 limit_passed false m h e = (refl, e)
 
-one_header : (a b : Header) → Inside a ≡ Inside b → a ≡ b
+one_header : (a b : Header) → Some a ≡ Some b → a ≡ b
 one_header a b e = cc
 
 -- a header that is made is within the limits, and holds the numbers
@@ -84,7 +83,7 @@ module _ (number period nodes arcs cells points hours : ℕ) where
     hours = hours;
   }
 
-  pub made_within : (h : Header) → made number period nodes arcs cells points hours ≡ Inside h
+  pub made_within : (h : Header) → made number period nodes arcs cells points hours ≡ Some h
       → WithinLimits h × (h ≡ record {
         number = number;
         period = period;
@@ -130,7 +129,7 @@ module _ (number period nodes arcs cells points hours : ℕ) where
         points = points;
         hours = hours;
       })
-      → made number period nodes arcs cells points hours ≡ Inside
+      → made number period nodes arcs cells points hours ≡ Some
       (record {
         number = number;
         period = period;

@@ -2,14 +2,13 @@
 -- straight after 7: the first number that fails anywhere, then its lowest place. Points are numbered through
 -- all arcs, so the lowest point is the lowest of the first arc that has one.
 use mathlib.Core.{Path.◌≡◌, Bool.Bool, Bool.false, Bool.cond, Bool.not, Bool.◌||◌, List.List}
-use Rattle.std.specs.Prelude.{ℕ, suc, ◌+◌, leb, ltb, eqb}
+use Rattle.file_refusals.specs.Refusal.{refused}
+use Rattle.std.specs.Prelude.{ℕ, suc, ◌+◌, leb, ltb, eqb, Result, Ok, ⊤}
 use Rattle.theory_loops.specs.{First.first, First.any, Pick.first_rung}
 use Rattle.theory_travel.specs.{Ticks.bad_tick, Day.closed, Table.entry_at}
-use Rattle.file_refusals.specs.declared.Judged.{Judged}
-use Rattle.file_refusals.specs.declared.Judged.TheVariants.{Sound}
-use Rattle.file_refusals.specs.Refusal.{faulty}
 use Rattle.network.specs.declared.header.Layout.{Layout}
 use Rattle.network.specs.{Decode.decode, Decode.Laid, Decode.laid_sizes, Network.count, Network.start}
+use Rattle.file_refusals.specs.declared.Refusal.{Refusal}
 use Rattle.network.specs.Network.{Network, nodes, arcs, points, cell, opens_at, closes_at, tail, head}
 
 -- 7: a cell that is not below the count of cells
@@ -68,25 +67,25 @@ first_point n test k =
 
 -- The ladder, rung by rung from its end: the points, the counts' sum, the arcs, the nodes' hours, and their
 -- cells.
-unfoldable pub judged_points : Network → Judged
+unfoldable pub judged_points : Network → Result ⊤ Refusal
 judged_points n =
     cond (ltb (first_point n (bad_point_of n) (arcs n)) (points n))
-    (faulty 9 (first_point n (bad_point_of n) (arcs n)))
+    (refused 9 (first_point n (bad_point_of n) (arcs n)))
     (cond (ltb (first_point n (overtaken_of n) (arcs n)) (points n))
-    (faulty 10 (first_point n (overtaken_of n) (arcs n)))
-    Sound)
+    (refused 10 (first_point n (overtaken_of n) (arcs n)))
+    (Ok tt))
 
-unfoldable pub judged_sum : Network → Judged
-judged_sum n = cond (eqb (start n (arcs n)) (points n)) (judged_points n) (faulty 8 (arcs n))
+unfoldable pub judged_sum : Network → Result ⊤ Refusal
+judged_sum n = cond (eqb (start n (arcs n)) (points n)) (judged_points n) (refused 8 (arcs n))
 
-unfoldable pub judged_arcs : Network → Judged
-judged_arcs n = first_rung (faulty 8) (arcs n) (bad_arc n) (judged_sum n)
+unfoldable pub judged_arcs : Network → Result ⊤ Refusal
+judged_arcs n = first_rung (refused 8) (arcs n) (bad_arc n) (judged_sum n)
 
-unfoldable pub judged_hours : Network → Judged
-judged_hours n = first_rung (faulty 37) (nodes n) (bad_hours_of n) (judged_arcs n)
+unfoldable pub judged_hours : Network → Result ⊤ Refusal
+judged_hours n = first_rung (refused 37) (nodes n) (bad_hours_of n) (judged_arcs n)
 
-unfoldable pub judged : Network → Judged
-judged n = first_rung (faulty 7) (nodes n) (bad_cell n) (judged_hours n)
+unfoldable pub judged : Network → Result ⊤ Refusal
+judged n = first_rung (refused 7) (nodes n) (bad_cell n) (judged_hours n)
 
 -- FOR CODE that has read the file of a network
 module _ {file : List ℕ} {l : Layout} (s : Laid file l) where

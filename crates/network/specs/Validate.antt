@@ -2,7 +2,7 @@
 -- length, every block's check, the first block's form, the header's limits, the length again, the later
 -- blocks' forms, and the rules of the tables. Every whole block is summed before the header is looked at.
 use mathlib.Core.{Path.◌≡◌, Path.sym, Path.◌∙◌, Bool.cond, List.List}
-use Rattle.std.specs.Prelude.{ℕ, ◌+◌, ◌*◌, ◌/◌, ◌≤◌, ◌<◌}
+use Rattle.std.specs.Prelude.{ℕ, ◌+◌, ◌*◌, ◌/◌, ◌≤◌, ◌<◌, Result, Ok, Err, Option, Some, None, ⊤}
 use Rattle.std.proofs.Common.{arith}
 use lib.{ListN.length, Dec.ltb, Dec.eqb}
 use borrow.Author.Tests.{lt-ltb, le-ltb, eq-eqb, ne_eqb}
@@ -11,27 +11,20 @@ use Rattle.file_fields.specs.{Fields.le8, Fields.le16, Fields.le32, Block.block_
 use Rattle.file_blocks.specs.{Place.blocks, Laid.laid_by, Kind.point_per}
 use Rattle.file_forms.specs.Read.{bad}
 use Rattle.file_forms.specs.Form.{formed, unformed_or, bad_length, run_taken, run_passed, run_last}
-use Rattle.file_refusals.specs.declared.{Refusal.Refusal, Judged.Judged}
-use Rattle.file_refusals.specs.declared.Judged.TheVariants.{Sound, Faulty}
-use Rattle.network.specs.declared.answer.Opening.{Opening}
-use Rattle.network.specs.declared.answer.Opening.TheVariants.{Opened, Refused}
-use Rattle.network.specs.declared.header.{Header.Header, Made.Made, Layout.Layout}
-use Rattle.network.specs.declared.header.Made.TheVariants.{Inside, Outside}
+use Rattle.file_refusals.specs.declared.{Refusal.Refusal}
+use Rattle.network.specs.declared.header.{Header.Header, Layout.Layout}
 use Rattle.network.specs.{Limits.made, Limits.WithinLimits, Limits.made_within, Decode.points_stored}
 use Rattle.network.specs.Layout.{arc_block, point_block, all_blocks, layout_of, most_blocks, most_bytes}
 use Rattle.network.specs.Decode.{header_at, decode, Laid, laid_blocks, nodes_stored, arcs_stored}
-use Rattle.file_refusals.specs.Refusal.{refusal}
+use Rattle.file_refusals.specs.Refusal.{refused}
 use Rattle.network.specs.Rules.{judged}
 use Rattle.file_blocks.specs.Kind.{network_kind, network_size, arc_kind, arc_size, arc_per, point_kind, point_size}
 use Rattle.network.specs.Node.{node_kind, node_size, node_per, node_blocks, node_blocks_most}
 
-abbrev pub unopened : ℕ → ℕ → Opening
-unopened number place = Refused (refusal number place)
-
 -- 7, 37, 8 to 10
-abbrev pub validated_rules : Header → Judged → Opening
-validated_rules h Sound = Opened h
-validated_rules h (Faulty r) = Refused r
+abbrev pub validated_rules : Header → Result ⊤ Refusal → Result Header Refusal
+validated_rules h (Ok _) = Ok h
+validated_rules h (Err r) = Err r
 
 -- the first block after the header that is out of its form, by its number, or the count of blocks
 unfoldable pub first_unformed : List ℕ → Header → ℕ
@@ -41,37 +34,37 @@ first_unformed file h =
     (unformed_or file (point_block h) point_kind point_per point_size h.points (all_blocks h)))
 
 -- 6: that block
-unfoldable pub validated_form : List ℕ → Header → Opening
+unfoldable pub validated_form : List ℕ → Header → Result Header Refusal
 validated_form file h =
-    cond (ltb (first_unformed file h) (all_blocks h)) (unopened 6 (first_unformed file h))
+    cond (ltb (first_unformed file h) (all_blocks h)) (refused 6 (first_unformed file h))
     (validated_rules h (judged (decode file)))
 
 -- 5: another length than the header calls for
-unfoldable pub validated_length : List ℕ → Header → Opening
+unfoldable pub validated_length : List ℕ → Header → Result Header Refusal
 validated_length file h =
-    cond (eqb (length file) (block_size * all_blocks h)) (validated_form file h) (unopened 5 0)
+    cond (eqb (length file) (block_size * all_blocks h)) (validated_form file h) (refused 5 0)
 
 -- 4: a header outside the limits
-abbrev pub validated_header : List ℕ → Made → Opening
-validated_header file (Inside h) = validated_length file h
-validated_header file Outside = unopened 4 0
+abbrev pub validated_header : List ℕ → Option Header → Result Header Refusal
+validated_header file (Some h) = validated_length file h
+validated_header file None = refused 4 0
 
-abbrev pub made_at : List ℕ → Made
+abbrev pub made_at : List ℕ → Option Header
 made_at file =
     made (le32 file 8) (le16 file 12) (le16 file 14) (le16 file 16) (le16 file 18) (le32 file 20)
     (le8 file 24)
 
 -- 3: the first block is of kind 1, with one entry of 17 bytes
-unfoldable pub validated_first : List ℕ → Opening
+unfoldable pub validated_first : List ℕ → Result Header Refusal
 validated_first file =
     cond (formed file 0 network_kind 1 (head_size + network_size)) (validated_header file (made_at file))
-    (unopened 3 0)
+    (refused 3 0)
 
 -- 1: no block, a part of a block, or more blocks than any network has; 2: a block's check is wrong
-unfoldable pub validated : List ℕ → Opening
+unfoldable pub validated : List ℕ → Result Header Refusal
 validated file =
-    cond (bad_length most_bytes (length file)) (unopened 1 0)
-    (first_rung (unopened 2) (length file / block_size) (bad file)
+    cond (bad_length most_bytes (length file)) (refused 1 0)
+    (first_rung (refused 2) (length file / block_size) (bad file)
     (validated_first file))
 
 -- FOR CODE on a file that is laid out as its header says: where each run ends, and the first block out of
@@ -111,8 +104,8 @@ pub ruleset forms = (
 
 -- FOR THE LADDER
 module _ {file : List ℕ} {l : Layout} (s : Laid file l) (h : Header) (e : h ≡ header_at file) (b : ℕ)
-    (r : Opening) (f : b ≡ first_unformed file (header_at file)) where
-  pub form_taken : b < l.blocks → r ≡ unopened 6 b → r ≡ validated_form file h
+    (r : Result Header Refusal) (f : b ≡ first_unformed file (header_at file)) where
+  pub form_taken : b < l.blocks → r ≡ refused 6 b → r ≡ validated_form file h
   unfolding validated_form
   form_taken m g = rw (e, ← f, lt-ltb b (all_blocks (header_at file)) (rw (laid_blocks s).all at m)) g
 
@@ -121,23 +114,16 @@ module _ {file : List ℕ} {l : Layout} (s : Laid file l) (h : Header) (e : h �
   form_passed m g = rw (e, ← f, le-ltb b (all_blocks (header_at file)) (rw (laid_blocks s).all at m))
       (rw e at g)
 
-pub rules_sound : (h : Header) (j k : Judged) → j ≡ k → j ≡ Sound → Opened h ≡ validated_rules h k
-rules_sound h j k e f = rw (← e, f)
-
-pub rules_faulty : (h : Header) (j k : Judged) (r : Refusal) → j ≡ k → j ≡ Faulty r
-    → Refused r ≡ validated_rules h k
-rules_faulty h j k r e f = rw (← e, f)
-
 -- a file of the length that its header calls for is laid out
-pub length_passed : (file : List ℕ) (h : Header) (l : Layout) (r : Opening) → l ≡ layout_of h
+pub length_passed : (file : List ℕ) (h : Header) (l : Layout) (r : Result Header Refusal) → l ≡ layout_of h
     → length file ≡ block_size * l.blocks
     → r ≡ validated_form file h → r ≡ validated_length file h
 unfolding validated_length layout_of
 length_passed file h l r e f g = rw (eq-eqb (length file) (block_size * all_blocks h) (rw e at f)) g
 
-pub length_taken : (file : List ℕ) (h : Header) (l : Layout) (r : Opening) → l ≡ layout_of h
+pub length_taken : (file : List ℕ) (h : Header) (l : Layout) (r : Result Header Refusal) → l ≡ layout_of h
     → (length file ≡ block_size * l.blocks → ⊥)
-    → r ≡ unopened 5 0 → r ≡ validated_length file h
+    → r ≡ refused 5 0 → r ≡ validated_length file h
 unfolding validated_length layout_of
 length_taken file h l r e f g = rw (ne_eqb (length file) (block_size * all_blocks h) (rw e at f)) g
 
@@ -147,17 +133,17 @@ unfolding layout_of
 now_laid file h l w d e f = laid_by d e w (rw e at f)
 
 -- the header that is made of the first block's numbers
-pub header_within : (file : List ℕ) (m : Made) (h : Header) → m ≡ made_at file → m ≡ Inside h → WithinLimits h
+pub header_within : (file : List ℕ) (m : Option Header) (h : Header) → m ≡ made_at file → m ≡ Some h → WithinLimits h
 header_within file m h e f = (made_within _ _ _ _ _ _ _ h (sym e ∙ f)).0
 
-pub header_is : (file : List ℕ) (m : Made) (h : Header) → m ≡ made_at file → m ≡ Inside h → h ≡ header_at file
+pub header_is : (file : List ℕ) (m : Option Header) (h : Header) → m ≡ made_at file → m ≡ Some h → h ≡ header_at file
 header_is file m h e f = (made_within _ _ _ _ _ _ _ h (sym e ∙ f)).1
 
-pub header_inside : (file : List ℕ) (m k : Made) (h : Header) (r : Opening) → m ≡ k → m ≡ Inside h
+pub header_inside : (file : List ℕ) (m k : Option Header) (h : Header) (r : Result Header Refusal) → m ≡ k → m ≡ Some h
     → r ≡ validated_length file h → r ≡ validated_header file k
 header_inside file m k h r e f g = rw (← e, f) g
 
-pub header_outside : (file : List ℕ) (m k : Made) (r : Opening) → m ≡ k → m ≡ Outside → r ≡ unopened 4 0
+pub header_outside : (file : List ℕ) (m k : Option Header) (r : Result Header Refusal) → m ≡ k → m ≡ None → r ≡ refused 4 0
     → r ≡ validated_header file k
 header_outside file m k r e f g = rw (← e, f) g
 

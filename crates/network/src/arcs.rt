@@ -6,7 +6,7 @@ ghost use Rattle.network.specs.Decode.{decode, Laid};
 ghost use Rattle.network.specs.Arcs.{EntryOf};
 
 use crate::header::Layout;
-use file_blocks::kind::ARC_SIZE;
+use file_blocks::kind::ARC;
 use file_fields::fields::le16;
 use file_fields::{BLOCK, HEAD};
 
@@ -24,7 +24,7 @@ pub fn entry_in(file: &[u8], l: Layout, j: usize, e: usize) -> Entry
     requires e_lt_arc_per { (e < arc_per) × (arc_per * j + e < l.arcs) }
     ensures { EntryOf (decode file.now) (arc_per * j + e) result }
 {
-    let at = BLOCK * (l.arcblock + j) + HEAD + ARC_SIZE * e;
+    let at = BLOCK * (l.arcblock + j) + HEAD + ARC.size * e;
     Entry {
         tail: le16(file, at) as usize,
         head: le16(file, at + 2) as usize,

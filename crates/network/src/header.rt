@@ -1,12 +1,12 @@
 // The header of a network with its limits, and where the tables of such a network stand in its file.
 ghost use Rattle.std.specs.Prelude.{◌≡◌};
 ghost use Rattle.network.specs.Limits.{made, WithinLimits};
-ghost use Rattle.network.specs.Layout.{layout_of};
+ghost use Rattle.network.specs.Layout.{layout_of, nodes_run, cells_run, hours_run, arcs_run, points_run};
 
 use crate::limits;
-use crate::node::node_per;
+use crate::node::node_kind;
 use file_blocks::kind;
-use file_blocks::place::blocks;
+use file_blocks::place::Run;
 
 #[derive(Clone, Copy)]
 pub struct Header {
@@ -17,13 +17,6 @@ pub struct Header {
     pub cells: u16,
     pub points: u32,
     pub hours: u16,
-}
-
-// The header that some numbers make, or none.
-#[derive(Clone, Copy)]
-pub enum Made {
-    Inside(Header),
-    Outside,
 }
 
 // The counts of a network as sizes, whether it holds hours (1) or not (0), and the first block of its arcs,
@@ -54,7 +47,7 @@ impl Header {
 
     pub const MOST_HOURS: u32 = limits::MOST_HOURS as u32;
 
-    // A header of numbers within the limits.
+    // The header of numbers within the limits, or none.
     pub fn new(
         number: u32,
         period: u32,
@@ -63,37 +56,37 @@ impl Header {
         cells: u32,
         points: u32,
         hours: u32,
-    ) -> Made
+    ) -> Option<Header>
         ensures { result ≡ made number period nodes arcs cells points hours }
     {
         if period < 1 {
-            return Made::Outside;
+            return None;
         }
         if Header::MOST_TICKS < period {
-            return Made::Outside;
+            return None;
         }
         if nodes < 1 {
-            return Made::Outside;
+            return None;
         }
         if Header::MOST_NODES < nodes {
-            return Made::Outside;
+            return None;
         }
         if Header::MOST_ARCS < arcs {
-            return Made::Outside;
+            return None;
         }
         if cells < 1 {
-            return Made::Outside;
+            return None;
         }
         if Header::MOST_CELLS < cells {
-            return Made::Outside;
+            return None;
         }
         if Header::MOST_POINTS < points {
-            return Made::Outside;
+            return None;
         }
         if Header::MOST_HOURS < hours {
-            return Made::Outside;
+            return None;
         }
-        Made::Inside(Header {
+        Some(Header {
             number,
             period: period as u16,
             nodes: nodes as u16,
@@ -113,8 +106,8 @@ impl Header {
         let arcs = self.arcs as usize;
         let points = self.points as usize;
         let hours = self.hours as usize;
-        let arcblock = 1 + blocks(node_per(hours), nodes);
-        let pointblock = arcblock + blocks(kind::ARC_PER, arcs);
+        let arcblock = 1 + node_kind(hours).blocks(nodes);
+        let pointblock = arcblock + kind::ARC.blocks(arcs);
         Layout {
             period: self.period as usize,
             nodes,
@@ -124,7 +117,64 @@ impl Header {
             hours,
             arcblock,
             pointblock,
-            blocks: pointblock + blocks(kind::POINT_PER, points),
+            blocks: pointblock + kind::POINT.blocks(points),
+        }
+    }
+}
+
+impl Layout {
+    // The entries of the nodes, of the kind that the network has.
+    pub fn nodes_run(self) -> Run
+        ensures { result ≡ nodes_run self }
+    {
+        Run {
+            from: 1,
+            kind: node_kind(self.hours),
+            count: self.nodes,
+        }
+    }
+
+    // The same where no hours are held.
+    pub fn cells_run(self) -> Run
+        ensures { result ≡ cells_run self }
+    {
+        Run {
+            from: 1,
+            kind: kind::CELL,
+            count: self.nodes,
+        }
+    }
+
+    // The same where hours are held.
+    pub fn hours_run(self) -> Run
+        ensures { result ≡ hours_run self }
+    {
+        Run {
+            from: 1,
+            kind: kind::HOURS,
+            count: self.nodes,
+        }
+    }
+
+    // The entries of the arcs.
+    pub fn arcs_run(self) -> Run
+        ensures { result ≡ arcs_run self }
+    {
+        Run {
+            from: self.arcblock,
+            kind: kind::ARC,
+            count: self.arcs,
+        }
+    }
+
+    // The entries of the points.
+    pub fn points_run(self) -> Run
+        ensures { result ≡ points_run self }
+    {
+        Run {
+            from: self.pointblock,
+            kind: kind::POINT,
+            count: self.points,
         }
     }
 }

@@ -7,12 +7,10 @@
 //   arcs      an arc by its block, and its place there
 //   points    the points that stand side by side, by bytes
 //   read      the entries of a network file, in place
-//   answer    refusals, and what validation answers
 // It may call `file_blocks` and `file_fields` for bytes, and cites `file_forms`, `theory_loops`,
 // `theory_paths` and `theory_travel`. Files are read in place.
 #![tactic(auto)]
 
-pub mod answer;
 pub mod arcs;
 pub mod header;
 pub mod limits;

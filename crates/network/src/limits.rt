@@ -19,9 +19,9 @@ pub const MOST_HOURS: usize = 1;
 
 // A header, and the blocks of so many nodes with their hours, arcs and points.
 pub const MOST_BLOCKS: usize = 1
-    + (MOST_NODES + kind::HOURS_PER - 1) / kind::HOURS_PER
-    + (MOST_ARCS + kind::ARC_PER - 1) / kind::ARC_PER
-    + (MOST_POINTS + kind::POINT_PER - 1) / kind::POINT_PER;
+    + (MOST_NODES + kind::HOURS.per - 1) / kind::HOURS.per
+    + (MOST_ARCS + kind::ARC.per - 1) / kind::ARC.per
+    + (MOST_POINTS + kind::POINT.per - 1) / kind::POINT.per;
 
 pub const MOST_BYTES: usize = BLOCK * MOST_BLOCKS;
 

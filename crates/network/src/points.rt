@@ -6,8 +6,7 @@ ghost use Rattle.network.specs.Decode.{decode, Laid};
 ghost use Rattle.network.specs.Points.{Placed};
 
 use crate::header::Layout;
-use file_blocks::kind::{POINT_PER, POINT_SIZE};
-use file_blocks::place::offset;
+use file_blocks::kind::POINT;
 use file_fields::BLOCK;
 use file_fields::fields::le16;
 
@@ -20,7 +19,7 @@ pub struct Stretch {
 }
 
 // The bytes between the points of a block and those of the next.
-const BETWEEN: usize = BLOCK - POINT_SIZE * POINT_PER;
+const BETWEEN: usize = BLOCK - POINT.size * POINT.per;
 
 impl Stretch {
     // From point q on.
@@ -31,8 +30,8 @@ impl Stretch {
     {
         Stretch {
             first: q,
-            at: offset(l.pointblock, POINT_PER, POINT_SIZE, q),
-            room: POINT_PER - q % POINT_PER,
+            at: POINT.offset(l.pointblock, q),
+            room: POINT.per - q % POINT.per,
         }
     }
 
@@ -44,8 +43,8 @@ impl Stretch {
     {
         Stretch {
             first: self.first + self.room,
-            at: self.at + POINT_SIZE * self.room + BETWEEN,
-            room: POINT_PER,
+            at: self.at + POINT.size * self.room + BETWEEN,
+            room: POINT.per,
         }
     }
 
@@ -59,7 +58,7 @@ impl Stretch {
         if passed < self.room {
             return Stretch {
                 first: self.first + passed,
-                at: self.at + POINT_SIZE * passed,
+                at: self.at + POINT.size * passed,
                 room: self.room - passed,
             };
         }
@@ -81,7 +80,7 @@ impl Stretch {
         requires placed { Placed l self × (i < self.room) × (self.first + i < l.points) }
         ensures { (result ≡ Network.tick (decode file.now) (self.first + i)) × (result < 65536) }
     {
-        le16(file, self.at + POINT_SIZE * i) as usize
+        le16(file, self.at + POINT.size * i) as usize
     }
 
     // The travel of its i-th point, from 0.
@@ -90,6 +89,6 @@ impl Stretch {
         requires placed { Placed l self × (i < self.room) × (self.first + i < l.points) }
         ensures { (result ≡ Network.travel (decode file.now) (self.first + i)) × (result < 65536) }
     {
-        le16(file, self.at + POINT_SIZE * i + 2) as usize
+        le16(file, self.at + POINT.size * i + 2) as usize
     }
 }

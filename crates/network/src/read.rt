@@ -6,8 +6,6 @@ ghost use Rattle.network.specs.Network;
 ghost use Rattle.network.specs.Decode.{decode, Laid};
 
 use crate::header::Layout;
-use file_blocks::kind;
-use file_blocks::place::field16;
 
 // The cell of node v. The places of both kinds are told apart before they are counted, so that each is
 // counted with numbers that are constant.
@@ -17,9 +15,9 @@ pub fn cell(file: &[u8], l: Layout, v: usize) -> usize
     ensures { (result ≡ Network.cell (decode file.now) v) × (result < 65536) }
 {
     if l.hours == 0 {
-        return field16(file, 1, kind::CELL_PER, kind::CELL_SIZE, 0, v);
+        return l.cells_run().field16(file, 0, v);
     }
-    field16(file, 1, kind::HOURS_PER, kind::HOURS_SIZE, 0, v)
+    l.hours_run().field16(file, 0, v)
 }
 
 // The tick at which node v opens.
@@ -31,7 +29,7 @@ pub fn opens_at(file: &[u8], l: Layout, v: usize) -> usize
     if l.hours == 0 {
         return 0;
     }
-    field16(file, 1, kind::HOURS_PER, kind::HOURS_SIZE, 2, v)
+    l.hours_run().field16(file, 2, v)
 }
 
 // The tick at which node v closes.
@@ -43,7 +41,7 @@ pub fn closes_at(file: &[u8], l: Layout, v: usize) -> usize
     if l.hours == 0 {
         return l.period;
     }
-    field16(file, 1, kind::HOURS_PER, kind::HOURS_SIZE, 4, v)
+    l.hours_run().field16(file, 4, v)
 }
 
 // The tail of arc a.
@@ -52,7 +50,7 @@ pub fn tail(file: &[u8], l: Layout, a: usize) -> usize
     requires a_lt_arcs { a < l.arcs }
     ensures { (result ≡ Network.tail (decode file.now) a) × (result < 65536) }
 {
-    field16(file, l.arcblock, kind::ARC_PER, kind::ARC_SIZE, 0, a)
+    l.arcs_run().field16(file, 0, a)
 }
 
 // The head of arc a.
@@ -61,7 +59,7 @@ pub fn head(file: &[u8], l: Layout, a: usize) -> usize
     requires a_lt_arcs { a < l.arcs }
     ensures { (result ≡ Network.head (decode file.now) a) × (result < 65536) }
 {
-    field16(file, l.arcblock, kind::ARC_PER, kind::ARC_SIZE, 2, a)
+    l.arcs_run().field16(file, 2, a)
 }
 
 // How many points arc a has.
@@ -70,7 +68,7 @@ pub fn count(file: &[u8], l: Layout, a: usize) -> usize
     requires a_lt_arcs { a < l.arcs }
     ensures { (result ≡ Network.count (decode file.now) a) × (result < 65536) }
 {
-    field16(file, l.arcblock, kind::ARC_PER, kind::ARC_SIZE, 4, a)
+    l.arcs_run().field16(file, 4, a)
 }
 
 // The tick of point q.
@@ -79,7 +77,7 @@ pub fn tick(file: &[u8], l: Layout, q: usize) -> usize
     requires q_lt_points { q < l.points }
     ensures { (result ≡ Network.tick (decode file.now) q) × (result < 65536) }
 {
-    field16(file, l.pointblock, kind::POINT_PER, kind::POINT_SIZE, 0, q)
+    l.points_run().field16(file, 0, q)
 }
 
 // The travel of point q.
@@ -88,5 +86,5 @@ pub fn travel(file: &[u8], l: Layout, q: usize) -> usize
     requires q_lt_points { q < l.points }
     ensures { (result ≡ Network.travel (decode file.now) q) × (result < 65536) }
 {
-    field16(file, l.pointblock, kind::POINT_PER, kind::POINT_SIZE, 2, q)
+    l.points_run().field16(file, 2, q)
 }

@@ -17,14 +17,13 @@ ghost use Rattle.network_encode.specs.Entries.{part_byte, InRun};
 ghost use Rattle.network_encode.specs.Packable.{Packable};
 
 use file_blocks::kind;
-use file_blocks::place::entries_in;
 use file_fields::fields::{put8, put16, put32};
 use file_fields::{BLOCK, ENTRIES, HEAD, SUMMED};
 use file_write::write::{write_check, write_head, write_zeros};
 use network::header::{Header, Layout};
 
 // The bytes of block 0 that its head and its one entry take.
-const USED: usize = HEAD + kind::NETWORK_SIZE;
+const USED: usize = HEAD + kind::NETWORK.size;
 
 // Two fields of two bytes, one behind the other.
 fn put_two(out: &mut [u8], o: usize, x: u16, y: u16)
@@ -67,7 +66,7 @@ fn put_cells(out: &mut [u8], base: usize, first: usize, m: usize, cells: &[u16])
         out.new }
 {
     for e in 0..m {
-        put16(out, base + kind::CELL_SIZE * e, cells[first + e]);
+        put16(out, base + kind::CELL.size * e, cells[first + e]);
     }
 }
 
@@ -90,7 +89,7 @@ fn put_triples(
 {
     for e in 0..m {
         let a = first + e;
-        put_three(out, base + kind::ARC_SIZE * e, xs[a], ys[a], zs[a]);
+        put_three(out, base + kind::ARC.size * e, xs[a], ys[a], zs[a]);
     }
 }
 
@@ -104,7 +103,7 @@ fn put_points(out: &mut [u8], base: usize, first: usize, m: usize, ticks: &[u16]
 {
     for e in 0..m {
         let q = first + e;
-        put_two(out, base + kind::POINT_SIZE * e, ticks[q], travels[q]);
+        put_two(out, base + kind::POINT.size * e, ticks[q], travels[q]);
     }
 }
 
@@ -115,7 +114,7 @@ fn header_block(out: &mut [u8], h: Header)
     ensures { Filled 0 block_size (file_byte (header_body network_kind network_size (header_byte h)))
         out.old out.new }
 {
-    write_head(out, 0, kind::NETWORK, 1);
+    write_head(out, 0, kind::NETWORK.number, 1);
     put_header(out, h);
     write_zeros(out, USED, SUMMED);
     write_check(out, 0);
@@ -130,10 +129,10 @@ fn cells_block(out: &mut [u8], b: usize, nodes: usize, cells: &[u16])
         out.old out.new }
 {
     let at = BLOCK * b + HEAD;
-    let m = entries_in(kind::CELL_PER, nodes, b - 1);
-    write_head(out, b, kind::CELL, m);
-    put_cells(out, at, kind::CELL_PER * (b - 1), m, cells);
-    write_zeros(out, at + kind::CELL_SIZE * m, at + ENTRIES);
+    let m = kind::CELL.entries_in(nodes, b - 1);
+    write_head(out, b, kind::CELL.number, m);
+    put_cells(out, at, kind::CELL.per * (b - 1), m, cells);
+    write_zeros(out, at + kind::CELL.size * m, at + ENTRIES);
     write_check(out, b);
 }
 
@@ -156,10 +155,10 @@ fn triples_block(
         out.old out.new }
 {
     let at = BLOCK * b + HEAD;
-    let m = entries_in(kind::ARC_PER, n, b - from);
+    let m = kind::ARC.entries_in(n, b - from);
     write_head(out, b, kind, m);
-    put_triples(out, at, kind::ARC_PER * (b - from), m, xs, ys, zs);
-    write_zeros(out, at + kind::ARC_SIZE * m, at + ENTRIES);
+    put_triples(out, at, kind::ARC.per * (b - from), m, xs, ys, zs);
+    write_zeros(out, at + kind::ARC.size * m, at + ENTRIES);
     write_check(out, b);
 }
 
@@ -185,7 +184,7 @@ fn nodes_block(
         cells_block(out, b, nodes, cells);
         return;
     }
-    triples_block(out, b, kind::HOURS, 1, nodes, cells, opens, closes);
+    triples_block(out, b, kind::HOURS.number, 1, nodes, cells, opens, closes);
 }
 
 // Block b, one of the points' run, which starts at block `from`.
@@ -205,10 +204,10 @@ fn points_block(
         out.new }
 {
     let at = BLOCK * b + HEAD;
-    let m = entries_in(kind::POINT_PER, points, b - from);
-    write_head(out, b, kind::POINT, m);
-    put_points(out, at, kind::POINT_PER * (b - from), m, ticks, travels);
-    write_zeros(out, at + kind::POINT_SIZE * m, at + ENTRIES);
+    let m = kind::POINT.entries_in(points, b - from);
+    write_head(out, b, kind::POINT.number, m);
+    put_points(out, at, kind::POINT.per * (b - from), m, ticks, travels);
+    write_zeros(out, at + kind::POINT.size * m, at + ENTRIES);
     write_check(out, b);
 }
 
@@ -246,7 +245,16 @@ fn write_block(
         return;
     }
     if b < l.pointblock {
-        triples_block(out, b, kind::ARC, l.arcblock, l.arcs, tails, heads, counts);
+        triples_block(
+            out,
+            b,
+            kind::ARC.number,
+            l.arcblock,
+            l.arcs,
+            tails,
+            heads,
+            counts,
+        );
         return;
     }
     points_block(out, b, l.pointblock, l.points, ticks, travels);

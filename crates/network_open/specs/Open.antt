@@ -1,7 +1,8 @@
 -- Opening a network: the answer, what becomes of the eight lent tables, and the call (`OpenCall`). The tables
 -- are written only where the file opens, and then in their first entries alone, which become the network's.
 use mathlib.Core.{Path.◌≡◌, Path.refl, Path.sym, Path.◌∙◌, List.List}
-use Rattle.std.specs.Prelude.{Bool, true, false, cond, ◌||◌, ℕ, ◌≤◌}
+use Rattle.file_refusals.specs.Refusal.{refused}
+use Rattle.std.specs.Prelude.{Bool, true, false, cond, ◌||◌, ℕ, ◌≤◌, Result, Ok, Err}
 use lib.{ListN.length, Dec.ltb}
 use Rattle.std.proofs.Common.{ltb-false}
 use Rattle.theory_loops.specs.Pick.{or_passed}
@@ -9,13 +10,11 @@ use Rattle.theory_loops.specs.Fill.{Filled, filled_list, fill_within, overwritte
 use Rattle.file_blocks.specs.Kind.{hours_size, hours_per, arc_size, arc_per, point_size, point_per}
 use Rattle.file_blocks.specs.Table.{entry16}
 use Rattle.file_refusals.specs.declared.Refusal.{Refusal}
-use Rattle.network.specs.declared.answer.Opening.{Opening}
-use Rattle.network.specs.declared.answer.Opening.TheVariants.{Opened, Refused}
 use Rattle.network.specs.declared.header.{Header.Header, Layout.Layout}
 use Rattle.network.specs.{Limits.WithinLimits, Layout.layout_of, Network.Network, Tables.Tables, Tables.each}
 use Rattle.network.specs.{Node.node_size, Node.node_per, Decode.opens_there, Decode.closes_there}
 use Rattle.network.specs.Decode.{header_at, decode, Laid, laid_blocks, laid_sizes, opens_plain, closes_plain}
-use Rattle.network.specs.Validate.{unopened, validated}
+use Rattle.network.specs.Validate.{validated}
 use Rattle.network.specs.Valid.{ValidFile}
 use Rattle.network.proofs.Valid.{valid_laid, valid_exactly}
 
@@ -34,24 +33,24 @@ too_short h t =
     (length t.heads) (length t.counts) (length t.ticks) (length t.travels)
 
 -- the answer for lent tables, short or not, after validation
-abbrev pub opened_in : Opening → (Header → Bool) → Opening
-opened_in (Refused r) short = Refused r
-opened_in (Opened h) short = cond (short h) (unopened 30 0) (Opened h)
+abbrev pub opened_in : Result Header Refusal → (Header → Bool) → Result Header Refusal
+opened_in (Err r) short = Err r
+opened_in (Ok h) short = cond (short h) (refused 30 0) (Ok h)
 
 -- Open's answer by the file's bytes and the lent tables
-abbrev pub opening : List ℕ → Tables → Opening
+abbrev pub opening : List ℕ → Tables → Result Header Refusal
 opening file t = opened_in (validated file) (λ h. too_short h t)
 
 -- a table at exit by the answer, and all eight
-abbrev pub table_after : Opening → List ℕ → List ℕ → List ℕ
-table_after (Opened h) values old = overwritten values old
-table_after (Refused r) values old = old
+abbrev pub table_after : Result Header Refusal → List ℕ → List ℕ → List ℕ
+table_after (Ok h) values old = overwritten values old
+table_after (Err r) values old = old
 
-abbrev pub tables_after : Opening → Network → Tables → Tables
+abbrev pub tables_after : Result Header Refusal → Network → Tables → Tables
 tables_after r = each (table_after r)
 
 -- THE CALL: what Open answers for a file and lent tables, and the tables that it leaves
-pub record OpenCall (file : List ℕ) (before after : Tables) (r : Opening) : Type 0 where
+pub record OpenCall (file : List ℕ) (before after : Tables) (r : Result Header Refusal) : Type 0 where
   pub answer : r ≡ opening file before
   pub written : after ≡ tables_after r (decode file) before
 
@@ -184,11 +183,11 @@ pub ruleset table_writes = (
 )
 
 -- FOR OPEN ITSELF, which has validated the file
-module _ (file : List ℕ) (v : Opening) (e : v ≡ validated file) where
-  pub open_refused : (t : Tables) (r : Refusal) → v ≡ Refused r → OpenCall file t t (Refused r)
+module _ (file : List ℕ) (v : Result Header Refusal) (e : v ≡ validated file) where
+  pub open_refused : (t : Tables) (r : Refusal) → v ≡ Err r → OpenCall file t t (Err r)
   open_refused t r f = record { answer = rw (← e, f); written = refl }
 
-  module _ (h : Header) (f : v ≡ Opened h) where
+  module _ (h : Header) (f : v ≡ Ok h) where
     open_valid : ValidFile file h
     open_valid = (valid_exactly file h).0 (sym e ∙ f)
 
@@ -199,9 +198,9 @@ module _ (file : List ℕ) (v : Opening) (e : v ≡ validated file) where
     open_laid l g = rw g (valid_laid open_valid)
 
     module _ (before : Tables) (y : Bool) (g : y ≡ too_short h before) where
-      pub open_short : (r : Opening) → y ≡ true → r ≡ unopened 30 0 → OpenCall file before before r
+      pub open_short : (r : Result Header Refusal) → y ≡ true → r ≡ refused 30 0 → OpenCall file before before r
       open_short r k q = record { answer = rw (← e, f, ← g, k) q; written = rw q }
 
       pub open_opened : (after : Tables) → y ≡ false → after ≡ each overwritten (decode file) before
-          → OpenCall file before after (Opened h)
+          → OpenCall file before after (Ok h)
       open_opened after k w = record { answer = rw (← e, f, ← g, k); written = w }

@@ -5,13 +5,10 @@ ghost use Rattle.network.specs.Decode.{decode, Laid};
 ghost use Rattle.theory_loops.specs.Fill.{Filled, overwritten};
 ghost use Rattle.network_open.specs.Open.{too_short_by, Room, OpenCall};
 
-use file_blocks::kind;
 use file_blocks::pairs::decode_pairs;
-use file_blocks::place::decode16;
-use file_refusals::number;
-use network::answer::{Opening, refused};
+use file_refusals::reason::Reason;
+use file_refusals::{Refusal, refused};
 use network::header::{Header, Layout};
-use network::node::{node_per, node_size};
 use network_validate::validate::validate;
 
 // Refusal 30: has a table of these lengths no room for the header's counts?
@@ -61,16 +58,7 @@ fn write_cells(file: &[u8], l: Layout, cells: &mut [u16])
     requires nodes_in_bounds { l.nodes ≤ length cells.old }
     ensures { cells.new ≡ overwritten (decode file.now).cell_of cells.old }
 {
-    let hours = l.hours;
-    decode16(
-        file,
-        1,
-        node_per(hours),
-        node_size(hours),
-        0,
-        l.nodes,
-        cells,
-    );
+    l.nodes_run().decode16(file, 0, cells);
 }
 
 // The first n entries of a table become one value.
@@ -78,9 +66,7 @@ fn fill(table: &mut [u16], n: usize, value: u16)
     requires { n ≤ length table.old }
     ensures { Filled 0 n (λ _. value) table.old table.new }
 {
-    for v in 0..n {
-        table[v] = value;
-    }
+    table[..n].fill(value);
 }
 
 // The hours of the nodes: where none are held, they are open all day.
@@ -98,8 +84,9 @@ fn write_hours(file: &[u8], l: Layout, opens: &mut [u16], closes: &mut [u16])
         fill(closes, n, period as u16);
         return;
     }
-    decode16(file, 1, kind::HOURS_PER, kind::HOURS_SIZE, 2, n, opens);
-    decode16(file, 1, kind::HOURS_PER, kind::HOURS_SIZE, 4, n, closes);
+    let run = l.hours_run();
+    run.decode16(file, 2, opens);
+    run.decode16(file, 4, closes);
 }
 
 // The tails, heads and counts of the arcs.
@@ -112,33 +99,10 @@ fn write_arcs(file: &[u8], l: Layout, tails: &mut [u16], heads: &mut [u16], coun
         × (heads.new ≡ overwritten (decode file.now).heads heads.old)
         × (counts.new ≡ overwritten (decode file.now).counts counts.old) }
 {
-    decode16(
-        file,
-        l.arcblock,
-        kind::ARC_PER,
-        kind::ARC_SIZE,
-        0,
-        l.arcs,
-        tails,
-    );
-    decode16(
-        file,
-        l.arcblock,
-        kind::ARC_PER,
-        kind::ARC_SIZE,
-        2,
-        l.arcs,
-        heads,
-    );
-    decode16(
-        file,
-        l.arcblock,
-        kind::ARC_PER,
-        kind::ARC_SIZE,
-        4,
-        l.arcs,
-        counts,
-    );
+    let run = l.arcs_run();
+    run.decode16(file, 0, tails);
+    run.decode16(file, 2, heads);
+    run.decode16(file, 4, counts);
 }
 
 // The ticks and travels of the points.
@@ -149,14 +113,7 @@ fn write_points(file: &[u8], l: Layout, ticks: &mut [u16], travels: &mut [u16])
         ticks.old)
         × (travels.new ≡ overwritten (decode file.now).travels travels.old) }
 {
-    decode_pairs(
-        file,
-        l.pointblock,
-        kind::POINT_PER,
-        l.points,
-        ticks,
-        travels,
-    );
+    decode_pairs(file, l.points_run(), ticks, travels);
 }
 
 // All eight tables.
@@ -200,7 +157,7 @@ pub fn open_network(
     counts: &mut [u16],
     ticks: &mut [u16],
     travels: &mut [u16],
-) -> Opening
+) -> Result<Header, Refusal>
     ensures { OpenCall file.now
         (tables cells.old opens.old closes.old tails.old
         heads.old counts.old ticks.old travels.old)
@@ -208,35 +165,31 @@ pub fn open_network(
         heads.new counts.new ticks.new travels.new)
         result }
 {
-    match validate(file) {
-        Opening::Refused(r) => Opening::Refused(r),
-        Opening::Opened(h) => {
-            if is_short(
-                h,
-                cells.len(),
-                opens.len(),
-                closes.len(),
-                tails.len(),
-                heads.len(),
-                counts.len(),
-                ticks.len(),
-                travels.len(),
-            ) {
-                return refused(number::TABLE_SHORT, 0);
-            }
-            write_tables(
-                file,
-                h.layout(),
-                cells,
-                opens,
-                closes,
-                tails,
-                heads,
-                counts,
-                ticks,
-                travels,
-            );
-            Opening::Opened(h)
-        }
+    let h = validate(file)?;
+    if is_short(
+        h,
+        cells.len(),
+        opens.len(),
+        closes.len(),
+        tails.len(),
+        heads.len(),
+        counts.len(),
+        ticks.len(),
+        travels.len(),
+    ) {
+        return refused(Reason::TableShort, 0);
     }
+    write_tables(
+        file,
+        h.layout(),
+        cells,
+        opens,
+        closes,
+        tails,
+        heads,
+        counts,
+        ticks,
+        travels,
+    );
+    Ok(h)
 }

@@ -1,20 +1,15 @@
 -- What Pack and Open promise together: what Pack writes opens to the same header and tables (`packed_opens`),
 -- and a file that opens packs to the same bytes (`opened_packs`).
 use mathlib.Core.{Path.◌≡◌, Path.refl, Path.sym, Path.◌∙◌, Path.ap, Path.subst, Path.subst⁻¹, List.List}
-use Rattle.std.specs.Prelude.{Bool, false, ℕ, ◌^◌, ◌≤◌, ◌<◌}
+use Rattle.file_refusals.specs.Apart.{same_value, not_both}
+use Rattle.std.specs.Prelude.{Bool, false, ℕ, ◌^◌, ◌≤◌, ◌<◌, Result, Ok, Err, Option, Some, None, ⊤}
 use Rattle.std.proofs.Common.{arith}
 use lib.{Dec.ltb, ListN.length, ListN.take, ListN.drop, ListN.length-append, Seq.take_at}
 use borrow.Author.Tests.{le-ltb}
 use Rattle.theory_loops.specs.{Fill.length_tab, Fill.overwritten, Pick.passed_by_lem}
 use Rattle.file_fields.specs.Fields.{Bytes}
-use Rattle.file_refusals.specs.declared.{Judged.Judged, Refusal.Refusal}
-use Rattle.file_refusals.specs.declared.Judged.TheVariants.{Sound, Faulty}
-use Rattle.network.specs.declared.answer.Opening.{Opening}
-use Rattle.network.specs.declared.answer.Opening.TheVariants.{Opened}
-use Rattle.network.specs.declared.header.{Header.Header, Made.Made}
-use Rattle.file_refusals.specs.declared.writing.Length.{Length}
-use Rattle.file_refusals.specs.declared.writing.Writing.TheVariants.{Written, Refused}
-use Rattle.network.specs.declared.header.Made.TheVariants.{Inside, Outside}
+use Rattle.file_refusals.specs.declared.{Refusal.Refusal}
+use Rattle.network.specs.declared.header.{Header.Header}
 use Rattle.network.specs.{Limits.WithinLimits, Limits.made_within, Limits.within_made, Layout.layout_of}
 use Rattle.network.specs.{Tables.Tables, Tables.each, Tables.network_of, Rules.judged}
 use Rattle.network.specs.{Decode.header_at, Decode.decode, Validate.validated}
@@ -31,57 +26,51 @@ use Rattle.network_encode.specs.Written.{packed_header}
 use Rattle.network_pack.specs.Packed.{Reopens, Repacks}
 
 -- no refusal packs, so every test on the way was passed
-not_packed : (q : Refusal) (y : Length) → Refused q ≡ Written y → ⊥
-not_packed q y e = let z : ◌≡◌ {A = ℕ} 0 1 = cc in omega arith
+rules_passed : (j : Result ⊤ Refusal) (long room : ℕ) (y : ℕ) → packed_rules j long room ≡ Ok y
+    → (j ≡ Ok tt) × (written_into long room ≡ Ok y)
+rules_passed (Ok _) long room y e = (refl, e)
+rules_passed (Err q) long room y e = not_both q y e
 
-one_length : (a b : Length) → Written a ≡ Written b → a ≡ b
-one_length a b e = cc
+made_passed : (m : Option Header) (t : Tables) (room : ℕ) (y : ℕ) → packed_made m t room ≡ Ok y
+    → (h : Header) × (m ≡ Some h) × (packed_tables h t room ≡ Ok y)
+made_passed (Some h) t room y e = (h, refl, e)
+made_passed None t room y e = not_both (refusal 4 0) y e
 
-rules_passed : (j : Judged) (long room : ℕ) (y : Length) → packed_rules j long room ≡ Written y
-    → (j ≡ Sound) × (written_into long room ≡ Written y)
-rules_passed Sound long room y e = (refl, e)
-rules_passed (Faulty q) long room y e = absurd (not_packed q y e)
-
-made_passed : (m : Made) (t : Tables) (room : ℕ) (y : Length) → packed_made m t room ≡ Written y
-    → (h : Header) × (m ≡ Inside h) × (packed_tables h t room ≡ Written y)
-made_passed (Inside h) t room y e = (h, refl, e)
-made_passed Outside t room y e = absurd (not_packed (refusal 4 0) y e)
-
-module _ (t : Tables) (f : Fields t) (room : ℕ) (y : Length) where
-  tables_reopen : (h : Header) → WithinLimits h → h.number < 2 ^ 32 → packed_tables h t room ≡ Written y
+module _ (t : Tables) (f : Fields t) (room : ℕ) (y : ℕ) where
+  tables_reopen : (h : Header) → WithinLimits h → h.number < 2 ^ 32 → packed_tables h t room ≡ Ok y
       → Reopens h (network_of h t) (encode (network_of h t)) y
   unfolding packed_tables written_into
   tables_reopen h w b e =
       let m = network_of h t in
-      let (s, e₁) = passed_by_lem (too_short h t) _ _ (Written y) (not_packed (refusal 30 0) y) e in
+      let (s, e₁) = passed_by_lem (too_short h t) _ _ (Ok y) (not_both (refusal 30 0) y) e in
       let (j, e₂) = rules_passed (judged m) (length (encode m)) room y e₁ in
-      let (_, e₃) = passed_by_lem (ltb room (length (encode m))) _ _ (Written y) (not_packed (refusal 31 0) y)
+      let (_, e₃) = passed_by_lem (ltb room (length (encode m))) _ _ (Ok y) (not_both (refusal 31 0) y)
       e₂ in
       let p : Packable h (layout_of h) t = now_packable h (layout_of h) t _ w b refl refl s in
       let a : Proper m = packed_proper t p f in
       let z = (sound_exactly m).0 j in
       let u : ValidFile (encode m) (header_of m) = encode_valid a z in
       let v : ValidFile (encode m) h = subst (λ (i : Header). ValidFile (encode m) i) (packed_header t p) u in
-      let o : validated (encode m) ≡ Opened h = (valid_exactly (encode m) h).1 v in
+      let o : validated (encode m) ≡ Ok h = (valid_exactly (encode m) h).1 v in
       record {
-        long = sym (ap (λ (x : Length). x.bytes) (one_length (record { bytes = length (encode m) }) y e₃));
+        long = sym (same_value (length (encode m)) y e₃);
         opens = λ _ g. rw (o, g);
         tables = decode_encode a z;
       }
 
-  pub packed_opens : (h : Header) → h.number < 2 ^ 32 → packing h t room ≡ Written y
+  pub packed_opens : (h : Header) → h.number < 2 ^ 32 → packing h t room ≡ Ok y
       → Reopens h (network_of h t) (encode (network_of h t)) y
   packed_opens h b e =
       let (g, i, k) = made_passed (made_of h) t room y e in
       let (w, q) = made_within h.number h.period h.nodes h.arcs h.cells h.points
       h.hours g i in
       tables_reopen h (subst (λ (o : Header). WithinLimits o) q w) b
-      (subst (λ (o : Header). packed_tables o t room ≡ Written y) q k)
+      (subst (λ (o : Header). packed_tables o t room ≡ Ok y) q k)
 
-open_passed : (o : Opening) (short : Header → Bool) (h : Header) → opened_in o short ≡ Opened h → o ≡ Opened h
-open_passed (Opening.Refused r) short h e = let z : ◌≡◌ {A = ℕ} 0 1 = cc in absurd (omega arith)
-open_passed (Opened k) short h e =
-    (passed_by_lem (short k) _ _ (Opened h) (λ g. let z : ◌≡◌ {A = ℕ} 0 1 = cc in omega arith) e).1
+open_passed : (o : Result Header Refusal) (short : Header → Bool) (h : Header) → opened_in o short ≡ Ok h → o ≡ Ok h
+open_passed (Err r) short h e = not_both r h e
+open_passed (Ok k) short h e =
+    (passed_by_lem (short k) _ _ (Ok h) (λ g. let z : ◌≡◌ {A = ℕ} 0 1 = cc in omega arith) e).1
 
 front : (m : ℕ) (values old : List ℕ) → length values ≡ m → take m (overwritten values old) ≡ values
 front m values old e = take_at values _ m e
@@ -128,7 +117,7 @@ module _ (file : List ℕ) (s : Bytes file) (t : Tables) where
     le-ltb _ _ (roomy h.points (decode file).travels t.travels (length_tab _ _)),
   )
 
-  pub opened_packs : (h : Header) → opening file t ≡ Opened h → (room : ℕ) → length file ≤ room
+  pub opened_packs : (h : Header) → opening file t ≡ Ok h → (room : ℕ) → length file ≤ room
       → Repacks file h (each overwritten (decode file) t) room
   unfolding packed_tables written_into
   opened_packs h o room l =

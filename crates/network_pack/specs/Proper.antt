@@ -1,20 +1,20 @@
 -- The network that is packed: its file has the length that the layout says, and its numbers fit their fields
 -- where the tables are of 16-bit numbers.
 use mathlib.Core.{Path.◌≡◌, Path.sym, Path.◌∙◌, Path.ap, Path.subst⁻¹, List.List}
-use Rattle.std.specs.Prelude.{ℕ, ◌*◌, ◌≤◌, ◌<◌, length, take}
+use Rattle.file_refusals.specs.Refusal.{refused}
+use Rattle.std.specs.Prelude.{ℕ, ◌*◌, ◌≤◌, ◌<◌, length, take, Result, Ok}
 use native.Mathlib.{Omega.arith, Decide.dec_lt}
 use Rattle.std.proofs.Common.{length-take, get_or-take, length-take-le}
 use Rattle.std.proofs.Math.ListN.{get_or-eq_default}
 use Rattle.theory_loops.specs.Fill.{overwritten}
 use Rattle.file_fields.specs.Block.{block_size}
-use Rattle.file_refusals.specs.declared.writing.Writing.{Writing}
-use Rattle.file_refusals.specs.declared.writing.Writing.TheVariants.{Written}
-use Rattle.file_refusals.specs.Writing.{unwritten, into_short, into_whole}
+use Rattle.file_refusals.specs.Writing.{into_short, into_whole}
 use Rattle.network.specs.declared.header.{Header.Header, Layout.Layout}
 use Rattle.network.specs.{Limits.WithinLimits, Layout.all_blocks, Layout.LaidBlocks, Layout.layout_blocks}
 use Rattle.network.specs.{Network.Network, Tables.Tables, Tables.network_of}
 use Rattle.network_encode.specs.{Encode.encode, Encode.Words, Encode.Proper, Packable.Packable}
 use Rattle.network_encode.specs.Written.{packed_header}
+use Rattle.file_refusals.specs.declared.Refusal.{Refusal}
 use Rattle.network_pack.specs.{Pack.WritesNetwork, RoundTrip.encode_long}
 
 -- the entries of the tables have two bytes each
@@ -51,15 +51,15 @@ module _ {h : Header} {l : Layout} (t : Tables) (p : Packable h l t) where
 
   -- FOR THE CODE, which goes by that length: 31, or the file
   module _ (before : List ℕ) where
-    pub room_short : (r : Writing) → length before < block_size * l.blocks → r ≡ unwritten 31
+    pub room_short : (r : Result ℕ Refusal) → length before < block_size * l.blocks → r ≡ refused 31 0
         → WritesNetwork (network_of h t) before before r
     room_short r k e = into_short _ before r (rw packed_long k) e
 
     pub room_whole : (after : List ℕ) → block_size * l.blocks ≤ length before
         → after ≡ overwritten (encode (network_of h t)) before
-        → WritesNetwork (network_of h t) before after (Written (record { bytes = block_size * l.blocks }))
+        → WritesNetwork (network_of h t) before after (Ok (block_size * l.blocks))
     room_whole after k e = record {
-      answer = ap (λ (y : ℕ). Written (record { bytes = y })) (sym packed_long)
+      answer = ap (λ (y : ℕ). Ok y) (sym packed_long)
           ∙ (into_whole (encode n) before after (rw packed_long k) e).answer;
       written = e;
     }

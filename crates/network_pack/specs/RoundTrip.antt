@@ -2,14 +2,13 @@
 -- networks (`opens_exactly`). They are equations of bytes, so it does no harm that a block's check cannot
 -- tell word 0 from word 65,535.
 use mathlib.Core.{Path.◌≡◌, Path.sym, Path.◌∙◌, Path.ap, Path.subst, Logic.◌↔◌, List.List}
-use Rattle.std.specs.Prelude.{ℕ, zero, suc, ◌+◌, ◌*◌, ◌<◌, length}
+use Rattle.std.specs.Prelude.{ℕ, zero, suc, ◌+◌, ◌*◌, ◌<◌, length, Ok}
 use native.Mathlib.{Omega.arith, Decide.dec_lt}
 use Rattle.std.proofs.Math.ListN.{get_or-eq_default}
 use Rattle.theory_loops.specs.Fill.{tab, get_or_tab, length_tab}
 use Rattle.file_fields.specs.{Fields.Bytes, Block.block_size}
 use Rattle.file_blocks.specs.{Place.offset, Table.entry16}
 use Rattle.file_write.specs.Bytes.{file_good}
-use Rattle.network.specs.declared.answer.Opening.TheVariants.{Opened}
 use Rattle.network.specs.declared.header.Header.{Header}
 use Rattle.network.specs.{Layout.arc_block, Layout.point_block, Layout.all_blocks, Network.Network}
 use Rattle.network.specs.{Node.node_size, Node.node_per, Sound.SoundNetwork, Validate.validated}
@@ -141,7 +140,7 @@ module _ {file : List ℕ} {h : Header} (s : Bytes file) (v : ValidFile file h) 
 
 -- nothing in a file that opens is left unchecked
 pub opens_exactly : (file : List ℕ) → Bytes file
-    → ((h : Header) × (validated file ≡ Opened h)) ↔
+    → ((h : Header) × (validated file ≡ Ok h)) ↔
     ((n : Network) × Proper n × SoundNetwork n × (file ≡ encode n))
 opens_exactly file s = (
   λ x. let v = (valid_exactly file x.0).0 x.1 in

@@ -7,9 +7,9 @@ ghost use Rattle.network_encode.specs.Packable.{Packable};
 ghost use Rattle.network_pack.specs.Pack.{numbers, WritesNetwork, PacksNetwork, PacksTables, PackCall};
 
 use file_fields::BLOCK;
-use file_refusals::writing::{Length, Writing, unwritten};
-use file_refusals::{Judged, number};
-use network::header::{Header, Layout, Made};
+use file_refusals::reason::Reason;
+use file_refusals::{Refusal, refused};
+use network::header::{Header, Layout};
 use network_encode::encode::encode_network;
 use network_open::open::is_short;
 use network_tables::rules::judge_tables;
@@ -27,7 +27,7 @@ fn write_out(
     ticks: &[u16],
     travels: &[u16],
     out: &mut [u8],
-) -> Writing
+) -> Result<u32, Refusal>
     requires { Packable h l
         (tables cellof.now opens.now closes.now tails.now heads.now counts.now ticks.now
         travels.now) }
@@ -38,12 +38,12 @@ fn write_out(
 {
     let long = BLOCK * l.blocks;
     if out.len() < long {
-        return unwritten(number::ANSWER_SHORT);
+        return refused(Reason::AnswerShort, 0);
     }
     encode_network(
         out, h, l, cellof, opens, closes, tails, heads, counts, ticks, travels,
     );
-    Writing::Written(Length { bytes: long as u32 })
+    Ok(long as u32)
 }
 
 // Refusals 7 to 10, 37 and 31, or the file.
@@ -59,7 +59,7 @@ fn pack_tables(
     ticks: &[u16],
     travels: &[u16],
     out: &mut [u8],
-) -> Writing
+) -> Result<u32, Refusal>
     requires { Packable h l
         (tables cellof.now opens.now closes.now tails.now heads.now counts.now ticks.now
         travels.now) }
@@ -68,14 +68,12 @@ fn pack_tables(
         heads.now counts.now ticks.now travels.now))
         out.old out.new result }
 {
-    match judge_tables(
+    judge_tables(
         h, l, cellof, opens, closes, tails, heads, counts, ticks, travels,
-    ) {
-        Judged::Sound => write_out(
-            h, l, cellof, opens, closes, tails, heads, counts, ticks, travels, out,
-        ),
-        Judged::Faulty(r) => Writing::Refused(r),
-    }
+    )?;
+    write_out(
+        h, l, cellof, opens, closes, tails, heads, counts, ticks, travels, out,
+    )
 }
 
 // Refusals 7 to 10, 37, 30 and 31 of numbers within the limits, or the file written.
@@ -90,7 +88,7 @@ fn pack_within(
     ticks: &[u16],
     travels: &[u16],
     out: &mut [u8],
-) -> Writing
+) -> Result<u32, Refusal>
     requires { WithinLimits h × (h.number < 2 ^ 32) }
     ensures { PacksTables h
         (tables cellof.now opens.now closes.now tails.now
@@ -108,7 +106,7 @@ fn pack_within(
         ticks.len(),
         travels.len(),
     ) {
-        return unwritten(number::TABLE_SHORT);
+        return refused(Reason::TableShort, 0);
     }
     pack_tables(
         h,
@@ -144,16 +142,16 @@ pub fn pack_network(
     ticks: &[u16],
     travels: &[u16],
     out: &mut [u8],
-) -> Writing
+) -> Result<u32, Refusal>
     ensures { PackCall (numbers number period nodes arcs cells points hours)
         (tables cellof.now opens.now closes.now tails.now
         heads.now counts.now ticks.now travels.now)
         out.old out.new result }
 {
     match Header::new(number, period, nodes, arcs, cells, points, hours) {
-        Made::Inside(h) => pack_within(
+        Some(h) => pack_within(
             h, cellof, opens, closes, tails, heads, counts, ticks, travels, out,
         ),
-        Made::Outside => unwritten(number::NETWORK_LIMITS),
+        None => refused(Reason::NetworkLimits, 0),
     }
 }

@@ -1,70 +1,69 @@
 -- The ladder of the rules 7, 37, 8, 9 and 10 as code climbs it that knows a network's sizes, on a file in
 -- place or on tables: each rung is taken, or passed.
-use Rattle.std.specs.Prelude.{◌≡◌, ℕ, ◌≤◌, ◌<◌}
+use Rattle.file_refusals.specs.Refusal.{refused}
+use Rattle.std.specs.Prelude.{◌≡◌, ℕ, ◌≤◌, ◌<◌, Result, Ok, ⊤}
 use Rattle.std.proofs.Math.Path.{sym}
 use Rattle.std.proofs.Common.{◌∙◌, arith}
 use borrow.Author.Tests.{lt-ltb, le-ltb, eq-eqb, ne_eqb}
 use Rattle.theory_loops.specs.{First.first, First.first_le, First.clear, Pick.at_first, Pick.past_first}
-use Rattle.file_refusals.specs.declared.Judged.{Judged}
-use Rattle.file_refusals.specs.declared.Judged.TheVariants.{Sound}
 use Rattle.network.specs.declared.header.Layout.{Layout}
 use Rattle.network_scan.specs.declared.scan.Scan.{Scan}
 use Rattle.network.specs.Network.{Network, nodes, arcs, points, start}
 use Rattle.network.specs.{Decode.Sizes, Rules.judged_hours, Rules.judged, FirstPoint.Counted}
 use Rattle.network.proofs.Sound.{arc_sound}
-use Rattle.file_refusals.specs.Refusal.{faulty}
 use Rattle.network.specs.Rules.{bad_cell, bad_hours_of, bad_arc, judged_points, judged_sum, judged_arcs}
+use Rattle.file_refusals.specs.declared.Refusal.{Refusal}
 use Rattle.network_scan.specs.ScanAll.{ScannedAll}
 
 module _ {n : Network} {l : Layout} (s : Sizes n l) where
   -- 7
-  module _ (v : ℕ) (r : Judged) (e : v ≡ first l.nodes (bad_cell n)) where
-    pub cell_taken : v < l.nodes → r ≡ faulty 7 v → r ≡ judged n
+  module _ (v : ℕ) (r : Result ⊤ Refusal) (e : v ≡ first l.nodes (bad_cell n)) where
+    pub cell_taken : v < l.nodes → r ≡ refused 7 v → r ≡ judged n
     unfolding judged
     cell_taken h f =
         let q = s.nodes in
-        at_first r _ (faulty 7) (nodes n) v (bad_cell n) (rw q at e) (rw q at h) f
+        at_first r _ (refused 7) (nodes n) v (bad_cell n) (rw q at e) (rw q at h) f
 
     pub cells_passed : l.nodes ≤ v → r ≡ judged_hours n → r ≡ judged n
     unfolding judged
     cells_passed h f =
         let q = s.nodes in
-        past_first r _ (faulty 7) (nodes n) v (bad_cell n) (rw q at e) (rw q at h) f
+        past_first r _ (refused 7) (nodes n) v (bad_cell n) (rw q at e) (rw q at h) f
 
   -- 37
-  module _ (v : ℕ) (r : Judged) (e : v ≡ first l.nodes (bad_hours_of n)) where
-    pub hours_taken : v < l.nodes → r ≡ faulty 37 v → r ≡ judged_hours n
+  module _ (v : ℕ) (r : Result ⊤ Refusal) (e : v ≡ first l.nodes (bad_hours_of n)) where
+    pub hours_taken : v < l.nodes → r ≡ refused 37 v → r ≡ judged_hours n
     unfolding judged_hours
     hours_taken h f =
         let q = s.nodes in
-        at_first r _ (faulty 37) (nodes n) v (bad_hours_of n) (rw q at e) (rw q at h) f
+        at_first r _ (refused 37) (nodes n) v (bad_hours_of n) (rw q at e) (rw q at h) f
 
     pub hours_passed : l.nodes ≤ v → r ≡ judged_arcs n → r ≡ judged_hours n
     unfolding judged_hours
     hours_passed h f =
         let q = s.nodes in
-        past_first r _ (faulty 37) (nodes n) v (bad_hours_of n) (rw q at e) (rw q at h) f
+        past_first r _ (refused 37) (nodes n) v (bad_hours_of n) (rw q at e) (rw q at h) f
 
   -- 8
-  module _ (a : ℕ) (r : Judged) (e : a ≡ first l.arcs (bad_arc n)) where
-    pub arc_taken : a < l.arcs → r ≡ faulty 8 a → r ≡ judged_arcs n
+  module _ (a : ℕ) (r : Result ⊤ Refusal) (e : a ≡ first l.arcs (bad_arc n)) where
+    pub arc_taken : a < l.arcs → r ≡ refused 8 a → r ≡ judged_arcs n
     unfolding judged_arcs
     arc_taken h f =
         let q = s.arcs in
-        at_first r _ (faulty 8) (arcs n) a (bad_arc n) (rw q at e) (rw q at h) f
+        at_first r _ (refused 8) (arcs n) a (bad_arc n) (rw q at e) (rw q at h) f
 
     pub arcs_passed_lem : l.arcs ≤ a → r ≡ judged_sum n → r ≡ judged_arcs n
     unfolding judged_arcs
     arcs_passed_lem h f =
         let q = s.arcs in
-        past_first r _ (faulty 8) (arcs n) a (bad_arc n) (rw q at e) (rw q at h) f
+        past_first r _ (refused 8) (arcs n) a (bad_arc n) (rw q at e) (rw q at h) f
 
   -- 8, the sum
-  module _ (k : ℕ) (r : Judged) (e : k ≡ start n l.arcs) where
+  module _ (k : ℕ) (r : Result ⊤ Refusal) (e : k ≡ start n l.arcs) where
     sum_is : k ≡ start n (arcs n)
     sum_is = rw s.arcs at e
 
-    pub sum_taken : (k ≡ l.points → ⊥) → r ≡ faulty 8 l.arcs → r ≡ judged_sum n
+    pub sum_taken : (k ≡ l.points → ⊥) → r ≡ refused 8 l.arcs → r ≡ judged_sum n
     unfolding judged_sum
     sum_taken h f =
         let q = s.points in
@@ -88,8 +87,8 @@ module _ {n : Network} {l : Layout} (s : Sizes n l) where
       }
 
 -- 9 and 10, of Q points
-module _ {n : Network} {Q : ℕ} (q : Q ≡ points n) (t : Scan) (r : Judged) (e : ScannedAll n t) where
-  pub point_taken : t.bad < Q → r ≡ faulty 9 t.bad → r ≡ judged_points n
+module _ {n : Network} {Q : ℕ} (q : Q ≡ points n) (t : Scan) (r : Result ⊤ Refusal) (e : ScannedAll n t) where
+  pub point_taken : t.bad < Q → r ≡ refused 9 t.bad → r ≡ judged_points n
   unfolding judged_points
   point_taken h f = rw (← e.bad, lt-ltb t.bad (points n) (rw q at h)) f
 
@@ -98,7 +97,7 @@ module _ {n : Network} {Q : ℕ} (q : Q ≡ points n) (t : Scan) (r : Judged) (e
     fine : t.bad ≡ points n
     fine = omega (arith, e.within)
 
-    pub late_taken : t.late < Q → r ≡ faulty 10 t.late → r ≡ judged_points n
+    pub late_taken : t.late < Q → r ≡ refused 10 t.late → r ≡ judged_points n
     unfolding judged_points
     late_taken h f =
         rw (
@@ -108,7 +107,7 @@ module _ {n : Network} {Q : ℕ} (q : Q ≡ points n) (t : Scan) (r : Judged) (e
           lt-ltb t.late (points n) (rw q at h),
         ) f
 
-    pub points_passed : Q ≤ t.late → r ≡ Sound → r ≡ judged_points n
+    pub points_passed : Q ≤ t.late → r ≡ Ok tt → r ≡ judged_points n
     unfolding judged_points
     points_passed h f =
         rw (

@@ -10,9 +10,9 @@ ghost use Rattle.network.specs.Rules.{judged_points, judged_arcs, judged};
 ghost use Rattle.network.specs.FirstPoint.{Counted};
 ghost use Rattle.network_rules.specs.ScanArcs.{ArcsPassed, ArcsScanned};
 
-use file_blocks::kind::ARC_PER;
-use file_blocks::place::{blocks, entries_in};
-use file_refusals::{Judged, faulty, number};
+use file_blocks::kind::ARC;
+use file_refusals::reason::Reason;
+use file_refusals::{Refusal, refused};
 use network::arcs::entry_in;
 use network::header::Layout;
 use network::read;
@@ -41,13 +41,8 @@ fn first_bad_cell(file: &[u8], l: Layout) -> usize
     requires { Laid file.now l }
     ensures { result ≡ first l.nodes (bad_cell (decode file.now)) }
 {
-    let nodes = l.nodes;
-    for v in 0..nodes {
-        if is_bad_cell(file, l, v) {
-            return v;
-        }
-    }
-    nodes
+    let bad = (0..l.nodes).position(|v| is_bad_cell(file, l, v));
+    bad.unwrap_or(l.nodes)
 }
 
 // Where no hours are held: is a node that opens and closes at these ticks not open all day?
@@ -92,16 +87,11 @@ fn first_bad_hours(file: &[u8], l: Layout) -> usize
     requires { Laid file.now l }
     ensures { result ≡ first l.nodes (bad_hours_of (decode file.now)) }
 {
-    let nodes = l.nodes;
     if l.hours == 0 {
-        return nodes;
+        return l.nodes;
     }
-    for v in 0..nodes {
-        if is_bad_hours(file, l, v) {
-            return v;
-        }
-    }
-    nodes
+    let bad = (0..l.nodes).position(|v| is_bad_hours(file, l, v));
+    bad.unwrap_or(l.nodes)
 }
 
 // Rule 8 for an arc of these ends and this count of points.
@@ -131,7 +121,7 @@ fn scan_block(file: &[u8], l: Layout, j: usize, m: usize, before: usize) -> Arcs
     requires arcs_passed { ArcsPassed (decode file.now) (arc_per * j) before }
     ensures { ArcsScanned (decode file.now) (arc_per * j + m) result.bad result.sum }
 {
-    let first = ARC_PER * j;
+    let first = ARC.per * j;
     let mut sum = before;
     for e in 0..m {
         let arc = entry_in(file, l, j, e);
@@ -158,10 +148,10 @@ fn scan_arcs(file: &[u8], l: Layout) -> Arcs
 {
     let arcs = l.arcs;
     let mut sum = 0;
-    for j in 0..blocks(ARC_PER, arcs) {
-        let m = entries_in(ARC_PER, arcs, j);
+    for j in 0..ARC.blocks(arcs) {
+        let m = ARC.entries_in(arcs, j);
         let found = scan_block(file, l, j, m, sum);
-        if found.bad < ARC_PER * j + m {
+        if found.bad < ARC.per * j + m {
             return found;
         }
         sum = found.sum;
@@ -170,54 +160,54 @@ fn scan_arcs(file: &[u8], l: Layout) -> Arcs
 }
 
 // Rules 9 and 10. Where they are kept, a test that finds no place says so sooner.
-fn judge_points(file: &[u8], l: Layout) -> Judged
+fn judge_points(file: &[u8], l: Layout) -> Result<(), Refusal>
     requires laid { Laid file.now l }
     requires counted { Counted (decode file.now) }
     ensures { result ≡ judged_points (decode file.now) }
 {
     if is_steady(file, l) {
-        return Judged::Sound;
+        return Ok(());
     }
     let scan = scan_points(file, l);
     let bad = scan.bad;
     if bad < l.points {
-        return faulty(number::NETWORK_POINT, bad as u32);
+        return refused(Reason::NetworkPoint, bad as u32);
     }
     let late = scan.late;
     if late < l.points {
-        return faulty(number::NETWORK_FIFO, late as u32);
+        return refused(Reason::NetworkFifo, late as u32);
     }
-    Judged::Sound
+    Ok(())
 }
 
 // Rules 8 to 10.
-fn judge_arcs(file: &[u8], l: Layout) -> Judged
+fn judge_arcs(file: &[u8], l: Layout) -> Result<(), Refusal>
     requires { Laid file.now l }
     ensures { result ≡ judged_arcs (decode file.now) }
 {
     let found = scan_arcs(file, l);
     let a = found.bad;
     if a < l.arcs {
-        return faulty(number::NETWORK_ROAD, a as u32);
+        return refused(Reason::NetworkRoad, a as u32);
     }
     if found.sum != l.points {
-        return faulty(number::NETWORK_ROAD, l.arcs as u32);
+        return refused(Reason::NetworkRoad, l.arcs as u32);
     }
     judge_points(file, l)
 }
 
 // The first of the rules 7, 37, 8, 9 and 10 that the network breaks, and its lowest place.
-pub fn judge(file: &[u8], l: Layout) -> Judged
+pub fn judge(file: &[u8], l: Layout) -> Result<(), Refusal>
     requires { Laid file.now l }
     ensures { result ≡ judged (decode file.now) }
 {
     let v = first_bad_cell(file, l);
     if v < l.nodes {
-        return faulty(number::NETWORK_CELL, v as u32);
+        return refused(Reason::NetworkCell, v as u32);
     }
     let u = first_bad_hours(file, l);
     if u < l.nodes {
-        return faulty(number::NETWORK_HOURS, u as u32);
+        return refused(Reason::NetworkHours, u as u32);
     }
     judge_arcs(file, l)
 }

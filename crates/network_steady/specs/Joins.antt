@@ -1,11 +1,11 @@
 -- Where the order of points goes on: from one point to the next, by a test of both as numbers (`join_of`), at
 -- every point of a row (`joined`), and as code counts it in the points of a file.
 use mathlib.Core.{Path.◌≡◌, Path.sym, Path.◌∙◌, Path.ap, List.List}
-use Rattle.std.specs.Prelude.{ℕ, suc, ◌+◌, ◌-◌, ◌*◌, ◌/◌, ◌%◌, ◌^◌, ◌<◌, ◌≤◌, min, Bool, true, ◌&&◌, length, ◌≢◌}
+use Rattle.std.specs.Prelude.{ℕ, suc, ◌+◌, ◌-◌, ◌*◌, ◌/◌, ◌%◌, ◌^◌, ◌<◌, ◌≤◌, min, Bool, true, ◌&&◌, length}
 use Rattle.std.proofs.Math.Bool.{and-eq-true_iff}
 use native.Mathlib.{Nat.add-zero, Decide.dec_lt, Omega.arith}
 use lib.{Bits.bit_and, Bits.and_shr, Bits.and_mod, Bits.and_le_l, Bits.and_le_r, Dec.eqb, Dec.ltb, Dec.lit<}
-use borrow.Author.Tests.{eqb-true, ltb-true, lt-ltb, eq-eqb, ne_eqb}
+use borrow.Author.Tests.{eqb-true, ltb-true, lt-ltb}
 use Rattle.theory_loops.specs.Count as Count
 use Rattle.theory_breaks.specs.Tally.{flag, flag_few, before, tally_more, tally_block}
 use Rattle.file_fields.specs.{Block.block_size, Block.head_size, Fields.le16}
@@ -160,22 +160,6 @@ unfolding joins
 join_read file period s w last o next e q = rw (e, q.is, lt-ltb _ _ q.tick, lt-ltb _ _ q.travel)
 
 -- FOR CODE that makes the test
-pub minus_is : (a b r : ℕ) → a < 2 ^ 32 → b < 2 ^ 32 → r < 2 ^ 32 → (r + b) % 2 ^ 32 ≡ a → r ≡ minus a b
-unfolding minus
-minus_is a b r k l m e = omega arith
-
-pub join_yes : (period last next d o a b : ℕ) → d ≡ minus last next → o ≡ (d + d % 65536 * 65536) % 2 ^ 32
-    → a ≡ minus 65535 next → b ≡ minus next (65536 * period + 32768)
-    → bit_and (bit_and o (bit_and a b)) signs ≡ signs → 1 ≡ flag (join_of period last next)
-unfolding join_of signed ends
-join_yes period last next d o a b e f g h y = rw (← e, ← f, ← g, ← h, eq-eqb _ _ y)
-
-pub join_no : (period last next d o a b : ℕ) → d ≡ minus last next → o ≡ (d + d % 65536 * 65536) % 2 ^ 32
-    → a ≡ minus 65535 next → b ≡ minus next (65536 * period + 32768)
-    → (bit_and (bit_and o (bit_and a b)) signs ≢ signs) → 0 ≡ flag (join_of period last next)
-unfolding join_of signed ends
-join_no period last next d o a b e f g h y = rw (← e, ← f, ← g, ← h, ne_eqb _ _ y)
-
 -- THE LOOP over points side by side: one point more
 pub beside_more : (file : List ℕ) (base period c e y x r : ℕ) → c ≡ Count.count e (join_at period file base)
     → PointAt file (base + point_size * e) y → PointAt file (base + point_size * e + point_size) x

@@ -1,7 +1,7 @@
 -- Whether all points keep the rules 9 and 10, yes or no: where the order of the points goes on at all but as
 -- many points as there are arcs, and every arc's day closes, no point breaks a rule.
 use mathlib.Core.{Path.◌≡◌, Path.refl, Path.sym, Path.◌∙◌, Bool.Bool, Bool.true, Bool.false, Bool.not}
-use Rattle.std.specs.Prelude.{ℕ, zero, suc, ◌+◌, ◌-◌, ◌^◌, ◌<◌, ◌≤◌, List, ◌≢◌}
+use Rattle.std.specs.Prelude.{ℕ, zero, suc, ◌+◌, ◌-◌, ◌^◌, ◌<◌, ◌≤◌, List, ◌≢◌, Ok}
 use native.Mathlib.{Nat.le_of_lt, Decide.dec_lt, Numerals.add-one, Omega.arith}
 use borrow.Author.Tests.{le-ltb, not-false}
 use Rattle.theory_loops.specs.Count as Count
@@ -9,7 +9,6 @@ use Rattle.theory_loops.specs.{First.first, First.all_clear, Total.total, Total.
 use Rattle.theory_breaks.specs.{Tally.before, Tally.tally_all, Breaks.Begun, Breaks.only_first}
 use Rattle.theory_travel.specs.{Day.Day, Day.closed_in, Day.closed_end, Points.climbs, Ticks.ticks_day}
 use Rattle.theory_travel.specs.Table.{entry_at, entry_first}
-use Rattle.file_refusals.specs.declared.Judged.TheVariants.{Sound}
 use Rattle.network.specs.declared.header.Layout.{Layout}
 use Rattle.network.specs.{Limits.most_period, Decode.decode, Decode.Laid, Decode.laid_sizes, Decode.laid_small}
 use Rattle.network.specs.Network.{Network, arcs, points, count, start, tick, travel}
@@ -156,7 +155,7 @@ module _ (n : Network) (small : n.period ≤ most_period) (c : Counted n) (d : A
         le-ltb (first (count n a) (overtaken_of n a)) (count n a) (omega arith)
 
   -- THE LAW
-  pub steady_sound : Sound ≡ judged_points n
+  pub steady_sound : (Ok tt) ≡ judged_points n
   unfolding judged_points
   steady_sound =
       rw (
@@ -167,14 +166,14 @@ module _ (n : Network) (small : n.period ≤ most_period) (c : Counted n) (d : A
 
 -- FOR CODE that has counted where the order of a file's points goes on, and asked whether all days close
 module _ {file : List ℕ} {l : Layout} (s : Laid file l) where
-  pub steady_no : false ≡ true → Sound ≡ judged_points (decode file)
+  pub steady_no : false ≡ true → Ok tt ≡ judged_points (decode file)
   steady_no e = let z : ◌≡◌ {A = ℕ} 0 1 = cc in absurd (omega arith)
 
   pub steady_yes : (k : ℕ) (b : Bool) → Counted (decode file)
       → k ≡ Count.count (points (decode file))
       (joined l.period (tick (decode file)) (travel (decode file)))
       → k + l.arcs ≡ l.points → (b ≡ true → AllClosed (decode file)) → b ≡ true
-      → Sound ≡ judged_points (decode file)
+      → Ok tt ≡ judged_points (decode file)
   steady_yes k b c e f g h =
       let w = laid_sizes s in
       let q = rw w.period at e in

@@ -11,7 +11,6 @@ ghost use Rattle.network_steady.specs.Closes.{PointOf, unclosed, Closing};
 
 use crate::joins::{FIELD, point_at};
 use file_blocks::kind;
-use file_blocks::place::{blocks, entries_in};
 use file_fields::{BLOCK, HEAD};
 use network::arcs::entry_in;
 use network::header::Layout;
@@ -24,7 +23,7 @@ pub struct Closes {
 }
 
 // The bytes between the points of a block and those of the next.
-const BETWEEN: usize = BLOCK - kind::POINT_SIZE * kind::POINT_PER;
+const BETWEEN: usize = BLOCK - kind::POINT.size * kind::POINT.per;
 
 // Point q as one number. A division of 32 bits costs a processor less than one of 64.
 fn point(file: &[u8], l: Layout, q: usize) -> u32
@@ -32,8 +31,8 @@ fn point(file: &[u8], l: Layout, q: usize) -> u32
     requires q_lt_points { q < l.points }
     ensures { PointOf (decode file.now) q result }
 {
-    let passed = q as u32 / (kind::POINT_PER as u32);
-    let at = BLOCK * l.pointblock + HEAD + kind::POINT_SIZE * q + BETWEEN * (passed as usize);
+    let passed = q as u32 / (kind::POINT.per as u32);
+    let at = BLOCK * l.pointblock + HEAD + kind::POINT.size * q + BETWEEN * (passed as usize);
     point_at(file, at)
 }
 
@@ -102,8 +101,8 @@ pub fn are_closed(file: &[u8], l: Layout) -> bool
 {
     let arcs = l.arcs;
     let mut sum = 0;
-    for j in 0..blocks(kind::ARC_PER, arcs) {
-        let m = entries_in(kind::ARC_PER, arcs, j);
+    for j in 0..kind::ARC.blocks(arcs) {
+        let m = kind::ARC.entries_in(arcs, j);
         let found = close_block(file, l, j, m, sum);
         let all = found.all;
         if !all {

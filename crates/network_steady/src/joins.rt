@@ -7,11 +7,9 @@ ghost use Rattle.file_blocks.specs.Kind.{point_size, point_per};
 ghost use Rattle.network.specs.Limits.{most_period};
 ghost use Rattle.network.specs.Network.{points, tick, travel};
 ghost use Rattle.network.specs.Decode.{decode, Laid};
-ghost use Rattle.network_steady.specs.Joins;
 ghost use Rattle.network_steady.specs.Joins.{PointAt, join_of, join_at, joined};
 
 use file_blocks::kind;
-use file_blocks::place::{blocks, entries_in};
 use file_fields::fields::le16;
 use file_fields::{BLOCK, HEAD};
 use network::header::Layout;
@@ -23,23 +21,16 @@ const HALF: u32 = 32768;
 
 const SIGNS: u32 = 2147516416;
 
-// a - b, which wraps below 0.
-fn minus(a: u32, b: u32) -> u32
-    ensures { result ≡ Joins.minus a b }
-{
-    std::num::wrapping_sub_u32(a, b)
-}
-
 // 1 where the order goes on from one point to the next, 0 where it breaks off. Each of three differences has
 // to go below 0 in both of its fields, so that a processor judges some pairs at once.
 fn joins(period: u32, last: u32, next: u32) -> u32
     requires { period ≤ most_period }
     ensures { result ≡ flag (join_of period last next) }
 {
-    let back = minus(last, next);
-    let order = std::num::wrapping_add_u32(back, back % FIELD * FIELD);
-    let range = minus(FIELD - 1, next) & minus(next, FIELD * period + HALF);
-    if order & range & SIGNS == SIGNS { 1 } else { 0 }
+    let back = last.wrapping_sub(next);
+    let order = back.wrapping_add(back % FIELD * FIELD);
+    let range = (FIELD - 1).wrapping_sub(next) & next.wrapping_sub(FIELD * period + HALF);
+    u32::from(order & range & SIGNS == SIGNS)
 }
 
 // The point at byte o as one number: its tick below its travel.
@@ -47,7 +38,7 @@ pub fn point_at(file: &[u8], o: usize) -> u32
     requires { o + point_size ≤ length file.now }
     ensures { PointAt file.now o result }
 {
-    le16(file, o) as u32 + FIELD * (le16(file, o + 2) as u32)
+    u32::from(le16(file, o)) + FIELD * u32::from(le16(file, o + 2))
 }
 
 // How many of m points go on from the one before, behind a point at byte `base`, side by side with it.
@@ -57,8 +48,8 @@ fn joins_beside(file: &[u8], base: usize, m: usize, period: u32) -> u32
 {
     let mut count = 0;
     for e in 0..m {
-        let last = point_at(file, base + kind::POINT_SIZE * e);
-        let next = point_at(file, base + kind::POINT_SIZE * e + kind::POINT_SIZE);
+        let last = point_at(file, base + kind::POINT.size * e);
+        let next = point_at(file, base + kind::POINT.size * e + kind::POINT.size);
         count += joins(period, last, next);
     }
     count
@@ -72,16 +63,16 @@ pub fn count_joins(file: &[u8], l: Layout) -> u32
 {
     let period = l.period as u32;
     let points = l.points;
-    let runs = blocks(kind::POINT_PER, points);
+    let runs = kind::POINT.blocks(points);
     let mut last = 0;
     let mut count = 0;
     for j in 0..runs {
-        let m = entries_in(kind::POINT_PER, points, j) - 1;
+        let m = kind::POINT.entries_in(points, j) - 1;
         let base = BLOCK * (l.pointblock + j) + HEAD;
         let next = point_at(file, base);
         count += joins(period, last, next);
         count += joins_beside(file, base, m, period);
-        last = point_at(file, base + kind::POINT_SIZE * m);
+        last = point_at(file, base + kind::POINT.size * m);
     }
     count
 }

@@ -1,16 +1,16 @@
 -- Tables that are as long as a header says (`Cut`) with their network (`whole`), and the tests of the rules
 -- by the tables that they read. What the rules 9 and 10 say needs the points of the arcs alone (`bare`).
 use mathlib.Core.{Path.◌≡◌, Path.sym, Path.◌∙◌, Path.ap, Bool.Bool, List.List, List.[]}
-use Rattle.std.specs.Prelude.{ℕ}
+use Rattle.std.specs.Prelude.{ℕ, Result, ⊤}
 use lib.{ListN.length, ListN.get_or, ListN.take, Seq.length-take-le, Dec.leb}
 use Rattle.theory_loops.specs.{First.first, Total.total}
-use Rattle.file_refusals.specs.declared.Judged.{Judged}
 use Rattle.network.specs.declared.header.{Header.Header, Layout.Layout}
 use Rattle.network.specs.{Layout.layout_of, Layout.LaidBlocks, Layout.layout_blocks, Rules.judged}
 use Rattle.network.specs.{Network.Network, Network.nodes, Network.start, FirstPoint.Counted}
 use Rattle.network.specs.Tables.{Tables, tables, network_of}
 use Rattle.network.specs.Decode.{Sizes, Small, layout_small}
 use Rattle.network.specs.Rules.{bad_cell, bad_hours, bad_hours_of, bad_ends, bad_arc, first_point, judged_points}
+use Rattle.file_refusals.specs.declared.Refusal.{Refusal}
 use Rattle.network_encode.specs.Packable.{Packable}
 
 -- the network of a header and of whole tables
@@ -114,7 +114,7 @@ module _ {h : Header} {l : Layout} {t : Tables} (c : Cut h l t) where
   unfolding start
   counted_bare s = record { some = λ a m. s.some a (rw arcs_same at m); sum = rw arcs_same s.sum }
 
-  pub points_judged : {r : Judged} → r ≡ judged_points (bare l.period t.counts t.ticks t.travels)
+  pub points_judged : {r : Result ⊤ Refusal} → r ≡ judged_points (bare l.period t.counts t.ticks t.travels)
       → r ≡ judged_points (whole h t)
   unfolding judged_points first_point start
   points_judged e = rw (arcs_same, c.sizes.period) at e
@@ -155,7 +155,7 @@ module _ {h : Header} {l : Layout} {t : Tables} (p : Packable h l t) where
         travels_long = length-take-le l.points t.travels r.travels_room;
       }
 
-  pub cut_judged : {r : Judged} → r ≡ judged (whole h (cut_to l t)) → r ≡ judged (network_of h t)
+  pub cut_judged : {r : Result ⊤ Refusal} → r ≡ judged (whole h (cut_to l t)) → r ≡ judged (network_of h t)
   cut_judged e =
       let q : LaidBlocks h l = layout_blocks p.is in
       rw (q.nodes, q.arcs, q.points) at e

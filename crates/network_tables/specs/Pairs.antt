@@ -1,20 +1,18 @@
 -- Two points side by side, as code holds one against the next in numbers of 16 bits, and the loop over all of
 -- them.
-use mathlib.Core.{Path.◌≡◌, Path.refl, Path.◌∙◌, Bool.Bool, Bool.true, Bool.false, Bool.cond, List.List}
-use Rattle.std.specs.Prelude.{ℕ, ◌+◌, ◌-◌, ◌*◌, ◌≤◌, ◌<◌, min}
+use mathlib.Core.{Path.◌≡◌, Path.◌∙◌, Bool.Bool, List.List}
+use mir.Val.{bool_byte}
+use Rattle.std.specs.Prelude.{ℕ, ◌+◌, ◌-◌, ◌%◌, ◌≤◌, ◌<◌, min, max}
 use native.Mathlib.{Omega.arith, Decide.dec_lt}
 use lib.{ListN.get_or, Dec.eqb}
-use Rattle.theory_loops.specs.Count.{count, count_none, count_yes, count_no, count_few}
+use Rattle.theory_loops.specs.Count.{count, count_none, count_few}
+use Rattle.theory_breaks.specs.Tally.{tally_more, flag_of}
 use Rattle.network.specs.Limits.{most_period}
 use Rattle.network_tables.specs.declared.steady.Pairs.{Pairs}
 
 -- one less, and of 0 the largest number of 16 bits
 abbrev pub less_one : ℕ → ℕ
-less_one x = x - 1 + 65535 * (1 - x)
-
--- one more where a test holds
-unfoldable pub count_on : ℕ → Bool → ℕ
-count_on c test = cond test (c + 1) c
+less_one x = (x + 65535) % 65536
 
 -- a point with tick t and travel v before one with tick u and travel w: its travel is 1 to the period, and
 -- where the next starts no arc, its tick and its end are in order with the next
@@ -32,40 +30,27 @@ start_after ticks q = eqb (get_or ticks (q + 1) 0) 0
 pub record Paired (period : ℕ) (ticks travels : List ℕ) (m : ℕ) (r : Pairs) : Type 0 where
   pub starts : r.starts ≡ count m (start_after ticks)
   pub ordered : r.fault ≡ 0 → (q : ℕ) → q < m
-      → Ordered period (get_or ticks q 0) (get_or travels q 0) (get_or ticks (q + 1) 0) (get_or travels (q + 1) 0)
+      → Ordered period (get_or ticks q 0) (get_or travels q 0)
+      (get_or ticks (q + 1) 0) (get_or travels (q + 1) 0)
 
--- FOR THE CODE, which works with one less of the next tick and of the travel: numbers whose sum is none are
--- none, and two points of which nothing is over are in order
-pub both_none : {x y r : ℕ} → r ≡ min (x + y) 65535 → r ≡ 0 → (x ≡ 0) × (y ≡ 0)
-both_none e z = (omega arith, omega arith)
-
-travel_by : (period v over : ℕ) → over ≡ less_one v → over - (period - 1) ≡ 0
-    → (0 < period) × (period ≤ most_period) → over + 1 ≡ v
-travel_by period v over e s l = omega arith
-
-most_by : (period v over : ℕ) → over + 1 ≡ v → over - (period - 1) ≡ 0 → 0 < period → v ≤ period
-most_by period v over e s l = omega arith
-
-next_by : (u low : ℕ) → low ≡ less_one u → 0 < u → low + 1 ≡ u
-next_by u low e h = omega arith
-
-rise_by : (t u low : ℕ) → t - low ≡ 0 → low + 1 ≡ u → t < u
-rise_by t u low h e = omega arith
-
-kept_by : (t v u w low over : ℕ) → low + 1 ≡ u → over + 1 ≡ v
-    → min (t + over) 65535 - min (low + w) 65535 ≡ 0 → u + w ≤ 65535 → t + v ≤ u + w
-kept_by t v u w low over e f h l = omega arith
-
-pub ordered_by : (period t v u w low over : ℕ) → low ≡ less_one u → over ≡ less_one v
-    → (0 < period) × (period ≤ most_period) → over - (period - 1) ≡ 0 → t - low ≡ 0
-    → min (t + over) 65535 - min (low + w) 65535 ≡ 0 → Ordered period t v u w
-ordered_by period t v u w low over e f l s g h =
-    let o : over + 1 ≡ v = travel_by period v over f s l in
+-- FOR THE CODE, which works with one less of the next tick and of the travel: two points of which nothing is
+-- over are in order
+pub ordered_by : (period t v u w : ℕ) {early a b late c d r : ℕ} → v < 65536 → u < 65536
+    → (0 < period) × (period ≤ most_period) → early ≡ t - less_one u → a ≡ min (t + less_one v) 65535
+    → b ≡ min (less_one u + w) 65535 → late ≡ a - b → c ≡ min (early + late) 65535
+    → d ≡ less_one v - (period - 1) → r ≡ min (c + d) 65535 → r ≡ 0
+    → Ordered period t v u w
+ordered_by period t v u w {early = early} {late = late} {c = c} {d = d} h k l e1 e2 e3 e4 e5 e6 e7 z =
+    let no_c : c ≡ 0 = omega (arith, e7, z) in
+    let no_d : d ≡ 0 = omega (arith, e7, z) in
+    let no_early : early ≡ 0 = omega (arith, e5, no_c) in
+    let no_late : late ≡ 0 = omega (arith, e5, no_c) in
+    let over : less_one v + 1 ≡ v = omega (arith, h, l, e6, no_d) in
     record {
-      some = omega (arith, o);
-      most = most_by period v over o s l.0;
-      rise = λ k. rise_by t u low g (next_by u low e k);
-      kept = λ k m. kept_by t v u w low over (next_by u low e k) o h m;
+      some = omega (arith, over);
+      most = omega (arith, over, l, e6, no_d);
+      rise = λ n. omega (arith, k, n, e1, no_early);
+      kept = λ n m. omega (arith, k, n, m, over, e2, e3, e4, no_late);
     }
 
 -- FOR THE LOOP
@@ -78,25 +63,20 @@ module _ (period : ℕ) (ticks travels : List ℕ) where
     pub pair_few : starts ≤ m
     pair_few = omega (arith, s.starts, count_few (start_after ticks) m)
 
-    pub pair_more : (x y one : ℕ) → x ≡ count_on starts (eqb (get_or ticks (m + 1) 0) 0)
+    pub pair_more : (x y one : ℕ) → x ≡ bool_byte (start_after ticks m)
         → (one ≡ 0
-        → Ordered period (get_or ticks m 0) (get_or travels m 0) (get_or ticks (m + 1) 0) (get_or travels (m + 1) 0))
-        → (fault ≤ y) × (one ≤ y)
-        → Paired period ticks travels (m + 1) (record { starts = x; fault = y })
-    unfolding count_on
+        → Ordered period (get_or ticks m 0) (get_or travels m 0)
+        (get_or ticks (m + 1) 0) (get_or travels (m + 1) 0))
+        → y ≡ max fault one
+        → Paired period ticks travels (m + 1) (record { starts = starts + x; fault = y })
     pair_more x y one e f g = record {
-      starts = e ∙ go (start_after ticks m) refl;
+      starts = tally_more (start_after ticks) starts m x s.starts (e ∙ flag_of (start_after ticks m));
       ordered = λ z q h. elim (dec_lt q m) [
         | yes l ↦ s.ordered (omega arith) q l
         | no l ↦ let i : m ≡ q = omega arith in
             rw i at (f (omega arith))
       ];
     }
-      where
-        go : (b : Bool) → start_after ticks m ≡ b
-            → cond b (starts + 1) starts ≡ count (m + 1) (start_after ticks)
-        go true h = count_yes (start_after ticks) starts m s.starts h
-        go false h = count_no (start_after ticks) starts m s.starts h
 
     -- at the end
     pub pair_all : (k : ℕ) → m ≤ k → k ≤ m

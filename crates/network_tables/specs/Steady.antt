@@ -1,6 +1,7 @@
 -- Why the points of all arcs keep the rules 9 and 10 where each of them is in order with the one after it
 -- (Pairs), the days of all arcs close (`Closed`), and no more points than arcs have tick 0: then only the
 -- first points of arcs have it.
+use Rattle.std.specs.Prelude.{Ok}
 use mathlib.Core.{Path.◌≡◌, Path.refl, Path.sym, Path.ap, Bool.Bool, Bool.true, Bool.false}
 use Prim.Native.Nat.{ℕ, zero, suc, ◌+◌, ◌-◌, ◌≤◌, ◌<◌}
 use native.Mathlib.{Nat.le_of_lt, Numerals.add-one, Omega.arith, Decide.dec_lt}
@@ -9,7 +10,6 @@ use Rattle.std.proofs.Common.{eq-eqb}
 use Rattle.theory_loops.specs.Count.{count, count_grows, count_rises}
 use Rattle.theory_loops.specs.Total.{total_none, total_more}
 use Rattle.theory_travel.specs.{Points.climbs, Table.entry_at}
-use Rattle.file_refusals.specs.declared.Judged.TheVariants.{Sound}
 use Rattle.network.specs.{Network.Network, Network.arcs, Network.points, Network.start, Limits.most_period}
 use Rattle.network.specs.Network as net
 use Rattle.network.specs.{Rules.ticks_of, Rules.travels_of, Rules.judged_points}
@@ -222,23 +222,23 @@ module _ (n : Network) (c : Counted n) (d : AllClosed n (arcs n)) (m : ℕ) (who
 
     pub all_steady : n.period ≤ most_period
         → ((q : ℕ) → q < m → Ordered n.period (get_or n.ticks q 0) (get_or n.travels q 0)
-        (get_or n.ticks (q + 1) 0) (get_or n.travels (q + 1) 0)) → judged_points n ≡ Sound
+        (get_or n.ticks (q + 1) 0) (get_or n.travels (q + 1) 0)) → judged_points n ≡ Ok tt
     all_steady small o = points_clear n
         (λ a i l h. order.fine _ _ _ _ (c.some a l) (day small o a l) (on small o a l) i h)
         (λ a i l h. order.in_turn _ _ _ _ (c.some a l) (day small o a l) (on small o a l) i h)
 
 -- FOR THE CODE
-pub no_points : (n : Network) → Counted n → points n ≡ 0 → judged_points n ≡ Sound
+pub no_points : (n : Network) → Counted n → points n ≡ 0 → judged_points n ≡ Ok tt
 no_points n c z = points_clear n (λ a i l h. absurd (none a l)) (λ a i l h. absurd (none a l))
   where
     none : (a : ℕ) → a < arcs n → ⊥
     none a l = omega (arith, points_in c a l, c.some a l)
 
-pub not_steady : (n : Network) → false ≡ true → judged_points n ≡ Sound
+pub not_steady : (n : Network) → false ≡ true → judged_points n ≡ Ok tt
 not_steady n e = let z : ◌≡◌ {A = ℕ} 0 1 = cc in absurd (omega arith)
 
 pub steady_told : (n : Network) (r : Pairs) → Counted n → n.period ≤ most_period → 0 < points n
     → Paired n.period n.ticks n.travels (points n - 1) r → r.fault ≤ 0 → r.starts + 1 ≡ arcs n
-    → AllClosed n (arcs n) → judged_points n ≡ Sound
+    → AllClosed n (arcs n) → judged_points n ≡ Ok tt
 steady_told n r c small h p z s d =
     all_steady n c d (points n - 1) (omega arith) (omega (arith, p.starts)) small (p.ordered (omega arith))

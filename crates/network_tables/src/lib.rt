@@ -3,7 +3,7 @@
 //   rules     the rules, table by table
 //   steady    do the points of all arcs keep the rules 9 and 10, yes or no?
 // It may call `network_rules` and `network_scan` for what the rules ask of one entry, and `network` for the
-// header's numbers, and cites `network_steady`.
+// header's numbers, and cites `network_steady` and `theory_breaks`.
 #![tactic(auto)]
 
 pub mod rules;

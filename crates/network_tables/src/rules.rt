@@ -16,24 +16,18 @@ ghost use Rattle.network_tables.specs.Cut.{bad_cell_in, bad_hours_in, bad_arc_in
 ghost use Rattle.network_tables.specs.Cut.{whole, Cut};
 
 use crate::steady::is_steady;
-use file_refusals::{Judged, faulty, number};
+use file_refusals::reason::Reason;
+use file_refusals::{Refusal, refused};
 use network::header::{Header, Layout};
 use network_rules::rules::{Arcs, bad_ends, bad_hours};
 use network_scan::scan::{Scan, bad_point, late_at, late_in};
-
-// An entry as a wider number.
-fn wide(x: u16) -> usize
-    ensures { (result ≡ x) × (result < 65536) }
-{
-    x as usize
-}
 
 // Entry i of a table.
 pub fn entry(table: &[u16], i: usize) -> usize
     requires { i < length table.now }
     ensures { (result ≡ get_or table.now i 0) × (result < 65536) }
 {
-    wide(table[i])
+    usize::from(table[i])
 }
 
 // Rule 7 at node v.
@@ -48,12 +42,8 @@ fn is_bad_cell(cells: usize, cellof: &[u16], v: usize) -> bool
 fn first_bad_cell(cells: usize, cellof: &[u16]) -> usize
     ensures { result ≡ first (length cellof.now) (bad_cell_in cells cellof.now) }
 {
-    for v in 0..cellof.len() {
-        if is_bad_cell(cells, cellof, v) {
-            return v;
-        }
-    }
-    cellof.len()
+    let bad = (0..cellof.len()).position(|v| is_bad_cell(cells, cellof, v));
+    bad.unwrap_or(cellof.len())
 }
 
 // Rule 37 at node v.
@@ -70,12 +60,8 @@ fn first_bad_hours(hours: usize, period: usize, opens: &[u16], closes: &[u16]) -
     ensures { result ≡ first (length opens.now)
         (bad_hours_in hours period opens.now closes.now) }
 {
-    for v in 0..opens.len() {
-        if is_bad_hours(hours, period, opens, closes, v) {
-            return v;
-        }
-    }
-    opens.len()
+    let bad = (0..opens.len()).position(|v| is_bad_hours(hours, period, opens, closes, v));
+    bad.unwrap_or(opens.len())
 }
 
 // Rule 8 at arc a.
@@ -178,7 +164,12 @@ fn scan_points(period: usize, counts: &[u16], ticks: &[u16], travels: &[u16]) ->
 }
 
 // Rules 9 and 10.
-fn judge_points(period: usize, counts: &[u16], ticks: &[u16], travels: &[u16]) -> Judged
+fn judge_points(
+    period: usize,
+    counts: &[u16],
+    ticks: &[u16],
+    travels: &[u16],
+) -> Result<(), Refusal>
     requires counted { Counted (bare period counts.now ticks.now travels.now) }
     requires period_nonzero { (0 < period) × (period ≤ most_period) }
     requires travels_len { (length travels.now ≡ length ticks.now) × (length ticks.now ≤ most_points) }
@@ -186,18 +177,18 @@ fn judge_points(period: usize, counts: &[u16], ticks: &[u16], travels: &[u16]) -
         (bare period counts.now ticks.now travels.now) }
 {
     if is_steady(period, counts, ticks, travels) {
-        return Judged::Sound;
+        return Ok(());
     }
     let scan = scan_points(period, counts, ticks, travels);
     let bad = scan.bad;
     if bad < ticks.len() {
-        return faulty(number::NETWORK_POINT, bad as u32);
+        return refused(Reason::NetworkPoint, bad as u32);
     }
     let late = scan.late;
     if late < ticks.len() {
-        return faulty(number::NETWORK_FIFO, late as u32);
+        return refused(Reason::NetworkFifo, late as u32);
     }
-    Judged::Sound
+    Ok(())
 }
 
 // The first of the rules 7, 37, 8, 9 and 10 that the network of these tables breaks, and its lowest place.
@@ -212,7 +203,7 @@ fn judge(
     counts: &[u16],
     ticks: &[u16],
     travels: &[u16],
-) -> Judged
+) -> Result<(), Refusal>
     requires { Cut h l
         (tables cellof.now opens.now closes.now tails.now heads.now counts.now ticks.now
         travels.now) }
@@ -222,19 +213,19 @@ fn judge(
 {
     let v = first_bad_cell(l.cells, cellof);
     if v < l.nodes {
-        return faulty(number::NETWORK_CELL, v as u32);
+        return refused(Reason::NetworkCell, v as u32);
     }
     let u = first_bad_hours(l.hours, l.period, opens, closes);
     if u < l.nodes {
-        return faulty(number::NETWORK_HOURS, u as u32);
+        return refused(Reason::NetworkHours, u as u32);
     }
     let found = scan_arcs(l.nodes, l.period, tails, heads, counts);
     let a = found.bad;
     if a < l.arcs {
-        return faulty(number::NETWORK_ROAD, a as u32);
+        return refused(Reason::NetworkRoad, a as u32);
     }
     if found.sum != l.points {
-        return faulty(number::NETWORK_ROAD, l.arcs as u32);
+        return refused(Reason::NetworkRoad, l.arcs as u32);
     }
     judge_points(l.period, counts, ticks, travels)
 }
@@ -251,7 +242,7 @@ pub fn judge_tables(
     counts: &[u16],
     ticks: &[u16],
     travels: &[u16],
-) -> Judged
+) -> Result<(), Refusal>
     requires { Packable h l
         (tables cellof.now opens.now closes.now tails.now heads.now counts.now ticks.now
         travels.now) }

@@ -2,13 +2,12 @@
 // held against the one after it without asking whether that starts an arc: at a tick of 0 the comparisons
 // hold, and there are as many such ticks as arcs. So one loop with no way out goes over all points, and a
 // compiler makes vector code of it. Where the answer is no, rules.rt finds the rule and the point.
-ghost use Rattle.std.specs.Prelude.{◌≡◌, true, ◌+◌, ◌-◌, ◌≤◌, ◌<◌, min, length, get_or};
-ghost use Rattle.file_refusals.specs.declared.Judged.TheVariants.{Sound};
+ghost use Rattle.std.specs.Prelude.{◌≡◌, true, ◌+◌, ◌-◌, ◌≤◌, ◌<◌, length, get_or, Ok};
 ghost use Rattle.network.specs.FirstPoint.{Counted};
 ghost use Rattle.network.specs.Limits.{most_period, most_points};
 ghost use Rattle.network.specs.Rules.{judged_points};
 ghost use Rattle.network_tables.specs.Cut.{bare};
-ghost use Rattle.network_tables.specs.Pairs.{less_one, count_on, Ordered, Paired};
+ghost use Rattle.network_tables.specs.Pairs.{Ordered, Paired};
 ghost use Rattle.network_tables.specs.Steady.{Closed, AllClosed};
 
 use crate::rules::entry;
@@ -21,50 +20,19 @@ pub struct Pairs {
     pub fault: u16,
 }
 
-fn larger(x: u16, y: u16) -> u16
-    ensures { (x ≤ result) × (y ≤ result) }
-{
-    if x < y { y } else { x }
-}
-
-// One less; 0 comes out above all others.
-fn less_one(x: u16) -> u16
-    ensures { result ≡ less_one x }
-{
-    if x < 1 { 65535 } else { x - 1 }
-}
-
-// A sum, or 65,535 where it is more.
-fn plus(x: u16, y: u16) -> u16
-    ensures { result ≡ min (x + y) 65535 }
-{
-    if x < 65535 - y { x + y } else { 65535 }
-}
-
-// A difference, or 0 where it is less.
-fn minus(x: u16, y: u16) -> u16
-    ensures { result ≡ x - y }
-{
-    if x < y { 0 } else { x - y }
-}
-
-// One more where a test holds.
-fn count_on(c: u16, test: bool) -> u16
-    requires { c < 65535 }
-    ensures { result ≡ count_on c test }
-{
-    if test { c + 1 } else { c }
-}
-
-// 0 only where a point with tick t and travel v keeps the rules, before one with tick u and travel w.
+// 0 only where a point with tick t and travel v keeps the rules, before one with tick u and travel w. One
+// less than 0 comes out above all others.
 fn fault(period: u16, t: u16, v: u16, u: u16, w: u16) -> u16
     requires { (0 < period) × (period ≤ most_period) }
     ensures { result ≡ 0 → Ordered period t v u w }
 {
-    let low = less_one(u);
-    let over = less_one(v);
-    let late = plus(minus(t, low), minus(plus(t, over), plus(low, w)));
-    plus(late, minus(over, period - 1))
+    let low = u.wrapping_sub(1);
+    let over = v.wrapping_sub(1);
+    let early = t.saturating_sub(low);
+    let late = t.saturating_add(over).saturating_sub(low.saturating_add(w));
+    early
+        .saturating_add(late)
+        .saturating_add(over.saturating_sub(period - 1))
 }
 
 // All points but the last, each with the one after it.
@@ -75,11 +43,11 @@ fn pair_up(period: u16, ticks: &[u16], travels: &[u16]) -> Pairs
         (length ticks.now - 1) result }
 {
     let mut starts = 0;
-    let mut over = 0;
+    let mut over = 0u16;
     for q in 0..ticks.len() - 1 {
         let u = ticks[q + 1];
-        starts = count_on(starts, u == 0);
-        over = larger(over, fault(period, ticks[q], travels[q], u, travels[q + 1]));
+        starts += u16::from(u == 0);
+        over = over.max(fault(period, ticks[q], travels[q], u, travels[q + 1]));
     }
     Pairs {
         starts,
@@ -147,7 +115,7 @@ pub fn is_steady(period: usize, counts: &[u16], ticks: &[u16], travels: &[u16]) 
     requires period_nonzero { (0 < period) × (period ≤ most_period) }
     requires travels_len { (length travels.now ≡ length ticks.now) × (length ticks.now ≤ most_points) }
     ensures { result ≡ true → judged_points
-        (bare period counts.now ticks.now travels.now) ≡ Sound }
+        (bare period counts.now ticks.now travels.now) ≡ Ok tt }
 {
     if ticks.len() == 0 {
         return true;

@@ -13,22 +13,18 @@ ghost use Rattle.network.specs.Validate.{validated_length, validated_header, val
 ghost use Rattle.network.specs.Rules.{judged};
 
 use file_blocks::kind;
+use file_fields::BLOCK;
 use file_fields::fields::{le8, le16, le32};
-use file_fields::{BLOCK, HEAD};
 use file_forms::form::{first_unformed, is_bad_length, is_formed};
 use file_forms::reader::first_bad_sum;
-use file_refusals::{Judged, number};
-use network::answer::{Opening, refused};
-use network::header::{Header, Layout, Made};
+use file_refusals::reason::Reason;
+use file_refusals::{Refusal, refused};
+use network::header::{Header, Layout};
 use network::limits::MOST_BYTES;
-use network::node::{node_kind, node_per, node_size};
 use network_rules::rules::judge;
 
-// The bytes of the first block that its head and its one entry take.
-const USED: usize = HEAD + kind::NETWORK_SIZE;
-
 // The header that the first block's numbers make.
-fn header_at(file: &[u8]) -> Made
+fn header_at(file: &[u8]) -> Option<Header>
     requires { block_size ≤ length file.now }
     ensures { result ≡ made_at file.now }
 {
@@ -50,15 +46,7 @@ fn first_bad_nodes(file: &[u8], l: Layout) -> usize
         (unformed file.now 1 (node_kind l.hours) (node_per l.hours) (node_size l.hours)
         l.nodes) }
 {
-    let hours = l.hours;
-    first_unformed(
-        file,
-        1,
-        node_kind(hours),
-        node_per(hours),
-        node_size(hours),
-        l.nodes,
-    )
+    first_unformed(file, l.nodes_run())
 }
 
 // The first block after the header that is out of its form, or the count of blocks.
@@ -70,96 +58,80 @@ fn first_bad_form(file: &[u8], l: Layout) -> usize
     if i < l.arcblock {
         return i;
     }
-    let j = first_unformed(
-        file,
-        l.arcblock,
-        kind::ARC,
-        kind::ARC_PER,
-        kind::ARC_SIZE,
-        l.arcs,
-    );
+    let j = first_unformed(file, l.arcs_run());
     if j < l.pointblock {
         return j;
     }
-    first_unformed(
-        file,
-        l.pointblock,
-        kind::POINT,
-        kind::POINT_PER,
-        kind::POINT_SIZE,
-        l.points,
-    )
+    first_unformed(file, l.points_run())
 }
 
 // Refusals 7 to 10 and 37.
-fn validate_rules(file: &[u8], h: Header, l: Layout) -> Opening
+fn validate_rules(file: &[u8], h: Header, l: Layout) -> Result<Header, Refusal>
     requires { Laid file.now l }
     ensures { result ≡ validated_rules h (judged (decode file.now)) }
 {
-    match judge(file, l) {
-        Judged::Sound => Opening::Opened(h),
-        Judged::Faulty(r) => Opening::Refused(r),
-    }
+    judge(file, l)?;
+    Ok(h)
 }
 
 // Refusals 6 to 10 and 37.
-fn validate_form(file: &[u8], h: Header, l: Layout) -> Opening
+fn validate_form(file: &[u8], h: Header, l: Layout) -> Result<Header, Refusal>
     requires laid { Laid file.now l }
     requires h_value { h ≡ header_at file.now }
     ensures { result ≡ validated_form file.now h }
 {
     let b = first_bad_form(file, l);
     if b < l.blocks {
-        return refused(number::NETWORK_FORM, b as u32);
+        return refused(Reason::NetworkForm, b as u32);
     }
     validate_rules(file, h, l)
 }
 
 // Refusals 5 to 10 and 37.
-fn validate_length(file: &[u8], h: Header) -> Opening
+fn validate_length(file: &[u8], h: Header) -> Result<Header, Refusal>
     requires within_limits { WithinLimits h }
     requires h_value { h ≡ header_at file.now }
     ensures { result ≡ validated_length file.now h }
 {
     let l = h.layout();
     if file.len() != BLOCK * l.blocks {
-        return refused(number::NETWORK_SIZE, 0);
+        return refused(Reason::NetworkSize, 0);
     }
     validate_form(file, h, l)
 }
 
 // Refusals 4 to 10 and 37.
-fn validate_header(file: &[u8]) -> Opening
+fn validate_header(file: &[u8]) -> Result<Header, Refusal>
     requires { block_size ≤ length file.now }
     ensures { result ≡ validated_header file.now (made_at file.now) }
 {
     match header_at(file) {
-        Made::Inside(h) => validate_length(file, h),
-        Made::Outside => refused(number::NETWORK_LIMITS, 0),
+        Some(h) => validate_length(file, h),
+        None => refused(Reason::NetworkLimits, 0),
     }
 }
 
 // Refusals 3 to 10 and 37.
-fn validate_first(file: &[u8]) -> Opening
+fn validate_first(file: &[u8]) -> Result<Header, Refusal>
     requires { block_size ≤ length file.now }
     ensures { result ≡ validated_first file.now }
 {
-    if is_formed(file, 0, kind::NETWORK, 1, USED) {
+    if is_formed(file, 0, kind::NETWORK, 1) {
         return validate_header(file);
     }
-    refused(number::NETWORK_FIRST, 0)
+    refused(Reason::NetworkFirst, 0)
 }
 
 // The header of a network file, or the first of the refusals 1 to 7, 37 and 8 to 10, and its lowest place.
-pub fn validate(file: &[u8]) -> Opening
+pub fn validate(file: &[u8]) -> Result<Header, Refusal>
     ensures { result ≡ validated file.now }
 {
     if is_bad_length(file.len(), MOST_BYTES) {
-        return refused(number::NETWORK_LENGTH, 0);
+        return refused(Reason::NetworkLength, 0);
     }
     let b = first_bad_sum(file);
     if b < file.len() / BLOCK {
-        return refused(number::NETWORK_SUM, b as u32);
+        return refused(Reason::NetworkSum, b as u32);
     }
     validate_first(file)
 }

@@ -30,10 +30,13 @@ ghost use Rattle.node_runs.specs.Finding.{arc_finds};
 ghost use Rattle.node_runs.specs.Ready.{Topped, Opened, Own, Rooms, Low, Lows, Blank};
 
 use arc_runs::brief;
+use day_merge::sides::Sides;
+use day_walk::walk::DayRuns;
 use network::limits::{MOST_ARCS, MOST_NODES};
 use plan::flag::is_set;
 use plan::header::PlanLayout;
 use plan_tests::tests::{Layouts, Target};
+use profile_runs::fill_profile;
 use search_arcs::wide;
 
 // Half of a number where a byte holds it, and else the greatest that it holds.
@@ -98,7 +101,7 @@ fn same_bits(plan: &[u8], l: PlanLayout, arc: usize, cell: usize) -> u8
 fn is_far(top: u32, low: u8, least: u32) -> bool
     ensures { result ≡ ltb top (2 * low + least) }
 {
-    (top as u64) < 2 * low as u64 + least as u64
+    u64::from(top) < 2 * u64::from(low) + u64::from(least)
 }
 
 // Takes all marks off.
@@ -143,7 +146,7 @@ fn open_node(
 {
     clear(marks, l.period);
     Profile {
-        runs: profile_runs::fill_profile(plan, l, firsts, i, u, so, vo, finds),
+        runs: fill_profile(plan, l, firsts, i, u, so, vo, finds),
         top: profile_runs::greatest_value(plan, l, firsts, i, u),
     }
 }
@@ -202,8 +205,9 @@ fn look(
 }
 
 // Meets an arc, or passes it and finds nothing. Its runs and its head's are merged with those of the node it
-// leads out of, which are `so` and `vo`.
-fn judge_arc(
+// leads out of, which are `so` and `vo`. The lists have one lifetime, since the runs of a day lend two of
+// them at one.
+fn judge_arc<'r>(
     network: &[u8],
     plan: &[u8],
     l: Layouts,
@@ -213,13 +217,13 @@ fn judge_arc(
     lows: &[u8; MOST_NODES],
     target: Target,
     arc: usize,
-    so: &[u16],
-    vo: &[u32],
+    so: &'r [u16],
+    vo: &'r [u32],
     own: Profile,
-    sa: &mut [u16],
-    va: &mut [u16],
-    sh: &mut [u16],
-    vh: &mut [u32],
+    sa: &'r mut [u16],
+    va: &'r mut [u16],
+    sh: &'r mut [u16],
+    vh: &'r mut [u32],
     marks: &mut [u8],
     finds: &mut u64,
 )
@@ -241,30 +245,33 @@ fn judge_arc(
         return;
     }
     let na = brief::fill_runs(network, l.network, points, arc, to.brief, sa, vh, va, finds);
-    let nh = profile_runs::fill_profile(
-        plan,
-        l.plan,
-        firsts,
-        target.number,
-        to.head,
-        sh,
-        vh,
-        finds,
-    );
-    day_merge::merge(
-        so,
-        vo,
-        own.runs,
-        sa,
-        va,
-        na,
-        sh,
-        vh,
-        nh,
-        l.network.period,
-        to.same,
-        marks,
-    );
+    let nh = fill_profile(plan, l.plan, firsts, target.number, to.head, sh, vh, finds);
+    let period = l.network.period;
+    let node = DayRuns {
+        starts: so,
+        values: vo,
+        count: own.runs,
+        period,
+    };
+    let arc = DayRuns {
+        starts: sa,
+        values: va,
+        count: na,
+        period,
+    };
+    let head = DayRuns {
+        starts: sh,
+        values: vh,
+        count: nh,
+        period,
+    };
+    let sides = Sides {
+        own: node,
+        arc,
+        head,
+        same: to.same,
+    };
+    day_merge::merge(&sides, marks);
 }
 
 // Judges a node whose profile towards the target has points, at all ticks, and counts the finds. The arcs out

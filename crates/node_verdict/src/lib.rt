@@ -22,13 +22,21 @@ ghost use Rattle.node_runs.specs.Ready.{Rooms, Lows};
 ghost use Rattle.node_verdict.specs.Lowest.{bit_of, tells, Lowest, Tallied};
 ghost use Rattle.node_verdict.specs.Marks.{offs, Marked};
 
-use file_refusals::number;
+use file_refusals::reason::Reason;
 use network::limits::{MOST_ARCS, MOST_NODES};
 use node_bare::{PASSED, fill, is_ahead, mark_home};
 use plan_tests::tests::{Layouts, Target};
 
-// After the last of the tests: none fails.
-pub const NONE: u32 = number::CHECK_NO_FLAG + 1;
+// The tests by their numbers, and what comes after the last of them: none fails.
+pub const BORDER: u32 = Reason::CheckBorder as u32;
+
+const LESS: u32 = Reason::CheckLess as u32;
+
+const NO_ROAD: u32 = Reason::CheckNoRoad as u32;
+
+const NO_FLAG: u32 = Reason::CheckNoFlag as u32;
+
+pub const NONE: u32 = NO_FLAG + 1;
 
 // The byte of a tick at which 22 fails.
 const UNDERCUT: u8 = 7;
@@ -37,13 +45,13 @@ const UNDERCUT: u8 = 7;
 fn bit_of(number: u32) -> u8
     ensures { result ≡ bit_of number }
 {
-    if number == number::CHECK_BORDER {
+    if number == BORDER {
         return 8;
     }
-    if number == number::CHECK_LESS {
+    if number == LESS {
         return 1;
     }
-    if number == number::CHECK_NO_ROAD {
+    if number == NO_ROAD {
         return 2;
     }
     4
@@ -76,16 +84,16 @@ fn judge_marks(marks: &[u8], period: usize) -> u32
 {
     let off = off_bits(marks, period);
     if off & 8 != 0 {
-        return number::CHECK_BORDER;
+        return BORDER;
     }
     if off & 1 != 0 {
-        return number::CHECK_LESS;
+        return LESS;
     }
     if off & 2 != 0 {
-        return number::CHECK_NO_ROAD;
+        return NO_ROAD;
     }
     if off & 4 != 0 {
-        return number::CHECK_NO_FLAG;
+        return NO_FLAG;
     }
     NONE
 }
@@ -114,7 +122,7 @@ fn judge_blank(
     let ahead = is_ahead(network, plan, l, first, next, i, node);
     if ahead {
         fill(marks, 0, l.network.period, UNDERCUT);
-        return number::CHECK_LESS;
+        return LESS;
     }
     NONE
 }
@@ -172,7 +180,7 @@ pub fn judge(
         );
         return judge_marks(marks, l.network.period);
     }
-    if limit <= number::CHECK_LESS {
+    if limit <= LESS {
         return NONE;
     }
     if plan::read::point_count(plan, l.plan, target.number * l.plan.nodes + node) == 0 {

@@ -1,7 +1,10 @@
 -- How the borders are found in one pass over the arcs: after k arcs a node is marked where one of them enters
--- it from another cell. The laws of the loop that marks, and of those that list and count what is marked.
+-- it from another cell. The laws of the loop that marks, of the one that lists what is marked, and of the
+-- marks counted.
 use mathlib.Core.{Path.◌≡◌, Path.refl, Path.sym, Path.◌∙◌, Path.ap, List.List}
-use Rattle.std.specs.Prelude.{Bool, not, ◌&&◌, ℕ, suc, ◌+◌, ◌≤◌, ◌<◌, length, get_or, set, replicate}
+use Rattle.std.specs.Prelude.{Bool, not, ◌&&◌, ℕ, zero, suc, ◌+◌, ◌≤◌, ◌<◌, length, get_or, set}
+use Rattle.std.specs.Prelude.{take, replicate, count_by}
+use Rattle.std.proofs.lemmas.List.Sums.{count_by_more_yes, count_by_more_no}
 use Rattle.std.proofs.Math.Bool.{true, false, cond}
 use native.Mathlib.{Numerals.add-one, Omega.arith, Decide.ℕ_discrete}
 use Rattle.std.proofs.Common.{length-set, length-append, eq-eqb, ne_eqb, le-ltb, lt-ltb}
@@ -10,8 +13,9 @@ use lib.{Seq.get_or-set_same, Seq.get_or-set_other, Dec.eqb, Dec.ltb}
 use Rattle.theory_loops.specs.First.{first, any, first_le, yes_any, none_yet, first_more}
 use Rattle.theory_loops.specs.{Fill.overwritten, Select.select, Select.Chosen}
 use Rattle.theory_paths.specs.Partition.{Partition}
-use Rattle.network.specs.Network.{Network, arcs, cell, tail, head}
-use Rattle.network.specs.{Decode.decode, Decode.Laid, Decode.laid_sizes, Sound.SoundNetwork, Limits.most_nodes}
+use Rattle.network.specs.Network.{Network, nodes, arcs, cell, tail, head}
+use Rattle.network.specs.{Decode.decode, Decode.Laid, Decode.laid_sizes, Sound.SoundNetwork}
+use Rattle.network.specs.Limits.{most_nodes}
 use Rattle.network.specs.declared.header.Layout.{Layout}
 use Rattle.network.specs.Town.{partition_of}
 use Rattle.plan.specs.Border.{is_border, borders, border_count}
@@ -121,27 +125,42 @@ pub borders_listed : (G : Partition) (c : ℕ) (old new : List ℕ)
 unfolding borders
 borders_listed G c old new h = (h.count, h.list)
 
--- THE LOOP THAT COUNTS: c of the first v nodes are borders
-pub record Counted (G : Partition) (v c : ℕ) : Type 0 where
-  pub count : c ≡ length (select v (is_border G))
-  pub few : c ≤ v
+-- THE COUNT of the marks
+module _ (n : Network) (marks : List ℕ) (m : Marked n (arcs n) marks) where
+  abbrev is_one : ℕ → Bool
+  is_one mark = not (eqb mark 0)
 
-module _ (G : Partition) where
-  pub count_none : Counted G 0 0
+  abbrev border : ℕ → Bool
+  border = is_border (partition_of n)
+
+  is_marked : (v : ℕ) → v < most_nodes → is_one (get_or marks v 0) ≡ border v
+  unfolding is_border
+  is_marked v l = rw (m.marked v l) (go (any (arcs n) (enters n v)))
+    where
+      go : (t : Bool) → not (eqb (cond t 1 0) 0) ≡ t
+      go true = refl
+      go false = refl
+
+  marks_counted : (v : ℕ) → v ≤ most_nodes → count_by is_one (take v marks) ≡ length (select v border)
   unfolding select
-  count_none = record { count = refl; few = omega arith }
+  marks_counted zero l = refl
+  marks_counted (suc v) l = go (marks_counted v (omega arith)) (border v) refl
+    where
+      within : v < length marks
+      within = omega (arith, m.long)
 
-  pub count_yes : (v c : ℕ) → Counted G v c → is_border G v ≡ true → Counted G (v + 1) (c + 1)
-  unfolding select
-  count_yes v c h t = record {
-    count = rw (add-one v, t, select, length-append) (omega (arith, h.count));
-    few = omega (arith, h.few);
-  }
+      go : count_by is_one (take v marks) ≡ length (select v border) → (t : Bool) → border v ≡ t
+          → count_by is_one (take (suc v) marks) ≡ length (select (suc v) border)
+      go before true e =
+          let a : count_by is_one (take (suc v) marks) ≡ count_by is_one (take v marks) + 1 =
+          rw (← add-one v) (count_by_more_yes is_one marks v 0 within (is_marked v (omega arith) ∙ e)) in
+          rw (e, select, length-append) (omega (arith, a, before))
+      go before false e =
+          let a : count_by is_one (take (suc v) marks) ≡ count_by is_one (take v marks) =
+          rw (← add-one v) (count_by_more_no is_one marks v 0 within (is_marked v (omega arith) ∙ e)) in
+          rw (e, select) (a ∙ before)
 
-  pub count_no : (v c : ℕ) → Counted G v c → is_border G v ≡ false → Counted G (v + 1) c
-  unfolding select
-  count_no v c h t = record { count = rw (add-one v, t, select) h.count; few = omega (arith, h.few) }
-
-  pub count_end : (v m c : ℕ) → Counted G v c → v ≤ m → m ≤ v → m ≡ G.graph.nodes → c ≡ border_count G
+  pub borders_counted : {k c : ℕ} → c ≡ count_by is_one (take k marks) → k ≡ nodes n → k ≤ most_nodes
+      → c ≡ border_count (partition_of n)
   unfolding borders
-  count_end v m c h a b e = let q : v ≡ G.graph.nodes = omega arith in rw q at h.count
+  borders_counted {k} {c} e q l = e ∙ marks_counted k l ∙ ap (λ (j : ℕ). length (select j border)) q

@@ -1,19 +1,16 @@
 -- The numbers of refusals of a plan file: between 11 and 19, and those of its rules between 17 and 19.
 use mathlib.Core.{Path.◌≡◌, Path.refl, List.List}
-use Rattle.std.specs.Prelude.{ℕ, ◌*◌, ◌≤◌}
+use Rattle.std.specs.Prelude.{ℕ, ◌*◌, ◌≤◌, Result, Ok, Err, ⊤}
 use Rattle.std.proofs.Common.{arith}
 use lib.{ListN.length, Dec.eqb, Dec.ltb}
 use Rattle.theory_loops.specs.Pick.{cond_holds, rung_holds}
 use Rattle.file_fields.specs.Block.{block_size}
 use Rattle.file_forms.specs.Form.{bad_length}
-use Rattle.file_refusals.specs.declared.{Refusal.Refusal, Judged.Judged}
-use Rattle.file_refusals.specs.declared.Judged.TheVariants.{Sound, Faulty}
+use Rattle.file_refusals.specs.declared.{Refusal.Refusal}
 use Rattle.network.specs.declared.header.Header.{Header}
 use Rattle.network.specs.{Network.Network, Town.partition_of}
 use Rattle.file_refusals.specs.Refusal.{refusal}
-use Rattle.file_refusals.specs.Numbered.{Between, Numbered, numbered, same_faulty}
-use Rattle.plan.specs.declared.answer.Planning.{Planning}
-use Rattle.plan.specs.declared.answer.Planning.TheVariants as planning
+use Rattle.file_refusals.specs.Numbered.{Between, Numbered, numbered}
 use Rattle.plan.specs.declared.header.PlanHeader.{PlanHeader}
 use Rattle.plan.specs.{Border.border_count, Plan.Plan, Plan.point_start, PlanLimits.most_plan_bytes}
 use Rattle.plan.specs.{PlanHeader.plan_header_at, PlanLayout.plan_blocks, PlanValidate.planned}
@@ -23,11 +20,11 @@ use Rattle.plan.specs.PlanValidate.{first_unformed, planned_rules, planned_form}
 use Rattle.plan.specs.PlanValidate.{planned_length, matching, planned_header, first_formed, planned_first}
 
 -- THE RULES 17 TO 19
-abbrev Judges : Judged → Type 0
-Judges = Numbered Faulty (Between 17 19)
+abbrev Judges : Result ⊤ Refusal → Type 0
+Judges = Numbered (Between 17 19)
 
 pub flags_numbers : (arcs cells period profiles : ℕ) (p : Plan)
-    → Numbered Faulty (Between 17 19) (judged_flags arcs cells period profiles p)
+    → Numbered (Between 17 19) (judged_flags arcs cells period profiles p)
 unfolding judged_flags judged_counts judged_sum judged_ticks
 flags_numbers arcs cells period profiles p =
     rung_holds Judges _ _ _ _ (λ i. is 17 i (omega arith) (omega arith))
@@ -36,32 +33,29 @@ flags_numbers arcs cells period profiles p =
     (rung_holds Judges _ _ _ _ (λ i. is 19 _ (omega arith) (omega arith)) sound)
     (is 18 profiles (omega arith) (omega arith))))
   where
-    is : (number place : ℕ) → 17 ≤ number → number ≤ 19 → Judges (Faulty (refusal number place))
-    is number place l h = numbered Faulty (Between 17 19) same_faulty (refusal number place) (l, h)
+    is : (number place : ℕ) → 17 ≤ number → number ≤ 19 → Judges (Err (refusal number place))
+    is number place l h = numbered (Between 17 19) (refusal number place) (l, h)
 
-    sound : Judges Sound
+    sound : Judges (Ok tt)
     sound r e = let z : ◌≡◌ {A = ℕ} 0 1 = cc in absurd (omega arith)
 
 -- THE FORM, 11 to 19
-abbrev Plans : Planning → Type 0
-Plans = Numbered planning.Refused (Between 11 19)
-
-same_planning : (q r : Refusal) → planning.Refused q ≡ planning.Refused r → q ≡ r
-same_planning q r e = cc
+abbrev Plans : Result PlanHeader Refusal → Type 0
+Plans = Numbered (Between 11 19)
 
 plan_numbered : (number place : ℕ) → 11 ≤ number → number ≤ 19
-    → Plans (planning.Refused (refusal number place))
+    → Plans (Err (refusal number place))
 plan_numbered number place l h =
-    numbered planning.Refused (Between 11 19) same_planning (refusal number place) (l, h)
+    numbered (Between 11 19) (refusal number place) (l, h)
 
-by_rules : (k : PlanHeader) (j : Judged) → Judges j → Plans (planned_rules k j)
-by_rules k Sound n = λ r e. let z : ◌≡◌ {A = ℕ} 0 1 = cc in absurd (omega arith)
-by_rules k (Faulty q) n =
+by_rules : (k : PlanHeader) (j : Result ⊤ Refusal) → Judges j → Plans (planned_rules k j)
+by_rules k (Ok _) n = λ r e. let z : ◌≡◌ {A = ℕ} 0 1 = cc in absurd (omega arith)
+by_rules k (Err q) n =
     let (x, y) = n q refl in
-    numbered planning.Refused (Between 11 19) same_planning q (omega arith, omega arith)
+    numbered (Between 11 19) q (omega arith, omega arith)
 
 pub planned_numbers : (h : Header) (n : Network) (file : List ℕ)
-    → Numbered planning.Refused (Between 11 19) (planned h n file)
+    → Numbered (Between 11 19) (planned h n file)
 unfolding planned planned_first planned_header planned_length planned_form
 planned_numbers h n file =
     cond_holds Plans (bad_length most_plan_bytes (length file)) _ _

@@ -2,7 +2,10 @@
 -- 6), the counts of the profiles' points (kind 7) and the points (kind 8), each a run of blocks of its own.
 use Rattle.std.specs.Prelude.{ℕ, ◌+◌, ◌*◌, ◌≤◌}
 use Rattle.std.proofs.Common.{arith}
-use Rattle.file_blocks.specs.{Kind.flag_per, Kind.count_per, Kind.profile_point_per, Place.blocks}
+use Rattle.file_blocks.specs.Place.{blocks}
+use Rattle.file_blocks.specs.Kind.{flag_kind, flag_size, flag_per, count_kind, count_size, count_per}
+use Rattle.file_blocks.specs.Kind.{profile_point_kind, profile_point_size, profile_point_per}
+use Rattle.file_blocks.specs.declared.place.Run.{Run}
 use Rattle.plan.specs.declared.header.{PlanHeader.PlanHeader, PlanLayout.PlanLayout}
 use Rattle.plan.specs.{PlanLimits.most_plan_blocks, PlanHeader.PlanWithin, PlanHeader.profiles_few}
 
@@ -32,6 +35,28 @@ plan_layout_of h = record {
   countblock = count_block h;
   pointblock = plan_point_block h;
   blocks = plan_blocks h;
+}
+
+-- the runs: of the flag words, of the profiles' counts and of their points
+abbrev pub flags_run : PlanLayout → Run
+flags_run l = record {
+  from = 1;
+  kind = record { number = flag_kind; size = flag_size; per = flag_per };
+  count = l.arcs;
+}
+
+abbrev pub counts_run : PlanLayout → Run
+counts_run l = record {
+  from = l.countblock;
+  kind = record { number = count_kind; size = count_size; per = count_per };
+  count = l.profiles;
+}
+
+abbrev pub points_run : PlanLayout → Run
+points_run l = record {
+  from = l.pointblock;
+  kind = record { number = profile_point_kind; size = profile_point_size; per = profile_point_per };
+  count = l.points;
 }
 
 -- at most 13,718 blocks

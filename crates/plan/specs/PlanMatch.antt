@@ -1,7 +1,8 @@
 -- Refusal 14: a plan's header has the numbers of a network. What the test says, number by number, and that
 -- the rules judge by the header as they do by the network.
 use mathlib.Core.{Path.◌≡◌, Path.sym, Path.◌∙◌, Path.ap, List.List, List.[], List.◌∷◌, List.◌++◌}
-use Rattle.std.specs.Prelude.{Bool, true, false, ℕ, zero, suc, ◌≤◌, length}
+use Rattle.file_refusals.specs.Refusal.{refused}
+use Rattle.std.specs.Prelude.{Bool, true, false, ℕ, zero, suc, ◌≤◌, length, Result}
 use Rattle.std.proofs.Math.Bool.{and-eq-true_iff}
 use Rattle.std.proofs.Common.{arith, length-append}
 use borrow.Author.Tests.{eqb-true, leb-true, eq-eqb, le-leb}
@@ -12,13 +13,13 @@ use Rattle.network.specs.{Limits.WithinLimits, Layout.layout_of, Network.Network
 use Rattle.network.specs.{Decode.decode, Decode.laid_sizes, Valid.ValidFile}
 use Rattle.network.proofs.Valid.{valid_laid}
 use Rattle.network.specs.Town.{partition_of}
-use Rattle.plan.specs.declared.answer.Planning.{Planning}
 use Rattle.plan.specs.declared.header.PlanHeader.{PlanHeader}
 use Rattle.plan.specs.{PlanLimits.most_profile_points, Plan.Plan, PlanDecode.decode_plan}
 use Rattle.plan.specs.Border.{is_border, borders, border_count}
 use Rattle.plan.specs.PlanHeader.{plan_header_at, PlanWithin}
 use Rattle.plan.specs.PlanRules.{judged_by, plan_judged}
-use Rattle.plan.specs.PlanValidate.{unplanned, matching, planned_length, planned_header}
+use Rattle.file_refusals.specs.declared.Refusal.{Refusal}
+use Rattle.plan.specs.PlanValidate.{matching, planned_length, planned_header}
 
 -- the header k has the numbers of the network with header h and so many borders
 pub record Matches (h : Header) (borders : ℕ) (k : PlanHeader) : Type 0 where
@@ -118,7 +119,7 @@ judged_same d m p =
 module _ {network : List ℕ} {h : Header} (v : ValidFile network h) (file : List ℕ) (k : PlanHeader)
     (e : k ≡ plan_header_at file) (b : ℕ) (f : b ≡ border_count (partition_of (decode network)))
     (t : Bool) (g : t ≡ matching h b k) where
-  pub header_taken : (r : Planning) → t ≡ false → r ≡ unplanned 14 0
+  pub header_taken : (r : Result PlanHeader Refusal) → t ≡ false → r ≡ refused 14 0
       → r ≡ planned_header h (decode network) file
   unfolding planned_header
   header_taken r o q = rw (← e, ← f, ← g, o) q
@@ -136,7 +137,7 @@ module _ {network : List ℕ} {h : Header} (v : ValidFile network h) (file : Lis
         matches_within h (border_count (partition_of (decode network))) k v.within
         (omega (arith, d.nodes_are, borders_few (partition_of (decode network)))) matches
 
-    pub header_passed : (r : Planning) → r ≡ planned_length file k (judged_by k (decode_plan file))
+    pub header_passed : (r : Result PlanHeader Refusal) → r ≡ planned_length file k (judged_by k (decode_plan file))
         → r ≡ planned_header h (decode network) file
     unfolding planned_header
     header_passed r q =

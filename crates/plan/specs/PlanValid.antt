@@ -2,7 +2,8 @@
 -- is exactly what is let pass (`plan_exactly`). Nothing of the file is left out: its length, every sum, every
 -- block's form, the header and the tables.
 use mathlib.Core.{Path.◌≡◌, Path.refl, Path.◌∙◌, Path.ap, Path.subst, Logic.◌↔◌, List.List}
-use Rattle.std.specs.Prelude.{true, false, ℕ, ◌+◌, ◌*◌, ◌/◌, ◌≤◌, ◌<◌}
+use Rattle.file_refusals.specs.Refusal.{refused}
+use Rattle.std.specs.Prelude.{true, false, ℕ, ◌+◌, ◌*◌, ◌/◌, ◌≤◌, ◌<◌, Result, Ok, Err, ⊤}
 use Rattle.std.proofs.Math.Bool.{not, and-eq-true_iff}
 use Rattle.std.proofs.Common.{arith}
 use lib.{ListN.length, Dec.ltb, Dec.eqb}
@@ -14,16 +15,13 @@ use Rattle.file_forms.specs.Read.{bad}
 use Rattle.file_blocks.specs.Kind.{flag_kind, flag_per, flag_size, count_kind, count_per, count_size}
 use Rattle.file_blocks.specs.Kind.{profile_point_kind, profile_point_per, profile_point_size, plan_kind, plan_size}
 use Rattle.file_forms.specs.Form.{formed, RunFormed, bad_length, formed_past, past_formed, fine_length}
-use Rattle.file_refusals.specs.declared.Judged.{Judged}
-use Rattle.file_refusals.specs.declared.Judged.TheVariants.{Sound, Faulty}
 use Rattle.network.specs.declared.header.Header.{Header}
 use Rattle.network.specs.{Network.Network, Network.nodes, Network.arcs, Town.partition_of, Decode.decode}
 use Rattle.network.specs.Valid.{ValidFile}
 use Rattle.network.proofs.Valid.{within_file}
-use Rattle.plan.specs.declared.answer.Planning.TheVariants as planning
 use Rattle.plan.specs.declared.header.{PlanHeader.PlanHeader, PlanLayout.PlanLayout}
 use Rattle.plan.specs.{PlanLimits.most_plan_bytes, Border.border_count, PlanLayout.plan_few}
-use Rattle.plan.specs.{PlanHeader.plan_header_at, PlanHeader.PlanWithin, PlanValidate.unplanned}
+use Rattle.plan.specs.{PlanHeader.plan_header_at, PlanHeader.PlanWithin}
 use Rattle.plan.specs.PlanLayout.{profile_count, count_block, plan_point_block, plan_blocks, plan_layout_of}
 use Rattle.plan.specs.PlanDecode.{decode_plan, PlanLaid}
 use Rattle.plan.specs.PlanRules.{profiles, plan_judged}
@@ -31,6 +29,7 @@ use Rattle.plan.specs.WellFormed.{WellFormed, well_formed_exactly}
 use Rattle.plan.specs.PlanValidate.{first_unformed, planned_rules, planned_form, planned_length, matching}
 use Rattle.plan.specs.PlanValidate.{planned_header, first_formed, planned_first, planned}
 use Rattle.plan.specs.PlanMatch.{Matches, matching_matches, matches_matching, matches_within}
+use Rattle.file_refusals.specs.declared.Refusal.{Refusal}
 use Rattle.plan.specs.PlanMatch.{borders_few, valid_headed}
 
 -- a plan file with header k, for a network n with header h
@@ -82,13 +81,13 @@ module _ {network : List ℕ} {h : Header} (v : ValidFile network h) {file : Lis
       }
 
 -- no refusal is well-formed
-not_well : (number place : ℕ) (k : PlanHeader) → unplanned number place ≡ planning.WellFormed k → ⊥
+not_well : (number place : ℕ) (k : PlanHeader) → refused number place ≡ Ok k → ⊥
 not_well number place k e = let z : ◌≡◌ {A = ℕ} 0 1 = cc in omega arith
 
-rules_passed : (k m : PlanHeader) (j : Judged) → planned_rules m j ≡ planning.WellFormed k
-    → (j ≡ Sound) × (m ≡ k)
-rules_passed k m Sound e = (refl, (cc))
-rules_passed k m (Faulty r) e = let z : ◌≡◌ {A = ℕ} 0 1 = cc in absurd (omega arith)
+rules_passed : (k m : PlanHeader) (j : Result ⊤ Refusal) → planned_rules m j ≡ Ok k
+    → (j ≡ Ok tt) × (m ≡ k)
+rules_passed k m (Ok _) e = (refl, (cc))
+rules_passed k m (Err r) e = let z : ◌≡◌ {A = ℕ} 0 1 = cc in absurd (omega arith)
 
 -- the runs are in their form where no block out of it is found before the end
 module _ (file : List ℕ) (k : PlanHeader) where
@@ -118,29 +117,29 @@ module _ (file : List ℕ) (k : PlanHeader) where
       f.points_formed
 
 module _ (h : Header) (n : Network) (file : List ℕ) (k : PlanHeader) where
-  planned_valid : planned h n file ≡ planning.WellFormed k → ValidPlan h n file k
+  planned_valid : planned h n file ≡ Ok k → ValidPlan h n file k
   unfolding planned planned_first first_formed planned_header planned_length planned_form
   planned_valid e =
       let m = plan_header_at file in
       let j = plan_judged n (decode_plan file) in
-      let x = planning.WellFormed k in
+      let x = Ok k in
       let (_, e₁) =
-      passed_by_lem (bad_length most_plan_bytes (length file)) (unplanned 11 0)
-      (first_rung (unplanned 12) (length file / block_size) (bad file) (planned_first h n file)) x
+      passed_by_lem (bad_length most_plan_bytes (length file)) (refused 11 0)
+      (first_rung (refused 12) (length file / block_size) (bad file) (planned_first h n file)) x
       (not_well 11 0 k) e in
       let (s, e₂) =
-      rung_passed (unplanned 12) (length file / block_size) (bad file) (planned_first h n file) x
+      rung_passed (refused 12) (length file / block_size) (bad file) (planned_first h n file) x
       (λ i _. not_well 12 i k) e₁ in
       let (f, e₃) =
-      reached_by (first_formed file) (planned_header h n file) (unplanned 13 0) x (not_well 13 0 k) e₂ in
+      reached_by (first_formed file) (planned_header h n file) (refused 13 0) x (not_well 13 0 k) e₂ in
       let (o, e₄) =
-      reached_by (matching h (border_count (partition_of n)) m) (planned_length file m j) (unplanned 14 0) x
+      reached_by (matching h (border_count (partition_of n)) m) (planned_length file m j) (refused 14 0) x
       (not_well 14 0 k) e₃ in
       let (l, e₅) =
-      reached_by (eqb (length file) (block_size * plan_blocks m)) (planned_form file m j) (unplanned 15 0) x
+      reached_by (eqb (length file) (block_size * plan_blocks m)) (planned_form file m j) (refused 15 0) x
       (not_well 15 0 k) e₄ in
       let (u, e₆) =
-      passed_by_lem (ltb (first_unformed file m) (plan_blocks m)) (unplanned 16 (first_unformed file m))
+      passed_by_lem (ltb (first_unformed file m) (plan_blocks m)) (refused 16 (first_unformed file m))
       (planned_rules m j) x (not_well 16 (first_unformed file m) k) e₅ in
       let (w, q) = rules_passed k m j e₆ in
       let (d, z) = (and-eq-true_iff (formed file 0 plan_kind 1 (8 + plan_size)) (eqb (le16 file 22) 0)).0 f in
@@ -170,7 +169,7 @@ module _ {network : List ℕ} {h : Header} (v : ValidFile network h) (file : Lis
     unfolding first_formed
     first_passed = rw (w.first_formed_lem, eq-eqb (le16 file 22) 0 w.bits_zero)
 
-    form_passed : planned_form file k (plan_judged (decode network) (decode_plan file)) ≡ planning.WellFormed k
+    form_passed : planned_form file k (plan_judged (decode network) (decode_plan file)) ≡ Ok k
     unfolding planned_form
     form_passed =
         let f : RunsFormed file k = record {
@@ -184,11 +183,11 @@ module _ {network : List ℕ} {h : Header} (v : ValidFile network h) (file : Lis
           (well_formed_exactly (decode network) (decode_plan file)).1 w.well_formed_lem,
         )
 
-    long_passed : planned_length file k (plan_judged (decode network) (decode_plan file)) ≡ planning.WellFormed k
+    long_passed : planned_length file k (plan_judged (decode network) (decode_plan file)) ≡ Ok k
     unfolding planned_length
     long_passed = rw (eq-eqb (length file) (block_size * plan_blocks k) w.long) form_passed
 
-    header_passed : planned_header h (decode network) file ≡ planning.WellFormed k
+    header_passed : planned_header h (decode network) file ≡ Ok k
     unfolding planned_header
     header_passed =
         rw (
@@ -196,14 +195,14 @@ module _ {network : List ℕ} {h : Header} (v : ValidFile network h) (file : Lis
           matches_matching h (border_count (partition_of (decode network))) k w.matches,
         ) long_passed
 
-    valid_planned : planned h (decode network) file ≡ planning.WellFormed k
+    valid_planned : planned h (decode network) file ≡ Ok k
     unfolding planned planned_first
     valid_planned =
         rw length_passed
-        (rung_clear (unplanned 12) (length file / block_size) (bad file) _
+        (rung_clear (refused 12) (length file / block_size) (bad file) _
         (λ b l. ap not (w.sums b (omega (arith, w.long))))
         ∙ rw first_passed header_passed)
 
-  pub plan_exactly : (planned h (decode network) file ≡ planning.WellFormed k)
+  pub plan_exactly : (planned h (decode network) file ≡ Ok k)
       ↔ ValidPlan h (decode network) file k
   plan_exactly = (planned_valid h (decode network) file k, valid_planned)

@@ -2,7 +2,7 @@
 -- every block's check, the first block's form, the header's numbers, the length again, the later blocks'
 -- forms, and the rules of the tables. Every whole block is summed before the header is looked at.
 use mathlib.Core.{Path.◌≡◌, Path.sym, Path.◌∙◌, Path.ap, List.List}
-use Rattle.std.specs.Prelude.{Bool, true, false, cond, ◌&&◌, ℕ, ◌+◌, ◌*◌, ◌/◌, ◌≤◌, ◌<◌}
+use Rattle.std.specs.Prelude.{Bool, true, false, cond, ◌&&◌, ℕ, ◌+◌, ◌*◌, ◌/◌, ◌≤◌, ◌<◌, Result, Ok, Err, ⊤}
 use Rattle.std.proofs.Common.{arith}
 use lib.{ListN.length, Dec.leb, Dec.ltb, Dec.eqb}
 use borrow.Author.Tests.{lt-ltb, le-ltb, eq-eqb, ne_eqb}
@@ -13,13 +13,10 @@ use Rattle.file_blocks.specs.Kind.{profile_point_kind, profile_point_per, profil
 use Rattle.file_blocks.specs.{Place.blocks, Laid.laid_by}
 use Rattle.file_forms.specs.Read.{bad}
 use Rattle.file_forms.specs.Form.{formed, unformed_or, bad_length, run_taken, run_passed, run_last}
-use Rattle.file_refusals.specs.declared.{Refusal.Refusal, Judged.Judged}
-use Rattle.file_refusals.specs.declared.Judged.TheVariants.{Sound, Faulty}
+use Rattle.file_refusals.specs.declared.{Refusal.Refusal}
 use Rattle.network.specs.declared.header.Header.{Header}
 use Rattle.network.specs.{Network.Network, Town.partition_of}
-use Rattle.file_refusals.specs.Refusal.{refusal}
-use Rattle.plan.specs.declared.answer.Planning.{Planning}
-use Rattle.plan.specs.declared.answer.Planning.TheVariants.{WellFormed, Refused}
+use Rattle.file_refusals.specs.Refusal.{refused}
 use Rattle.plan.specs.declared.header.{PlanHeader.PlanHeader, PlanLayout.PlanLayout}
 use Rattle.plan.specs.PlanLimits.{most_profile_points, most_plan_blocks, most_plan_bytes}
 use Rattle.plan.specs.{Border.border_count, Plan.Plan, PlanHeader.plan_header_at, PlanHeader.PlanWithin}
@@ -28,13 +25,10 @@ use Rattle.plan.specs.{PlanLayout.plan_few, PlanDecode.counts_stored, PlanDecode
 use Rattle.plan.specs.PlanDecode.{decode_plan, PlanLaid, laid_plan, flags_stored}
 use Rattle.plan.specs.PlanRules.{judged_flags, judged_by, plan_judged}
 
-abbrev pub unplanned : ℕ → ℕ → Planning
-unplanned number place = Refused (refusal number place)
-
 -- 17 to 19
-abbrev pub planned_rules : PlanHeader → Judged → Planning
-planned_rules k Sound = WellFormed k
-planned_rules k (Faulty r) = Refused r
+abbrev pub planned_rules : PlanHeader → Result ⊤ Refusal → Result PlanHeader Refusal
+planned_rules k (Ok _) = Ok k
+planned_rules k (Err r) = Err r
 
 -- the first block after the header that is out of its form, by its number, or the count of blocks
 unfoldable pub first_unformed : List ℕ → PlanHeader → ℕ
@@ -45,14 +39,14 @@ first_unformed file k =
     (plan_blocks k)))
 
 -- 16: that block; else what the rules say, which is j
-unfoldable pub planned_form : List ℕ → PlanHeader → Judged → Planning
+unfoldable pub planned_form : List ℕ → PlanHeader → Result ⊤ Refusal → Result PlanHeader Refusal
 planned_form file k j =
-    cond (ltb (first_unformed file k) (plan_blocks k)) (unplanned 16 (first_unformed file k)) (planned_rules k j)
+    cond (ltb (first_unformed file k) (plan_blocks k)) (refused 16 (first_unformed file k)) (planned_rules k j)
 
 -- 15: another length than the header calls for
-unfoldable pub planned_length : List ℕ → PlanHeader → Judged → Planning
+unfoldable pub planned_length : List ℕ → PlanHeader → Result ⊤ Refusal → Result PlanHeader Refusal
 planned_length file k j =
-    cond (eqb (length file) (block_size * plan_blocks k)) (planned_form file k j) (unplanned 15 0)
+    cond (eqb (length file) (block_size * plan_blocks k)) (planned_form file k j) (refused 15 0)
 
 -- 14: the numbers of the network, its border count, and not too many points
 unfoldable pub matching : Header → ℕ → PlanHeader → Bool
@@ -62,24 +56,24 @@ matching h borders k =
     (eqb k.period h.period && (eqb k.nodes h.nodes && (eqb k.arcs h.arcs &&
     (eqb k.cells h.cells && (eqb k.borders borders && leb k.points most_profile_points)))))
 
-unfoldable pub planned_header : Header → Network → List ℕ → Planning
+unfoldable pub planned_header : Header → Network → List ℕ → Result PlanHeader Refusal
 planned_header h n file =
     cond (matching h (border_count (partition_of n)) (plan_header_at file))
     (planned_length file (plan_header_at file) (plan_judged n (decode_plan file)))
-    (unplanned 14 0)
+    (refused 14 0)
 
 -- 13: the first block is of kind 5, with one entry of 20 bytes, of which bytes 22 and 23 are fill
 unfoldable pub first_formed : List ℕ → Bool
 first_formed file = formed file 0 plan_kind 1 (8 + plan_size) && eqb (le16 file 22) 0
 
-unfoldable pub planned_first : Header → Network → List ℕ → Planning
-planned_first h n file = cond (first_formed file) (planned_header h n file) (unplanned 13 0)
+unfoldable pub planned_first : Header → Network → List ℕ → Result PlanHeader Refusal
+planned_first h n file = cond (first_formed file) (planned_header h n file) (refused 13 0)
 
 -- 11: no block, a part of a block, or more than 13,718 blocks; 12: a block's check is wrong
-unfoldable pub planned : Header → Network → List ℕ → Planning
+unfoldable pub planned : Header → Network → List ℕ → Result PlanHeader Refusal
 planned h n file =
-    cond (bad_length most_plan_bytes (length file)) (unplanned 11 0)
-    (first_rung (unplanned 12) (length file / block_size) (bad file)
+    cond (bad_length most_plan_bytes (length file)) (refused 11 0)
+    (first_rung (refused 12) (length file / block_size) (bad file)
     (planned_first h n file))
 
 -- FOR CODE that has looked at the first block's form: it decides, or leaves the answer to the zero bits
@@ -127,15 +121,8 @@ pub ruleset forms = (
 )
 
 -- FOR THE LADDER
-pub rules_sound : (k : PlanHeader) (j i : Judged) → j ≡ i → j ≡ Sound → WellFormed k ≡ planned_rules k i
-rules_sound k j i e f = rw (← e, f)
-
-pub rules_faulty : (k : PlanHeader) (j i : Judged) (r : Refusal) → j ≡ i → j ≡ Faulty r
-    → Refused r ≡ planned_rules k i
-rules_faulty k j i r e f = rw (← e, f)
-
 module _ {file : List ℕ} {l : PlanLayout} (s : PlanLaid file l) (k : PlanHeader) (e : k ≡ plan_header_at file)
-    (b : ℕ) (r : Planning) (f : b ≡ first_unformed file (plan_header_at file)) where
+    (b : ℕ) (r : Result PlanHeader Refusal) (f : b ≡ first_unformed file (plan_header_at file)) where
   is : l ≡ plan_layout_of k
   is = s.is ∙ ap plan_layout_of (sym e)
 
@@ -150,7 +137,7 @@ module _ {file : List ℕ} {l : PlanLayout} (s : PlanLaid file l) (k : PlanHeade
   found : b ≡ first_unformed file k
   found = f ∙ ap (first_unformed file) (sym e)
 
-  pub form_taken : (j : Judged) → b < l.blocks → r ≡ unplanned 16 b → r ≡ planned_form file k j
+  pub form_taken : (j : Result ⊤ Refusal) → b < l.blocks → r ≡ refused 16 b → r ≡ planned_form file k j
   unfolding planned_form
   form_taken j m g = rw (← found, lt-ltb b (plan_blocks k) (rw all at m)) g
 
@@ -163,13 +150,13 @@ module _ {file : List ℕ} {l : PlanLayout} (s : PlanLaid file l) (k : PlanHeade
 
 -- a file of the length that its header calls for is laid out
 module _ (file : List ℕ) (k : PlanHeader) (l : PlanLayout) (e : l ≡ plan_layout_of k) where
-  pub length_passed : (j : Judged) (r : Planning) → length file ≡ block_size * l.blocks
+  pub length_passed : (j : Result ⊤ Refusal) (r : Result PlanHeader Refusal) → length file ≡ block_size * l.blocks
       → r ≡ planned_form file k j → r ≡ planned_length file k j
   unfolding planned_length plan_layout_of
   length_passed j r f g = rw (eq-eqb (length file) (block_size * plan_blocks k) (rw e at f)) g
 
-  pub length_taken : (j : Judged) (r : Planning) → (length file ≡ block_size * l.blocks → ⊥)
-      → r ≡ unplanned 15 0 → r ≡ planned_length file k j
+  pub length_taken : (j : Result ⊤ Refusal) (r : Result PlanHeader Refusal) → (length file ≡ block_size * l.blocks → ⊥)
+      → r ≡ refused 15 0 → r ≡ planned_length file k j
   unfolding planned_length plan_layout_of
   length_taken j r f g = rw (ne_eqb (length file) (block_size * plan_blocks k) (rw e at f)) g
 

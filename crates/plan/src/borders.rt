@@ -1,6 +1,6 @@
 // The borders of a network file, found in one pass over its arcs: a node is marked where an arc enters it
 // from another cell, and the marked nodes are then listed by rising number, or counted.
-ghost use Rattle.std.specs.Prelude.{◌≡◌, ◌+◌, ◌<◌, length};
+ghost use Rattle.std.specs.Prelude.{◌≡◌, ◌==◌, ◌+◌, ◌<◌, length, not, count_by};
 ghost use Rattle.theory_loops.specs.Fill.{overwritten};
 ghost use Rattle.network.specs.Limits.{most_nodes};
 ghost use Rattle.network.specs.Network;
@@ -29,17 +29,17 @@ fn mark_head(network: &[u8], l: Layout, a: usize, marks: &mut [u8; MOST_NODES])
     }
 }
 
-// Marks the head of each such arc.
-fn mark_heads(network: &[u8], l: Layout, marks: &mut [u8; MOST_NODES])
+// The marks of all nodes: those at the head of such an arc have 1.
+fn mark_heads(network: &[u8], l: Layout) -> [u8; MOST_NODES]
     requires laid { Laid network.now l }
     requires sound_network { SoundNetwork (decode network.now) }
-    requires marked { Marked (decode network.now) 0 marks.old }
-    ensures { Marked (decode network.now) (Network.arcs (decode network.now))
-        marks.new }
+    ensures { Marked (decode network.now) (Network.arcs (decode network.now)) result }
 {
+    let mut marks = [0u8; MOST_NODES];
     for a in 0..l.arcs {
-        mark_head(network, l, a, marks);
+        mark_head(network, l, a, &mut marks);
     }
+    marks
 }
 
 // The borders, listed at the front of `out`, and how many they are.
@@ -51,8 +51,7 @@ pub fn list_borders(network: &[u8], l: Layout, out: &mut [u16; MOST_NODES]) -> u
         × (out.new
         ≡ overwritten (borders (partition_of (decode network.now))) out.old) }
 {
-    let mut marks = [0u8; MOST_NODES];
-    mark_heads(network, l, &mut marks);
+    let marks = mark_heads(network, l);
     let mut count = 0;
     for v in 0..l.nodes {
         if marks[v] != 0 {
@@ -63,19 +62,19 @@ pub fn list_borders(network: &[u8], l: Layout, out: &mut [u16; MOST_NODES]) -> u
     count
 }
 
+// How many of the nodes are marked.
+fn count_marks(marks: &[u8]) -> usize
+    ensures { result ≡ count_by (λ mark. not (mark == 0)) marks.now }
+{
+    marks.iter().filter(|mark| **mark != 0).count()
+}
+
 // How many borders there are, where no list of them is needed.
 pub fn count_borders(network: &[u8], l: Layout) -> usize
     requires laid { Laid network.now l }
     requires sound_network { SoundNetwork (decode network.now) }
     ensures { result ≡ border_count (partition_of (decode network.now)) }
 {
-    let mut marks = [0u8; MOST_NODES];
-    mark_heads(network, l, &mut marks);
-    let mut count = 0;
-    for v in 0..l.nodes {
-        if marks[v] != 0 {
-            count += 1;
-        }
-    }
-    count
+    let marks = mark_heads(network, l);
+    count_marks(&marks[..l.nodes])
 }

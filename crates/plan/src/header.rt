@@ -1,10 +1,10 @@
 // The header of a plan file, and where the tables of such a plan stand in its file.
 ghost use Rattle.std.specs.Prelude.{◌≡◌};
 ghost use Rattle.plan.specs.PlanHeader.{PlanWithin};
-ghost use Rattle.plan.specs.PlanLayout.{plan_layout_of};
+ghost use Rattle.plan.specs.PlanLayout.{plan_layout_of, flags_run, counts_run, points_run};
 
 use file_blocks::kind;
-use file_blocks::place::blocks;
+use file_blocks::place::Run;
 
 // The number of the network that the plan is for, that network's counts, the count of its borders, and the
 // points of all profiles.
@@ -45,8 +45,8 @@ impl PlanHeader {
         let borders = self.borders as usize;
         let points = self.points as usize;
         let profiles = borders * nodes;
-        let countblock = 1 + blocks(kind::FLAG_PER, arcs);
-        let pointblock = countblock + blocks(kind::COUNT_PER, profiles);
+        let countblock = 1 + kind::FLAG.blocks(arcs);
+        let pointblock = countblock + kind::COUNT.blocks(profiles);
         PlanLayout {
             period: self.period as usize,
             nodes,
@@ -57,7 +57,42 @@ impl PlanHeader {
             points,
             countblock,
             pointblock,
-            blocks: pointblock + blocks(kind::PROFILE_POINT_PER, points),
+            blocks: pointblock + kind::PROFILE_POINT.blocks(points),
+        }
+    }
+}
+
+impl PlanLayout {
+    // The flag words of the arcs.
+    pub fn flags_run(self) -> Run
+        ensures { result ≡ flags_run self }
+    {
+        Run {
+            from: 1,
+            kind: kind::FLAG,
+            count: self.arcs,
+        }
+    }
+
+    // The counts of points of the profiles.
+    pub fn counts_run(self) -> Run
+        ensures { result ≡ counts_run self }
+    {
+        Run {
+            from: self.countblock,
+            kind: kind::COUNT,
+            count: self.profiles,
+        }
+    }
+
+    // The points of all profiles.
+    pub fn points_run(self) -> Run
+        ensures { result ≡ points_run self }
+    {
+        Run {
+            from: self.pointblock,
+            kind: kind::PROFILE_POINT,
+            count: self.points,
         }
     }
 }

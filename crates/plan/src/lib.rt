@@ -5,12 +5,10 @@
 //   flag      a flag of an arc
 //   read      the entries of a plan file, in place
 //   borders   the borders of a network, listed
-//   answer    what validation answers
 // It may call `file_fields`, `file_blocks`, `file_refusals` and `network`, and cites `file_forms`,
 // `theory_loops`, `theory_paths` and `theory_travel`. Both files are read in place.
 #![tactic(auto)]
 
-pub mod answer;
 pub mod borders;
 pub mod flag;
 pub mod header;

@@ -10,8 +10,8 @@ pub const MOST_POINTS: u32 = 1048576;
 pub const MOST_PROFILES: usize = limits::MOST_NODES * limits::MOST_NODES;
 
 pub const MOST_BLOCKS: usize = 1
-    + (limits::MOST_ARCS + kind::FLAG_PER - 1) / kind::FLAG_PER
-    + (MOST_PROFILES + kind::COUNT_PER - 1) / kind::COUNT_PER
-    + (MOST_POINTS as usize + kind::PROFILE_POINT_PER - 1) / kind::PROFILE_POINT_PER;
+    + (limits::MOST_ARCS + kind::FLAG.per - 1) / kind::FLAG.per
+    + (MOST_PROFILES + kind::COUNT.per - 1) / kind::COUNT.per
+    + (MOST_POINTS as usize + kind::PROFILE_POINT.per - 1) / kind::PROFILE_POINT.per;
 
 pub const MOST_BYTES: usize = BLOCK * MOST_BLOCKS;

@@ -5,8 +5,6 @@ ghost use Rattle.plan.specs.Plan.{point_count};
 ghost use Rattle.plan.specs.PlanDecode.{PlanLaid, decode_plan, flag_word, point_tick, point_travel};
 
 use crate::header::PlanLayout;
-use file_blocks::kind;
-use file_blocks::place::{field16, offset};
 use file_fields::fields::{le32, le64};
 
 // The flag word of arc a.
@@ -15,7 +13,7 @@ pub fn flag_word(plan: &[u8], l: PlanLayout, a: usize) -> u64
     requires a_lt_arcs { a < l.arcs }
     ensures { result ≡ flag_word (decode_plan plan.now) a }
 {
-    le64(plan, offset(1, kind::FLAG_PER, kind::FLAG_SIZE, a))
+    le64(plan, l.flags_run().offset(a))
 }
 
 // How many points profile k has.
@@ -24,7 +22,7 @@ pub fn point_count(plan: &[u8], l: PlanLayout, k: usize) -> usize
     requires k_lt_profiles { k < l.profiles }
     ensures { (result ≡ point_count (decode_plan plan.now) k) × (result < 65536) }
 {
-    field16(plan, l.countblock, kind::COUNT_PER, kind::COUNT_SIZE, 0, k)
+    l.counts_run().field16(plan, 0, k)
 }
 
 // The tick of point q.
@@ -33,14 +31,7 @@ pub fn tick(plan: &[u8], l: PlanLayout, q: usize) -> usize
     requires q_lt_points { q < l.points }
     ensures { (result ≡ point_tick (decode_plan plan.now) q) × (result < 65536) }
 {
-    field16(
-        plan,
-        l.pointblock,
-        kind::PROFILE_POINT_PER,
-        kind::PROFILE_POINT_SIZE,
-        0,
-        q,
-    )
+    l.points_run().field16(plan, 0, q)
 }
 
 // The travel of point q.
@@ -49,11 +40,5 @@ pub fn travel(plan: &[u8], l: PlanLayout, q: usize) -> u32
     requires q_lt_points { q < l.points }
     ensures { result ≡ point_travel (decode_plan plan.now) q }
 {
-    let at = offset(
-        l.pointblock,
-        kind::PROFILE_POINT_PER,
-        kind::PROFILE_POINT_SIZE,
-        q,
-    );
-    le32(plan, at + 2)
+    le32(plan, l.points_run().offset(q) + 2)
 }

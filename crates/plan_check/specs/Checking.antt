@@ -1,21 +1,15 @@
 -- From validation to the tests: what a network that opens and a plan that is well-formed for it give the
 -- check, and the laws by which its code goes on from stage to stage.
 use mathlib.Core.{Path.◌≡◌, Path.sym, Path.◌∙◌, List.List}
-use Rattle.std.specs.Prelude.{ℕ}
+use Rattle.std.specs.Prelude.{ℕ, Result, Ok, Err, ⊤}
 use Rattle.theory_paths.specs.Partition.{Partition}
 use Rattle.file_refusals.specs.declared.Refusal.{Refusal}
-use Rattle.network.specs.declared.answer.Opening.{Opening}
-use Rattle.network.specs.declared.answer.Opening.TheVariants as opening
 use Rattle.network.specs.declared.header.{Header.Header, Layout.Layout}
 use Rattle.network.specs.{Layout.layout_of, Decode.decode, Decode.Laid, Decode.laid_sizes, Town.partition_of}
 use Rattle.network.specs.{Sound.SoundNetwork, Validate.validated}
 use Rattle.network.specs.Valid.{ValidFile}
 use Rattle.network.proofs.Valid.{valid_laid, valid_exactly}
 use Rattle.search_chains.specs.Town.{town_of}
-use Rattle.plan.specs.declared.answer.Planning.{Planning}
-use Rattle.plan.specs.declared.answer.Planning.TheVariants as planning
-use Rattle.plan_check.specs.declared.answer.Checking.{Checking}
-use Rattle.plan_check.specs.declared.answer.Checking.TheVariants.{Refused}
 use Rattle.plan.specs.declared.header.PlanHeader.{PlanHeader}
 use Rattle.plan_tests.specs.declared.tests.Layouts.{Layouts}
 use Rattle.plan.specs.{Borders.listed_front, Plan.Plan, PlanLayout.plan_layout_of, PlanHeader.PlanWithin}
@@ -32,8 +26,8 @@ module _ {network : List ℕ} {h : Header} (v : ValidFile network h) where
   pub check_sound : SoundNetwork (decode network)
   check_sound = v.sound
 
-  pub check_plan_valid : (plan : List ℕ) (m : Planning) (k : PlanHeader) → m ≡ planned h (decode network) plan
-      → m ≡ planning.WellFormed k → ValidPlan h (decode network) plan k
+  pub check_plan_valid : (plan : List ℕ) (m : Result PlanHeader Refusal) (k : PlanHeader) → m ≡ planned h (decode network) plan
+      → m ≡ Ok k → ValidPlan h (decode network) plan k
   check_plan_valid plan m k e f = (plan_exactly v plan k).0 (sym e ∙ f)
 
   module _ {plan : List ℕ} {k : PlanHeader} (w : ValidPlan h (decode network) plan k) where
@@ -60,24 +54,24 @@ module _ {network : List ℕ} {h : Header} (v : ValidFile network h) where
         }
 
 -- FOR THE CODE
-pub check_formed_lem : (G : Partition) (p : Plan) (m M : Planning) (k : PlanHeader) (r : Checking) → m ≡ M
-    → m ≡ planning.WellFormed k → r ≡ checked G p → r ≡ checked_by G p M
+pub check_formed_lem : (G : Partition) (p : Plan) (m M : Result PlanHeader Refusal) (k : PlanHeader) (r : Result ⊤ Refusal) → m ≡ M
+    → m ≡ Ok k → r ≡ checked G p → r ≡ checked_by G p M
 check_formed_lem G p m M k r e f g = rw (← e, f) g
 
-pub check_unformed : (G : Partition) (p : Plan) (m M : Planning) (r : Refusal) → m ≡ M
-    → m ≡ planning.Refused r → Refused r ≡ checked_by G p M
+pub check_unformed : (G : Partition) (p : Plan) (m M : Result PlanHeader Refusal) (r : Refusal) → m ≡ M
+    → m ≡ Err r → Err r ≡ checked_by G p M
 check_unformed G p m M r e f = rw (← e, f)
 
-module _ (network plan : List ℕ) (v : Opening) (e : v ≡ validated network) where
-  pub check_refused : (r : Refusal) → v ≡ opening.Refused r → Refused r ≡ checking network plan
+module _ (network plan : List ℕ) (v : Result Header Refusal) (e : v ≡ validated network) where
+  pub check_refused : (r : Refusal) → v ≡ Err r → Err r ≡ checking network plan
   check_refused r f = rw (← e, f)
 
-  pub check_opened_lem : (h : Header) (r : Checking) → v ≡ opening.Opened h
+  pub check_opened_lem : (h : Header) (r : Result ⊤ Refusal) → v ≡ Ok h
       → r ≡ checked_by (partition_of (decode network)) (decode_plan plan) (planned h (decode network) plan)
       → r ≡ checking network plan
   check_opened_lem h r f g = rw (← e, f) g
 
-pub check_valid : (network : List ℕ) (v : Opening) (h : Header) → v ≡ validated network → v ≡ opening.Opened h
+pub check_valid : (network : List ℕ) (v : Result Header Refusal) (h : Header) → v ≡ validated network → v ≡ Ok h
     → ValidFile network h
 check_valid network v h e f = (valid_exactly network h).0 (sym e ∙ f)
 

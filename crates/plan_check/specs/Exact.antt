@@ -3,17 +3,15 @@
 -- and that is what the theory of profiles and flags asks (`accepted_checked`).
 use mathlib.Core.Logic.Iff
 use mathlib.Core.{Path.◌≡◌, Path.◌∙◌, Logic.◌↔◌, Bool.false}
-use Rattle.std.specs.Prelude.{ℕ, ◌<◌}
-use Rattle.std.proofs.Common.{arith}
+use Rattle.std.specs.Prelude.{ℕ, ◌<◌, Result, Ok, Err, ⊤}
 use Rattle.theory_loops.specs.Pick.{passed_by_lem, rung_passed, rung_clear}
 use Rattle.theory_loops.specs.Triple.{first_triple_rung, triple_clear}
 use Rattle.theory_paths.specs.{Graph.Lawful, Partition.Partition}
 use Rattle.theory_paths.specs.Flags.{EnoughFlags, TrueProfiles, Checked}
 use Rattle.theory_paths.proofs.Flags.{checked_exact}
+use Rattle.file_refusals.specs.Apart.{not_both}
 use Rattle.file_refusals.specs.Refusal.{refusal}
 use Rattle.file_refusals.specs.declared.Refusal.{Refusal}
-use Rattle.plan_check.specs.declared.answer.Checking.{Checking}
-use Rattle.plan_check.specs.declared.answer.Checking.TheVariants.{Accepted, Refused}
 use Rattle.plan.specs.{Border.border_count, Plan.Plan, Plan.flag, Plan.profile_to}
 use Rattle.plan_tests.specs.Tests.{fails20, fails}
 use Rattle.plan_check.specs.Check.{triple_rung, checked}
@@ -29,42 +27,39 @@ pub record NoneFails (G : Partition) (p : Plan) : Type 0 where
 
 module _ (G : Partition) (p : Plan) where
   -- THE LADDER: no refusal accepts, so acceptance passed every rung
-  not_accepted : (r : Refusal) → Refused r ≡ Accepted → ⊥
-  not_accepted r e = let z : ◌≡◌ {A = ℕ} 0 1 = cc in omega arith
-
-  pub rung_nowhere : (number : ℕ) (next : Checking) → triple_rung number G p next ≡ Accepted
-      → Nowhere G p number × (next ≡ Accepted)
+  pub rung_nowhere : (number : ℕ) (next : Result ⊤ Refusal) → triple_rung number G p next ≡ Ok tt
+      → Nowhere G p number × (next ≡ Ok tt)
   unfolding triple_rung first_triple_rung
   rung_nowhere number next e =
-      let (c, f) = passed_by_lem _ _ next Accepted (not_accepted _) e in
+      let (c, f) = passed_by_lem _ _ next (Ok tt) (not_both _ tt) e in
       ((triple_clear (fails number G p) (border_count G) G.graph.nodes G.graph.period).0 c, f)
 
-  pub nowhere_rung : (number : ℕ) (next : Checking) → Nowhere G p number → triple_rung number G p next ≡ next
+  pub nowhere_rung : (number : ℕ) (next : Result ⊤ Refusal) → Nowhere G p number → triple_rung number G p next ≡ next
   unfolding triple_rung first_triple_rung
   nowhere_rung number next h =
       rw ((triple_clear (fails number G p) (border_count G) G.graph.nodes G.graph.period).1 h)
 
-  accepted_passed : checked G p ≡ Accepted → NoneFails G p
+  accepted_passed : checked G p ≡ Ok tt → NoneFails G p
   unfolding checked
   accepted_passed e =
       let (a, e₁) =
-      rung_passed _ G.graph.arcs (fails20 G p) _ Accepted (λ i _. not_accepted (refusal 20 i)) e in
+      rung_passed _ G.graph.arcs (fails20 G p) _ (Ok tt) (λ i _. not_both (refusal 20 i) tt) e in
       let (b, e₂) = rung_nowhere 21 _ e₁ in
       let (c, e₃) = rung_nowhere 22 _ e₂ in
       let (d, e₄) = rung_nowhere 23 _ e₃ in
-      let (f, _) = rung_nowhere 24 Accepted e₄ in
+      let (f, _) = rung_nowhere 24 (Ok tt) e₄ in
       record { inside = a; home = b; no_less = c; attained = d; flagged = f }
 
-  passed_accepted : NoneFails G p → checked G p ≡ Accepted
+  passed_accepted : NoneFails G p → checked G p ≡ Ok tt
   unfolding checked
   passed_accepted h =
-      rung_clear (λ a. Refused (refusal 20 a)) G.graph.arcs (fails20 G p) _ h.inside
+      rung_clear (λ a. Err (refusal 20 a)) G.graph.arcs (fails20 G p) _ h.inside
       ∙ nowhere_rung 21 _ h.home
       ∙ nowhere_rung 22 _ h.no_less
       ∙ nowhere_rung 23 _ h.attained
-      ∙ nowhere_rung 24 Accepted h.flagged
+      ∙ nowhere_rung 24 (Ok tt) h.flagged
 
-  pub accepted_none : (checked G p ≡ Accepted) ↔ NoneFails G p
+  pub accepted_none : (checked G p ≡ Ok tt) ↔ NoneFails G p
   accepted_none = (accepted_passed, passed_accepted)
 
   module _ (ok : Lawful G.graph) where
@@ -89,12 +84,12 @@ module _ (G : Partition) (p : Plan) where
     )
 
     -- so acceptance is what the theory of profiles and flags asks
-    pub accepted_checked : (checked G p ≡ Accepted) ↔ Checked G.graph G.cell (flag p) (profile_to G p)
+    pub accepted_checked : (checked G p ≡ Ok tt) ↔ Checked G.graph G.cell (flag p) (profile_to G p)
     accepted_checked = Iff.trans accepted_none none_checked
 
 -- THE THEOREM
 pub check_exact : {G : Partition} (p : Plan) → Lawful G.graph
-    → (checked G p ≡ Accepted)
+    → (checked G p ≡ Ok tt)
     ↔ (TrueProfiles G.graph G.cell (profile_to G p) × EnoughFlags G.graph G.cell (flag p))
 check_exact {G} p ok =
     Iff.trans (accepted_checked G p ok) (checked_exact ok G.cell (flag p) (profile_to G p))

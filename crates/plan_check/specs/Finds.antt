@@ -3,40 +3,36 @@
 -- all profiles have points. How many are allowed is said in plan_tests/specs/Finds.antt, where a find is
 -- too.
 use mathlib.Core.{Path.◌≡◌, Path.sym, Path.◌∙◌, List.List}
-use Rattle.std.specs.Prelude.{ℕ, ◌*◌, ◌^◌, ◌≤◌, ◌<◌}
+use Rattle.std.specs.Prelude.{ℕ, ◌*◌, ◌^◌, ◌≤◌, ◌<◌, Result, Ok, Err, ⊤}
 use Rattle.std.proofs.Common.{arith}
 use Rattle.theory_loops.specs.{Total.total, Sums.total_zero}
+use Rattle.file_refusals.specs.Apart.{not_both}
 use Rattle.file_refusals.specs.declared.Refusal.{Refusal}
 use Rattle.network.specs.{Network.nodes, Decode.decode, Town.partition_of}
 use Rattle.plan.specs.{Border.border_count, Plan.point_count, PlanDecode.decode_plan}
 use Rattle.plan_tests.specs.Finds.{allowed}
-use Rattle.plan_check.specs.declared.answer.Checking.{Checking}
-use Rattle.plan_check.specs.declared.answer.Checking.TheVariants.{Accepted, Refused}
 
-pub record Finds (network plan : List ℕ) (verdict : Checking) (finds : ℕ) : Type 0 where
-  pub none : (r : Refusal) → verdict ≡ Refused r → r.number ≤ 20 → finds ≡ 0
+pub record Finds (network plan : List ℕ) (verdict : Result ⊤ Refusal) (finds : ℕ) : Type 0 where
+  pub none : (r : Refusal) → verdict ≡ Err r → r.number ≤ 20 → finds ≡ 0
   -- those for border number i
   pub each : ℕ → ℕ
   pub sum : finds ≡ total (border_count (partition_of (decode network))) each
   pub within : (i : ℕ) → i < border_count (partition_of (decode network))
       → each i ≤ allowed (decode network) (decode_plan plan) i
-  pub enough : verdict ≡ Accepted
+  pub enough : verdict ≡ Ok tt
       → total (border_count (partition_of (decode network)) * nodes (decode network))
       (point_count (decode_plan plan))
       ≤ finds
   pub small : finds < 2 ^ 64
 
 -- a refusal before these tests, for which nothing was found
-pub finds_none : (network plan : List ℕ) {v : Checking} {k : ℕ} (r : Refusal) → v ≡ Refused r → k ≡ 0
+pub finds_none : (network plan : List ℕ) {v : Result ⊤ Refusal} {k : ℕ} (r : Refusal) → v ≡ Err r → k ≡ 0
     → Finds network plan v k
 finds_none network plan r e f = record {
   none = λ _ _ _. f;
   each = λ _. 0;
   sum = f ∙ sym (total_zero (border_count (partition_of (decode network))));
   within = λ i h. omega arith;
-  enough = λ g. absurd (not_accepted (sym e ∙ g));
+  enough = λ g. not_both r tt (sym e ∙ g);
   small = omega arith;
 }
-  where
-    not_accepted : Refused r ≡ Accepted → ⊥
-    not_accepted g = let z : ◌≡◌ {A = ℕ} 0 1 = cc in omega arith

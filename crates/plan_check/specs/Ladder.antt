@@ -1,17 +1,15 @@
 -- The ladder of the check, from the first arc at which 20 fails to the tests 21 to 24, and what judging the
 -- borders rests on, once the tables are filled.
-use mathlib.Core.{Path.◌≡◌, Path.refl, Path.◌∙◌, Path.ap, List.List}
-use Rattle.std.specs.Prelude.{ℕ, ◌≤◌, ◌<◌}
+use mathlib.Core.{Path.◌≡◌, Path.refl, Path.◌∙◌, List.List}
+use Rattle.std.specs.Prelude.{ℕ, ◌≤◌, ◌<◌, Result, ⊤}
 use Rattle.std.proofs.Common.{arith}
 use Rattle.theory_loops.specs.{First.first, Fill.Filled, Pick.first_rung, Pick.at_first, Pick.past_first}
 use Rattle.theory_paths.specs.Partition.{Partition}
 use Rattle.network.specs.{Network.arcs, Network.start, Decode.decode, Town.partition_of}
-use Rattle.file_refusals.specs.Refusal.{refusal}
+use Rattle.file_refusals.specs.Refusal.{refused}
 use Rattle.file_refusals.specs.declared.Refusal.{Refusal}
 use Rattle.search_chains.specs.Chain.{end_of, Chained}
 use Rattle.search_chains.specs.declared.chain.End.TheVariants.{Tail}
-use Rattle.plan_check.specs.declared.answer.Checking.{Checking}
-use Rattle.plan_check.specs.declared.answer.Checking.TheVariants.{Refused}
 use Rattle.plan_tests.specs.declared.tests.Layouts.{Layouts}
 use Rattle.plan.specs.{Border.Listed, Plan.Plan, PlanDecode.decode_plan}
 use Rattle.plan_tests.specs.{Tests.fails20, Checkable.Checkable}
@@ -20,7 +18,7 @@ use Rattle.plan_judge.specs.Finding.{Equipped}
 
 -- the whole ladder: v is the first arc at which 20 fails
 checked_from : (G : Partition) (p : Plan)
-    → first_rung (λ a. Refused (refusal 20 a)) G.graph.arcs (fails20 G p) (triples_from 4 21 G p)
+    → first_rung (refused 20) G.graph.arcs (fails20 G p) (triples_from 4 21 G p)
     ≡ checked G p
 unfolding checked triples_from
 checked_from G p = refl
@@ -43,21 +41,21 @@ module _ {network plan : List ℕ} {l : Layouts} (w : Checkable network plan l) 
     same_arcs : v ≡ first (arcs (decode network)) (fails20 (partition_of (decode network)) (decode_plan plan))
     same_arcs = rw w.town.sizes.arcs at e
 
-    pub checked_unflagged : {q : Refusal} → v < l.network.arcs → q ≡ refusal 20 v
-        → Refused q ≡ checked (partition_of (decode network)) (decode_plan plan)
+    pub checked_unflagged : {r : Result ⊤ Refusal} → v < l.network.arcs → r ≡ refused 20 v
+        → r ≡ checked (partition_of (decode network)) (decode_plan plan)
     checked_unflagged h f =
         at_first _ (triples_from 4 21 (partition_of (decode network)) (decode_plan plan))
-        (λ a. Refused (refusal 20 a)) (arcs (decode network)) v
+        (refused 20) (arcs (decode network)) v
         (fails20 (partition_of (decode network)) (decode_plan plan)) same_arcs
-        (omega (arith, w.town.sizes.arcs)) (ap Refused f)
+        (omega (arith, w.town.sizes.arcs)) f
         ∙ checked_from (partition_of (decode network)) (decode_plan plan)
 
-    pub checked_rest : {r : Checking} → l.network.arcs ≤ v
+    pub checked_rest : {r : Result ⊤ Refusal} → l.network.arcs ≤ v
         → r ≡ triples_from 4 21 (partition_of (decode network)) (decode_plan plan)
         → r ≡ checked (partition_of (decode network)) (decode_plan plan)
     checked_rest h f =
         past_first _ (triples_from 4 21 (partition_of (decode network)) (decode_plan plan))
-        (λ a. Refused (refusal 20 a)) (arcs (decode network)) v
+        (refused 20) (arcs (decode network)) v
         (fails20 (partition_of (decode network)) (decode_plan plan)) same_arcs
         (omega (arith, w.town.sizes.arcs)) f
         ∙ checked_from (partition_of (decode network)) (decode_plan plan)

@@ -1,15 +1,13 @@
 -- The verdict by what judging the borders has found, and the finds that go with it: the ladder of the tests
 -- 21 to 24 (`stands_verdict`), and document 02's bounds (`finds_told_lem`).
 use mathlib.Core.{Path.◌≡◌, Path.refl, Path.sym, Path.◌∙◌, Path.ap, Logic.inl, Logic.inr, List.List}
-use Rattle.std.specs.Prelude.{Bool, true, false, cond, ℕ, zero, suc, ◌+◌, ◌-◌, ◌≤◌, ◌<◌, ltb}
+use Rattle.std.specs.Prelude.{Bool, true, false, cond, ℕ, zero, suc, ◌+◌, ◌-◌, ◌≤◌, ◌<◌, ltb, Result, Ok, Err, ⊤}
 use native.Mathlib.{Decide.dec_lt, Omega.arith}
 use Rattle.std.proofs.Common.{lt-ltb, le-ltb, ltb-false}
 use Rattle.theory_loops.specs.{Triple.triple_found, Total.total_most}
 use Rattle.theory_paths.specs.Partition.{Partition}
 use Rattle.plan.specs.{Border.border_count, Plan.Plan, PlanDecode.decode_plan}
 use Rattle.plan_tests.specs.{Tests.fails, Meaning.Nowhere, Checkable.Checkable, Finds.allowed_most}
-use Rattle.plan_check.specs.declared.answer.Checking.{Checking}
-use Rattle.plan_check.specs.declared.answer.Checking.TheVariants.{Accepted, Refused}
 use Rattle.plan_judge.specs.declared.Found.{Found}
 use Rattle.plan_check.specs.{Check.refused_at, Check.triple_rung, Exact.nowhere_rung, Finds.Finds}
 use Rattle.file_refusals.specs.declared.Refusal.{Refusal}
@@ -18,8 +16,8 @@ use Rattle.plan_tests.specs.declared.tests.Layouts.{Layouts}
 use Rattle.plan_judge.specs.{Standing.Stands, Tally.Tally, Tally.tally_enough}
 
 -- THE LADDER of the tests from one number on, k of them
-unfoldable pub triples_from : ℕ → ℕ → Partition → Plan → Checking
-triples_from zero number G p = Accepted
+unfoldable pub triples_from : ℕ → ℕ → Partition → Plan → Result ⊤ Refusal
+triples_from zero number G p = Ok tt
 triples_from (suc k) number G p = triple_rung number G p (triples_from k (number + 1) G p)
 
 -- tests that fail nowhere are passed
@@ -40,16 +38,16 @@ passed_tests G p (suc d) k number h =
     ∙ ap (λ (m : ℕ). triples_from k m G p) (sym z)
 
 -- the verdict by what was found
-unfoldable pub verdict_of : Found → Checking
+unfoldable pub verdict_of : Found → Result ⊤ Refusal
 verdict_of f =
-    cond (ltb f.number 25) (refused_at f.number f.border f.node f.tick) Accepted
+    cond (ltb f.number 25) (refused_at f.number f.border f.node f.tick) (Ok tt)
 
 pub verdict_refused : (f : Found) → f.number < 25
     → refused_at f.number f.border f.node f.tick ≡ verdict_of f
 unfolding verdict_of
 verdict_refused f h = rw (lt-ltb f.number 25 h)
 
-pub verdict_accepted : (f : Found) → 25 ≤ f.number → Accepted ≡ verdict_of f
+pub verdict_accepted : (f : Found) → 25 ≤ f.number → Ok tt ≡ verdict_of f
 unfolding verdict_of
 verdict_accepted f h = rw (le-ltb f.number 25 h)
 
@@ -66,7 +64,7 @@ module _ {G : Partition} {p : Plan} {i : ℕ} {f : Found} (s : Stands G p i 0 f)
       ∙ passed_tests G p (f.number - 21) k 21 (λ m lo hi. nowhere m lo (omega (arith, s.low)))
       ∙ ap (λ (m : ℕ). triples_from k m G p) b
 
-  accepted : 25 ≤ f.number → Accepted ≡ triples_from 4 21 G p
+  accepted : 25 ≤ f.number → Ok tt ≡ triples_from 4 21 G p
   unfolding triples_from
   accepted h = sym (rest 0 (omega (arith, s.high)))
 
@@ -81,7 +79,7 @@ module _ {G : Partition} {p : Plan} {i : ℕ} {f : Found} (s : Stands G p i 0 f)
       (refused_at f.number) (triples_from (24 - f.number) (f.number + 1) G p)
       ∙ sym (rest (suc (24 - f.number)) (omega arith))
 
-  pub stands_verdict : {r : Checking} → r ≡ verdict_of f → r ≡ triples_from 4 21 G p
+  pub stands_verdict : {r : Result ⊤ Refusal} → r ≡ verdict_of f → r ≡ triples_from 4 21 G p
   stands_verdict q = q ∙ elim (dec_lt f.number 25) [
     | yes h ↦ sym (verdict_refused f h) ∙ refused h
     | no h ↦ sym (verdict_accepted f (omega arith)) ∙ accepted (omega arith)
@@ -92,23 +90,23 @@ module _ {network plan : List ℕ} {l : Layouts} (w : Checkable network plan l) 
     (t : Tally (decode network) (decode_plan plan) l.plan.borders f.number finds) (low : 21 ≤ f.number)
     (high : f.number ≤ 25) where
   refused_late : (b : Bool) → ltb f.number 25 ≡ b → (r : Refusal)
-      → cond b (refused_at f.number f.border f.node f.tick) Accepted ≡ Refused r → r.number ≤ 20
+      → cond b (refused_at f.number f.border f.node f.tick) (Ok tt) ≡ Err r → r.number ≤ 20
       → finds ≡ 0
   refused_late true e r q h =
       let z : f.number ≡ r.number = ap number_of q in
       absurd (omega arith)
     where
-      number_of : Checking → ℕ
-      number_of Accepted = 0
-      number_of (Refused r) = r.number
+      number_of : Result ⊤ Refusal → ℕ
+      number_of (Ok _) = 0
+      number_of (Err r) = r.number
   refused_late false e r q h = let z : ◌≡◌ {A = ℕ} 0 1 = cc in absurd (omega arith)
 
   accepted_all : (b : Bool) → ltb f.number 25 ≡ b
-      → cond b (refused_at f.number f.border f.node f.tick) Accepted ≡ Accepted → f.number ≡ 25
+      → cond b (refused_at f.number f.border f.node f.tick) (Ok tt) ≡ Ok tt → f.number ≡ 25
   accepted_all true e q = let z : ◌≡◌ {A = ℕ} 0 1 = cc in absurd (omega arith)
   accepted_all false e q = omega (arith, ltb-false f.number 25 e)
 
-  pub finds_told_lem : {r : Checking} → r ≡ verdict_of f → Finds network plan r finds
+  pub finds_told_lem : {r : Result ⊤ Refusal} → r ≡ verdict_of f → Finds network plan r finds
   unfolding verdict_of
   finds_told_lem e = record {
     none = λ q g h. refused_late (ltb f.number 25) refl q (sym e ∙ g) h;

@@ -1,15 +1,9 @@
-// What the check of a plan answers.
+// What the check of a plan tells.
 use file_refusals::Refusal;
 
-#[derive(Clone, Copy)]
-pub enum Checking {
-    Accepted,
-    Refused(Refusal),
-}
-
-// What the check of a plan tells: its verdict, and how many finds it made.
+// The check's verdict, and how many finds it made.
 #[derive(Clone, Copy)]
 pub struct Report {
-    pub verdict: Checking,
+    pub verdict: Result<(), Refusal>,
     pub finds: u64,
 }

@@ -1,7 +1,7 @@
 // The check of a well-formed plan against its network: the lowest of the tests 20 to 24 that fails anywhere,
 // and the first place where it fails. Both files are read in place; the few tables that spare reading stand
 // on the stack.
-ghost use Rattle.std.specs.Prelude.{◌≡◌, ◌<◌};
+ghost use Rattle.std.specs.Prelude.{◌≡◌, ◌<◌, Ok, Err};
 ghost use Rattle.theory_loops.specs.First;
 ghost use Rattle.network.specs.Limits.{most_period, most_nodes};
 ghost use Rattle.network.specs.Decode.{decode};
@@ -15,19 +15,17 @@ ghost use Rattle.plan.specs.PlanValidate.{planned};
 ghost use Rattle.plan.specs.PlanValid.{ValidPlan};
 ghost use Rattle.plan_tests.specs.Checkable.{Checkable};
 ghost use Rattle.plan.specs.Border.{Listed};
-ghost use Rattle.plan_check.specs.declared.answer.Checking.TheVariants.{Accepted, Refused};
 ghost use Rattle.plan_judge.specs.Finding.{Equipped};
 ghost use Rattle.plan_check.specs.Finds.{Finds};
 ghost use Rattle.plan_check.specs.Verdict.{triples_from, verdict_of};
 
-use crate::answer::{Checking, Report};
-use file_refusals::{Refusal, number};
-use network::answer::Opening;
+use crate::answer::Report;
+use file_refusals::reason::Reason;
+use file_refusals::{Refusal, refused};
 use network::header::Header;
 use network::limits::{MOST_ARCS, MOST_NODES};
 use network_validate::validate::validate;
 use node_verdict::NONE;
-use plan::answer::Planning;
 use plan::borders::list_borders;
 use plan::header::PlanHeader;
 use plan_judge::{Found, judge_borders};
@@ -40,20 +38,20 @@ use search_chains::chain;
 use search_chains::chain::End;
 
 // The verdict by what was found.
-fn verdict_of(found: Found) -> Checking
+fn verdict_of(found: Found) -> Result<(), Refusal>
     requires { found.number < 25
         → (found.border < most_nodes) × (found.node < most_nodes) × (found.tick < most_period) }
     ensures { result ≡ verdict_of found }
 {
     if found.number < NONE {
-        return Checking::Refused(Refusal {
+        return Err(Refusal {
             number: found.number,
             first: found.border as u32,
             second: found.node as u32,
             third: found.tick as u32,
         });
     }
-    Checking::Accepted
+    Ok(())
 }
 
 // The first arc at which 20 fails; the number of arcs where there is none.
@@ -62,13 +60,8 @@ fn first_unflagged(network: &[u8], plan: &[u8], l: Layouts) -> usize
     ensures { result ≡ First.first l.network.arcs
         (fails20 (partition_of (decode network.now)) (decode_plan plan.now)) }
 {
-    let arcs = l.network.arcs;
-    for a in 0..arcs {
-        if tests::is_unflagged_inside(network, plan, l, a) {
-            return a;
-        }
-    }
-    arcs
+    let bad = (0..l.network.arcs).position(|a| tests::is_unflagged_inside(network, plan, l, a));
+    bad.unwrap_or(l.network.arcs)
 }
 
 // The tests 21 to 24.
@@ -92,11 +85,10 @@ fn check_triples(
     Report { verdict, finds }
 }
 
-// A refusal before the tests 21 to 24, for which nothing was found.
-fn refused(refusal: Refusal) -> Report
-    ensures { (result.verdict ≡ Refused refusal) × (result.finds ≡ 0) }
+// A verdict before the tests 21 to 24, for which nothing was found.
+fn before_finds(verdict: Result<(), Refusal>) -> Report
+    ensures { (result.verdict ≡ verdict) × (result.finds ≡ 0) }
 {
-    let verdict = Checking::Refused(refusal);
     Report { verdict, finds: 0 }
 }
 
@@ -111,7 +103,7 @@ pub fn check_tests(network: &[u8], plan: &[u8], l: Layouts, borders: &[u16; MOST
 {
     let arc = first_unflagged(network, plan, l);
     if arc < l.network.arcs {
-        return refused(file_refusals::refuse(number::CHECK_INSIDE, arc as u32));
+        return before_finds(refused(Reason::CheckInside, arc as u32));
     }
     let mut points = [0u16; MOST_ARCS];
     times::first_points(network, l.network, &mut points);
@@ -147,8 +139,8 @@ fn check_opened(network: &[u8], h: Header, plan: &[u8]) -> Report
 {
     let borders = count_borders(network, h, h.layout());
     match validate_plan(network, h, borders, plan) {
-        Planning::Refused(r) => refused(r),
-        Planning::WellFormed(k) => check_formed(network, h, plan, k),
+        Err(r) => before_finds(Err(r)),
+        Ok(k) => check_formed(network, h, plan, k),
     }
 }
 
@@ -159,7 +151,7 @@ pub fn check_plan(network: &[u8], plan: &[u8]) -> Report
         × Finds network.now plan.now result.verdict result.finds }
 {
     match validate(network) {
-        Opening::Refused(r) => refused(r),
-        Opening::Opened(h) => check_opened(network, h, plan),
+        Err(r) => before_finds(Err(r)),
+        Ok(h) => check_opened(network, h, plan),
     }
 }

@@ -9,7 +9,6 @@ ghost use Rattle.file_frames.specs.Laid.{entries_put};
 ghost use Rattle.plan_encode.specs.Places.{PlanRoom};
 
 use file_blocks::kind;
-use file_blocks::place::offset;
 use file_fields::fields::{put16, put32, put64};
 use network::limits::MOST_ARCS;
 use plan::header::PlanLayout;
@@ -21,7 +20,7 @@ pub fn put_count(out: &mut [u8], l: PlanLayout, q: usize, count: u16)
     ensures { out.new ≡ put 2 out.old
         (Place.offset l.countblock count_per count_size q) count }
 {
-    let at = offset(l.countblock, kind::COUNT_PER, kind::COUNT_SIZE, q);
+    let at = kind::COUNT.offset(l.countblock, q);
     put16(out, at, count);
 }
 
@@ -32,12 +31,7 @@ pub fn put_point(out: &mut [u8], l: PlanLayout, q: usize, tick: u16, travel: u32
     ensures { out.new ≡ put 6 out.old
         (Place.offset l.pointblock profile_point_per profile_point_size q) (tick + 65536 * travel) }
 {
-    let at = offset(
-        l.pointblock,
-        kind::PROFILE_POINT_PER,
-        kind::PROFILE_POINT_SIZE,
-        q,
-    );
+    let at = kind::PROFILE_POINT.offset(l.pointblock, q);
     put16(out, at, tick);
     put32(out, at + 2, travel);
 }
@@ -49,7 +43,7 @@ pub fn put_flags(out: &mut [u8], l: PlanLayout, words: &[u64; MOST_ARCS])
         out.old }
 {
     for a in 0..l.arcs {
-        let at = offset(1, kind::FLAG_PER, kind::FLAG_SIZE, a);
+        let at = kind::FLAG.offset(1, a);
         put64(out, at, words[a]);
     }
 }

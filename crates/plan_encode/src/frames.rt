@@ -10,6 +10,7 @@ ghost use Rattle.plan_encode.specs.Places.{PlanWritable};
 ghost use Rattle.plan_encode.specs.Laying.{Laying};
 
 use file_blocks::kind;
+use file_blocks::place::Run;
 use file_fields::fields::{put16, put32};
 use file_frames::frames::frame_run;
 use plan::header::{PlanHeader, PlanLayout};
@@ -35,15 +36,16 @@ pub fn write_frames(out: &mut [u8], k: PlanHeader, l: PlanLayout)
     requires { PlanWritable k l (length out.old) }
     ensures { Laying k none none none out.old out.new }
 {
-    frame_run(out, 0, kind::PLAN, 1, 1);
-    frame_run(out, 1, kind::FLAG, kind::FLAG_PER, l.arcs);
-    frame_run(out, l.countblock, kind::COUNT, kind::COUNT_PER, l.profiles);
     frame_run(
         out,
-        l.pointblock,
-        kind::PROFILE_POINT,
-        kind::PROFILE_POINT_PER,
-        l.points,
+        Run {
+            from: 0,
+            kind: kind::PLAN,
+            count: 1,
+        },
     );
+    frame_run(out, l.flags_run());
+    frame_run(out, l.counts_run());
+    frame_run(out, l.points_run());
     put_header(out, k);
 }

@@ -2,9 +2,8 @@
 // which both its ends lie (`inside_words`); with each border of the network it gets the flag of the border's
 // cell where it starts a least path to the border (`flag_border`). Most arcs that do not are ruled out by
 // bounds of the rows of their ends (specs/Bounds.antt).
-// It may call `toward_start` for what starts a least path, `toward_node` for rows, `plan` for flags,
-// `search_arcs` for entries of tables and `network` for those of the file; it cites `theory_loops`,
-// `theory_paths` and `toward_row`.
+// It may call `toward_start` for what starts a least path, `plan` for flags and `network` for the entries of
+// the file; it cites `theory_loops`, `theory_paths`, `toward_row`, `toward_list` and `toward_node`.
 #![tactic(auto)]
 
 ghost use Rattle.std.specs.Prelude.{◌≡◌, ◌+◌, ◌*◌, ◌≤◌, ◌<◌, length};
@@ -24,7 +23,6 @@ use network::header::Layout;
 use network::limits::{MOST_ARCS, MOST_NODES, MOST_PERIOD};
 use network::read;
 use plan::flag;
-use search_arcs::wide;
 use toward_start::is_start;
 
 // The flag word of arc a by no border: the flag of its ends' cell, where they have one.
@@ -52,13 +50,6 @@ pub fn inside_words(file: &[u8], l: Layout, words: &mut [u64; MOST_ARCS])
     for a in 0..l.arcs {
         words[a] = inside_word(file, l, a);
     }
-}
-
-// An entry of a table of bounds as a size.
-fn size(x: u32) -> usize
-    ensures { (result ≡ x) × (result < 4294967296) }
-{
-    x as usize
 }
 
 // The flag word of arc a once border b, in cell c, is counted. `row` is a row to work in.
@@ -91,7 +82,8 @@ fn flag_arc(
     let u = read::tail(file, l, a);
     let v = read::head(file, l, a);
     // at its best the arc gives more than its tail's row has anywhere
-    if size(low[v]) < size(room[u]) + wide(least[a]) {
+    let ruled_out = u64::from(low[v]) < u64::from(room[u]) + u64::from(least[a]);
+    if ruled_out {
         return word;
     }
     if is_start(file, l, starts, a, b, work, row) {

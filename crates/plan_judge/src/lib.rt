@@ -3,7 +3,7 @@
 // for.
 // It may call `node_verdict` and `node_runs` for the tests at a node, `arc_runs` for arcs in brief,
 // `plan_values` for where profiles start, and `network` to read the file; it cites `plan`, `plan_tests`,
-// `search_chains`, `search_arcs`, `theory_loops` and `theory_paths`.
+// `search_chains`, `theory_loops` and `theory_paths`.
 #![tactic(auto)]
 
 ghost use Rattle.std.specs.Prelude.{◌≡◌, ◌<◌};
@@ -20,13 +20,11 @@ ghost use Rattle.plan_judge.specs.Standing.{Stands};
 ghost use Rattle.plan_judge.specs.Tally.{Tally};
 
 use arc_runs::brief;
-use file_refusals::number::CHECK_BORDER;
 use network::header::Layout;
 use network::limits::{MOST_ARCS, MOST_NODES, MOST_PERIOD};
-use node_verdict::NONE;
+use node_verdict::{BORDER, NONE};
 use plan_tests::tests::{Layouts, Target};
 use plan_values::starts;
-use search_arcs::wide;
 
 // The runs of a day, and the tick after the last of them.
 const RUN_ENDS: usize = MOST_PERIOD + 1;
@@ -47,7 +45,7 @@ fn target_at(network: &[u8], l: Layout, borders: &[u16; MOST_NODES], i: usize) -
     requires i_bound { (i < border_count (partition_of (decode network.now))) × (i < most_nodes) }
     ensures { (result.number ≡ i) × Aimed network.now result }
 {
-    let node = wide(borders[i]);
+    let node = usize::from(borders[i]);
     Target {
         number: i,
         node,
@@ -139,7 +137,7 @@ fn first_failing(
                 }
             }
         }
-        if best.number <= CHECK_BORDER {
+        if best.number <= BORDER {
             break 'borders;
         }
     }

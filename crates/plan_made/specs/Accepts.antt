@@ -1,7 +1,7 @@
 -- The plan that is made of a network is accepted: every file that is formed as a plan file for the network
 -- and decodes to it (`made_accepted`), and so its own (`file_accepted`).
 use mathlib.Core.{Path.◌≡◌, List.List}
-use Rattle.std.specs.Prelude.{ℕ, ◌≤◌}
+use Rattle.std.specs.Prelude.{ℕ, ◌≤◌, Ok}
 use native.Mathlib.{Nat.mul-le-mul, Omega.arith}
 use Rattle.theory_paths.specs.Least.{Modest}
 use Rattle.network.specs.declared.header.Header.{Header}
@@ -10,7 +10,6 @@ use Rattle.network.specs.Town.{graph_of, partition_of, town_lawful, town_bounded
 use Rattle.plan.specs.declared.header.PlanHeader.{PlanHeader}
 use Rattle.plan.specs.{PlanDecode.decode_plan, PlanDecode.point_total, PlanMatch.valid_headed}
 use Rattle.plan.specs.{PlanValid.ValidPlan, PlanLimits.most_profile_points}
-use Rattle.plan_check.specs.declared.answer.Checking.TheVariants.{Accepted}
 use Rattle.plan_check.specs.CheckPlan.{checking, accepts_exactly}
 use Rattle.file_fields.specs.Fields.{Bytes}
 use Rattle.plan_made.specs.Made.{plan_of, made_true, made_enough}
@@ -33,7 +32,7 @@ valid_modest {network} {h} v =
 pub made_accepted : {network plan : List ℕ} {h : Header} {k : PlanHeader} → ValidFile network h
     → ValidPlan h (decode network) plan k
     → decode_plan plan ≡ plan_of (decode network).cells (partition_of (decode network))
-    → checking network plan ≡ Accepted
+    → checking network plan ≡ Ok tt
 made_accepted {network} v w e =
     let n = decode network in
     let G = partition_of n in
@@ -44,7 +43,7 @@ made_accepted {network} v w e =
 -- the file that is made
 pub file_accepted : {network : List ℕ} {h : Header} → ValidFile network h → Bytes network
     → point_total (made_plan (decode network)) ≤ most_profile_points
-    → checking network (made_file (decode network)) ≡ Accepted
+    → checking network (made_file (decode network)) ≡ Ok tt
 file_accepted v b few =
     let m = valid_modest v in
     made_accepted v (made_valid v m b few) (made_decodes v m b few)

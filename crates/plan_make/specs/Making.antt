@@ -1,6 +1,7 @@
 -- FOR THE CODE: the header that it makes, the file that it leaves, and its refusals 34, 33 and 31.
 use mathlib.Core.{Path.◌≡◌, Path.refl, Path.sym, Path.◌∙◌, Path.ap, List.List, List.◌++◌}
-use Rattle.std.specs.Prelude.{ℕ, zero, suc, ◌*◌, ◌≤◌, ◌<◌}
+use Rattle.file_refusals.specs.Refusal.{refused}
+use Rattle.std.specs.Prelude.{ℕ, zero, suc, ◌*◌, ◌≤◌, ◌<◌, Result, Ok, Err}
 use Rattle.std.proofs.Common.{arith}
 use lib.{ListN.length, ListN.get_or, ListN.take, ListN.drop, Seq.length-sets}
 use borrow.Author.Tests.{lt-ltb, le-ltb}
@@ -9,12 +10,8 @@ use Rattle.file_fields.specs.{Block.block_size, Fields.byte_of, Put.put_stores}
 use Rattle.file_blocks.specs.{Kind.flag_per, Kind.flag_size, Place.offset}
 use Rattle.file_frames.specs.{Laid.none, Laid.entries_put, Sealed.sealed_to}
 use Rattle.file_refusals.specs.declared.Refusal.{Refusal}
-use Rattle.file_refusals.specs.declared.writing.Writing.{Writing}
-use Rattle.file_refusals.specs.declared.writing.Writing.TheVariants.{Written, Refused}
-use Rattle.file_refusals.specs.Writing.{unwritten, written_into, Writes, writes_refused}
+use Rattle.file_refusals.specs.Writing.{written_into, Writes, writes_refused}
 use Rattle.file_refusals.specs.{Writing.into_short, Writing.into_whole}
-use Rattle.network.specs.declared.answer.Opening.{Opening}
-use Rattle.network.specs.declared.answer.Opening.TheVariants as opening
 use Rattle.network.specs.declared.header.{Header.Header, Layout.Layout}
 use Rattle.network.specs.{Network.Network, Network.nodes, Network.arcs, Network.start, Decode.decode}
 use Rattle.network.specs.{Town.partition_of, Validate.validated, Valid.ValidFile}
@@ -175,8 +172,8 @@ pub counted_over : (m : Network) {points : ℕ} → Counted (partition_of m) poi
 counted_over m c l = omega (arith, c.many l, made_total m.cells (partition_of m))
 
 -- and 31 behind it
-module _ (n : Network) (before : List ℕ) (r : Writing) where
-  pub into_many : most_profile_points < point_total (made_plan n) → r ≡ unwritten 33
+module _ (n : Network) (before : List ℕ) (r : Result ℕ Refusal) where
+  pub into_many : most_profile_points < point_total (made_plan n) → r ≡ refused 33 0
       → Writes (made_into n (length before)) (made_file n) before before r
   unfolding made_into
   into_many l e =
@@ -193,20 +190,20 @@ module _ (n : Network) (before : List ℕ) (r : Writing) where
       written = w.written;
     }
 
-    pub made_short : {long : ℕ} → length (made_file n) ≡ long → length before < long → r ≡ unwritten 31
+    pub made_short : {long : ℕ} → length (made_file n) ≡ long → length before < long → r ≡ refused 31 0
         → Writes (made_into n (length before)) (made_file n) before before r
     made_short e l f = behind before (into_short (made_file n) before r (rw e l) f)
 
     pub made_whole : (after : List ℕ) {long : ℕ} → length (made_file n) ≡ long → long ≤ length before
-        → after ≡ overwritten (made_file n) before → r ≡ Written (record { bytes = long })
+        → after ≡ overwritten (made_file n) before → r ≡ Ok long
         → Writes (made_into n (length before)) (made_file n) before after r
     made_whole after {long} e l f g =
-        let h : r ≡ Written (record { bytes = length (made_file n) }) = rw e g in
+        let h : r ≡ Ok (length (made_file n)) = rw e g in
         behind after (rw h (into_whole (made_file n) before after (rw e l) f))
 
 -- 34, and what is left of the work list past it
-module _ {n : Network} {size : ℕ} (s : size ≡ work_size n) {out₀ : List ℕ} {r : Writing} where
-  pub work_short : {work : List ℕ} → length work < size → r ≡ unwritten 34 → MakesOpened n work work out₀
+module _ {n : Network} {size : ℕ} (s : size ≡ work_size n) {out₀ : List ℕ} {r : Result ℕ Refusal} where
+  pub work_short : {work : List ℕ} → length work < size → r ≡ refused 34 0 → MakesOpened n work work out₀
       out₀ r
   unfolding made_with zeroed
   work_short {work} l e =
@@ -228,14 +225,14 @@ module _ {n : Network} {size : ℕ} (s : size ≡ work_size n) {out₀ : List �
       }
 
 -- 1 to 10 with 37
-module _ {network work₀ out₀ : List ℕ} {o : Opening} where
-  pub made_refused : {q : Refusal} {r : Writing} → o ≡ validated network → o ≡ opening.Refused q → r ≡
-      Refused q
+module _ {network work₀ out₀ : List ℕ} {o : Result Header Refusal} where
+  pub made_refused : {q : Refusal} {r : Result ℕ Refusal} → o ≡ validated network → o ≡ Err q → r ≡
+      Err q
       → MakeCall network work₀ work₀ out₀ out₀ r
   made_refused e f g = record { answer = rw (← e, f) g; work = rw (← e, f); written = rw g }
 
-  pub made_opened : {h : Header} {work₁ out₁ : List ℕ} {r : Writing} → o ≡ validated network
-      → o ≡ opening.Opened h → MakesOpened (decode network) work₀ work₁ out₀ out₁ r
+  pub made_opened : {h : Header} {work₁ out₁ : List ℕ} {r : Result ℕ Refusal} → o ≡ validated network
+      → o ≡ Ok h → MakesOpened (decode network) work₀ work₁ out₀ out₁ r
       → MakeCall network work₀ work₁ out₀ out₁ r
   made_opened e f m = record {
     answer = rw (← e, f) m.answer;
@@ -243,7 +240,7 @@ module _ {network work₀ out₀ : List ℕ} {o : Opening} where
     written = m.written;
   }
 
-pub opened_valid : {network : List ℕ} {o : Opening} {h : Header} → o ≡ validated network → o ≡
-    opening.Opened h
+pub opened_valid : {network : List ℕ} {o : Result Header Refusal} {h : Header} → o ≡ validated network → o ≡
+    Ok h
     → ValidFile network h
 opened_valid {network} {h = h} e f = (valid_exactly network h).0 (sym e ∙ f)

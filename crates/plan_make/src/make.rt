@@ -15,9 +15,8 @@ ghost use Rattle.plan_make.specs.Make.{MakeCall, MakesOpened, made_into};
 
 use file_fields::BLOCK;
 use file_frames::checks::write_checks;
-use file_refusals::number;
-use file_refusals::writing::{Length, Writing, unwritten};
-use network::answer::Opening;
+use file_refusals::reason::Reason;
+use file_refusals::{Refusal, refused};
 use network::header::{Header, Layout};
 use network::limits::{MOST_ARCS, MOST_NODES};
 use network_validate::validate::validate;
@@ -78,7 +77,7 @@ fn make_counted(
     points: u32,
     work: &mut [u32],
     out: &mut [u8],
-) -> Writing
+) -> Result<u32, Refusal>
     requires valid_file { ValidFile file.now h × (h.number < 2 ^ 32) }
     requires tables { Tables file.now l starts.now into.now next.now least.now borders.now }
     requires count_value { (count ≡ border_count (partition_of (decode file.now)))
@@ -99,16 +98,22 @@ fn make_counted(
     let k = head.layout();
     let long = BLOCK * k.blocks;
     if out.len() < long {
-        return unwritten(number::ANSWER_SHORT);
+        return refused(Reason::AnswerShort, 0);
     }
     write_plan(
         file, l, starts, into, next, least, borders, head, k, work, out,
     );
-    Writing::Written(Length { bytes: long as u32 })
+    Ok(long as u32)
 }
 
 // Refusals 33 and 31, or the plan written, in a work list of exactly the entries that are needed.
-fn make_listed(file: &[u8], h: Header, l: Layout, work: &mut [u32], out: &mut [u8]) -> Writing
+fn make_listed(
+    file: &[u8],
+    h: Header,
+    l: Layout,
+    work: &mut [u32],
+    out: &mut [u8],
+) -> Result<u32, Refusal>
     requires valid_file { ValidFile file.now h × (h.number < 2 ^ 32) × (l ≡ layout_of h) }
     requires work_len { length work.old ≡ l.nodes * l.period }
     ensures { Writes (made_into (decode file.now) (length out.old))
@@ -127,7 +132,7 @@ fn make_listed(file: &[u8], h: Header, l: Layout, work: &mut [u32], out: &mut [u
         file, l, &starts, &into, &next, &least, &borders, count, work,
     );
     if MOST_POINTS < points {
-        return unwritten(number::PLAN_POINTS);
+        return refused(Reason::PlanPoints, 0);
     }
     make_counted(
         file, h, l, &starts, &into, &next, &least, &borders, count, points, work, out,
@@ -135,7 +140,7 @@ fn make_listed(file: &[u8], h: Header, l: Layout, work: &mut [u32], out: &mut [u
 }
 
 // Refusals 34, 33 and 31, or the plan written; past 34 the work list ends as zero.
-fn make_opened(file: &[u8], h: Header, work: &mut [u32], out: &mut [u8]) -> Writing
+fn make_opened(file: &[u8], h: Header, work: &mut [u32], out: &mut [u8]) -> Result<u32, Refusal>
     requires { ValidFile file.now h × (h.number < 2 ^ 32) }
     ensures { MakesOpened (decode file.now) work.old work.new
         out.old out.new result }
@@ -143,7 +148,7 @@ fn make_opened(file: &[u8], h: Header, work: &mut [u32], out: &mut [u8]) -> Writ
     let l = h.layout();
     let size = l.nodes * l.period;
     if work.len() < size {
-        return unwritten(number::WORK_SHORT);
+        return refused(Reason::WorkShort, 0);
     }
     let answer = make_listed(file, h, l, &mut work[..size], out);
     zero(work, size);
@@ -152,12 +157,10 @@ fn make_opened(file: &[u8], h: Header, work: &mut [u32], out: &mut [u8]) -> Writ
 
 // The length of the plan's file, with the first lent bytes that file; or a refusal, with every lent byte as
 // it was. Past 34 the first entries of the work list are zero.
-pub fn make_plan(network: &[u8], work: &mut [u32], out: &mut [u8]) -> Writing
+pub fn make_plan(network: &[u8], work: &mut [u32], out: &mut [u8]) -> Result<u32, Refusal>
     ensures { MakeCall network.now work.old work.new out.old
         out.new result }
 {
-    match validate(network) {
-        Opening::Refused(r) => Writing::Refused(r),
-        Opening::Opened(h) => make_opened(network, h, work, out),
-    }
+    let h = validate(network)?;
+    make_opened(network, h, work, out)
 }

@@ -3,8 +3,10 @@
 -- is one step for a processor, for some at once, and among ticks below 2^15 it is their own order.
 use mathlib.Core.{Path.◌≡◌, Path.refl, Bool.Bool, Bool.true, Bool.false, Bool.cond}
 use Rattle.std.specs.Prelude.{ℕ, ◌+◌, ◌%◌, ◌<◌, ◌≤◌, nat_le, nat_lt}
+use mir.Val.{bool_byte}
+use Rattle.theory_breaks.specs.Tally.{flag, flag_of, flag_few}
 use Rattle.std.proofs.Common.{arith}
-use borrow.Author.Tests.{ltb-true, ltb-false, leb-false, lt-ltb, le-ltb, le-leb, lt-leb}
+use borrow.Author.Tests.{ltb-true, ltb-false, leb-false, lt-ltb, le-ltb, le-leb}
 
 -- half of the numbers of 16 bits
 abbrev pub half : ℕ
@@ -55,12 +57,9 @@ moved_word t l = go (nat_lt t half) refl
     go true e = omega (arith, ltb-true t half e)
     go false e = omega (arith, ltb-false t half e)
 
-module _ (t s x y : ℕ) (l : t < 65536) (m : s < 65536) (e : x ≡ (t + half) % 65536)
-    (f : y ≡ (s + half) % 65536) where
-  pub word_falls : x ≤ y → falls t s ≡ true
-  unfolding falls
-  word_falls o = le-leb (moved t) (moved s) (omega (arith, moved_word t l, moved_word s m))
-
-  pub word_rises : y < x → falls t s ≡ false
-  unfolding falls
-  word_rises o = lt-leb (moved t) (moved s) (omega (arith, moved_word t l, moved_word s m))
+pub words_fall : (t s : ℕ) → t < 65536 → s < 65536 → {r : ℕ}
+    → r ≡ bool_byte (nat_le ((t + half) % 65536) ((s + half) % 65536)) → (r ≡ flag (falls t s)) × (r < 2)
+unfolding falls
+words_fall t s l m e =
+    let z = rw (moved_word t l, moved_word s m, flag_of (nat_le (moved t) (moved s))) at e in
+    (z, omega (arith, z, flag_few (nat_le (moved t) (moved s))))

@@ -2,7 +2,8 @@
 -- its points begin at tick 0 and end below the period, the counts add up, and the ticks fail to rise at no
 -- more points than there are profiles with points, no rule is broken.
 use mathlib.Core.{Path.◌≡◌, Path.refl, Path.sym, Path.◌∙◌, Bool.Bool, Bool.true, Bool.false, List.List}
-use Rattle.std.specs.Prelude.{ℕ, zero, suc, ◌+◌, ◌-◌, ◌*◌, ◌<◌, ◌≤◌, min, ◌==◌, nat_lt}
+use Rattle.file_refusals.specs.Refusal.{refused}
+use Rattle.std.specs.Prelude.{ℕ, zero, suc, ◌+◌, ◌-◌, ◌*◌, ◌<◌, ◌≤◌, min, ◌==◌, nat_lt, Ok}
 use native.Mathlib.{Nat.le_of_lt, Nat.lt_of_lt_of_le, Nat.add-zero, Numerals.add-one, Omega.arith}
 use borrow.Author.{Count.below_more, Tests.ltb-true, Tests.le-ltb, Tests.eq-eqb, Tests.eqb-true}
 use Rattle.theory_loops.specs.Count as Count
@@ -15,8 +16,6 @@ use Rattle.file_blocks.specs.Kind.{profile_point_kind, profile_point_per, profil
 use Rattle.file_blocks.specs.Place.{blocks}
 use Rattle.file_forms.specs.SoundBlock.{RunSound}
 use Rattle.file_blocks.specs.declared.walk.Walk.{Walk}
-use Rattle.file_refusals.specs.declared.Judged.TheVariants.{Sound}
-use Rattle.file_refusals.specs.Refusal.{faulty}
 use Rattle.plan.specs.declared.header.PlanLayout.{PlanLayout}
 use Rattle.plan.specs.{Plan.Plan, Plan.point_count, Plan.point_start, Plan.point_ticks, PlanWalk.count_at}
 use Rattle.plan.specs.PlanDecode.{decode_plan, PlanLaid, point_tick, point_total, plan_sizes, plan_small}
@@ -131,16 +130,16 @@ module _ (p : Plan) (l : PlanLayout) (h : ℕ) (points_are : l.points ≡ point_
     count_fine = le-ltb l.period (point_count p k) (a.profile k o).few
 
   -- THE LAW
-  rising_sound : Sound ≡ judged_counts l.period l.profiles p
+  rising_sound : (Ok tt) ≡ judged_counts l.period l.profiles p
   unfolding judged_counts judged_sum judged_ticks
   rising_sound =
       let n = l.profiles in
       let e = all_clear (bad_count l.period p) n count_fine in
       let f = all_clear (bad_profile l.period p) n profile_fine in
-      let g : Sound ≡ judged_ticks l.period n p =
-      past_first Sound _ (λ k. faulty 19 (first_bad_point l.period p k)) n n (bad_profile l.period p)
+      let g : (Ok tt) ≡ judged_ticks l.period n p =
+      past_first (Ok tt) _ (λ k. refused 19 (first_bad_point l.period p k)) n n (bad_profile l.period p)
       (sym f) (omega arith) refl in
-      past_first Sound _ (faulty 18) n n (bad_count l.period p) (sym e) (omega arith)
+      past_first (Ok tt) _ (refused 18) n n (bad_count l.period p) (sym e) (omega arith)
       (rw (eq-eqb (point_start p n) (point_total p) (a.sum ∙ points_are)) g)
 
 -- FOR CODE that looks at one profile
@@ -178,7 +177,7 @@ pub record Holding (file : List ℕ) (l : PlanLayout) (k from some : ℕ) (count
 pub record Risen (file : List ℕ) (l : PlanLayout) : Type 0 where
   pub blocks_sound : RunSound file l.pointblock profile_point_kind profile_point_per profile_point_size
       l.points
-  pub rules_kept : Sound ≡ judged_counts l.period l.profiles (decode_plan file)
+  pub rules_kept : (Ok tt) ≡ judged_counts l.period l.profiles (decode_plan file)
 
 module _ {file : List ℕ} {l : PlanLayout} (s : PlanLaid file l) where
   abbrev plan : Plan

@@ -8,7 +8,6 @@ ghost use Rattle.plan_rising.specs.Breaks.{falls_at, break_at};
 
 use file_blocks::kind;
 use file_fields::fields::le16;
-use std::num::wrapping_add_u16;
 
 // Half of the numbers of 16 bits, above every tick of a good plan. Numbers that are moved by it are compared
 // as those with a sign are, which a processor does in one step for some at once.
@@ -18,11 +17,7 @@ const HALF: u16 = 32768;
 pub fn is_break(t: u16, before: u16) -> u16
     ensures { (result ≡ flag (falls t before)) × (result < 2) }
 {
-    if wrapping_add_u16(t, HALF) <= wrapping_add_u16(before, HALF) {
-        1
-    } else {
-        0
-    }
+    u16::from(t.wrapping_add(HALF) <= before.wrapping_add(HALF))
 }
 
 // The same of the word at byte o, and that of the next point.
@@ -30,7 +25,7 @@ pub fn break_at(plan: &[u8], o: usize) -> u16
     requires { o + profile_point_size + 2 ≤ length plan.now }
     ensures { (result ≡ flag (falls_at plan.now o)) × (result < 2) }
 {
-    is_break(le16(plan, o + kind::PROFILE_POINT_SIZE), le16(plan, o))
+    is_break(le16(plan, o + kind::PROFILE_POINT.size), le16(plan, o))
 }
 
 // The breaks of m points behind a point at byte `base`, side by side with it.
@@ -40,7 +35,7 @@ pub fn breaks_some(plan: &[u8], base: usize, m: usize) -> usize
 {
     let mut breaks = 0;
     for e in 0..m {
-        breaks += break_at(plan, base + kind::PROFILE_POINT_SIZE * e) as usize;
+        breaks += usize::from(break_at(plan, base + kind::PROFILE_POINT.size * e));
     }
     breaks
 }

@@ -9,7 +9,6 @@ ghost use Rattle.plan_rising.specs.Progress.{points_sound, Walked};
 use crate::breaks::is_break;
 use crate::words::breaks_beside;
 use file_blocks::kind;
-use file_blocks::place::entries_in;
 use file_fields::fields::le16;
 use file_fields::{BLOCK, HEAD};
 use file_forms::sound::is_sound_block;
@@ -44,13 +43,13 @@ fn step(plan: &[u8], l: PlanLayout, progress: Progress) -> Progress
     ensures { Walked plan.now l result × (result.done ≡ progress.done + 1) }
 {
     let j = progress.done;
-    let m = entries_in(kind::PROFILE_POINT_PER, l.points, j) - 1;
+    let m = kind::PROFILE_POINT.entries_in(l.points, j) - 1;
     let base = BLOCK * (l.pointblock + j) + HEAD;
-    let behind = is_break(le16(plan, base), progress.last as u16) as usize;
+    let behind = usize::from(is_break(le16(plan, base), progress.last as u16));
     let beside = breaks_beside(plan, base, m);
     Progress {
         done: j + 1,
-        last: le16(plan, base + kind::PROFILE_POINT_SIZE * m) as usize,
+        last: usize::from(le16(plan, base + kind::PROFILE_POINT.size * m)),
         breaks: progress.breaks + behind + beside,
     }
 }
@@ -65,15 +64,7 @@ pub fn advance(plan: &[u8], l: PlanLayout, progress: Progress, until: usize) -> 
     let done = progress.done;
     let mut next = progress;
     for j in done..until {
-        let sound = is_sound_block(
-            plan,
-            l.pointblock,
-            kind::PROFILE_POINT,
-            kind::PROFILE_POINT_PER,
-            kind::PROFILE_POINT_SIZE,
-            l.points,
-            j,
-        );
+        let sound = is_sound_block(plan, l.points_run(), j);
         if !sound {
             return next;
         }

@@ -10,7 +10,6 @@ ghost use Rattle.plan_rising.specs.Rising.{Kept, Risen};
 
 use crate::progress::{advance, start};
 use file_blocks::kind;
-use file_blocks::place::blocks;
 use file_blocks::walk::Walk;
 use plan::header::PlanLayout;
 use plan::read::tick;
@@ -51,7 +50,7 @@ fn is_kept(plan: &[u8], l: PlanLayout, from: usize, count: usize) -> bool
 fn has_points(count: usize) -> usize
     ensures { (result ≡ flag (nat_lt 0 count)) × (result < 2) }
 {
-    if 0 < count { 1 } else { 0 }
+    usize::from(0 < count)
 }
 
 // Does the plan keep the rules, in sound blocks: are all profiles so, do the counts add up to the points, and
@@ -61,7 +60,7 @@ pub fn is_rising(plan: &[u8], l: PlanLayout) -> bool
     ensures { result ≡ true → Risen plan.now l }
 {
     let profiles = l.profiles;
-    let mut counts = Walk::new(l.countblock, kind::COUNT_PER, kind::COUNT_SIZE, 0);
+    let mut counts = Walk::new(l.countblock, kind::COUNT, 0);
     let mut progress = start();
     let mut from = 0;
     let mut some = 0;
@@ -71,7 +70,7 @@ pub fn is_rising(plan: &[u8], l: PlanLayout) -> bool
         if !kept {
             return false;
         }
-        let until = blocks(kind::PROFILE_POINT_PER, from + count);
+        let until = kind::PROFILE_POINT.blocks(from + count);
         progress = advance(plan, l, progress, until);
         let done = progress.done;
         if done != until {
@@ -79,7 +78,7 @@ pub fn is_rising(plan: &[u8], l: PlanLayout) -> bool
         }
         some += has_points(count);
         from += count;
-        counts = counts.next(kind::COUNT_PER, kind::COUNT_SIZE);
+        counts = counts.next(kind::COUNT);
     }
     if from != l.points {
         return false;

@@ -15,18 +15,18 @@ const PART: usize = 16;
 
 const WORDS: usize = 3 * PART;
 
-const PART_SIZE: usize = kind::PROFILE_POINT_SIZE * PART;
+const PART_SIZE: usize = kind::PROFILE_POINT.size * PART;
 
 // Points in five parts, and those of a full block after them.
 const POINTS: usize = 5 * PART;
 
-const REST: usize = kind::PROFILE_POINT_PER - 1 - POINTS;
+const REST: usize = kind::PROFILE_POINT.per - 1 - POINTS;
 
 // 1 where word i of a part is a tick, 0 where it is a piece of a travel.
 fn is_tick(i: usize) -> u16
     ensures { result ≡ tick_mark i }
 {
-    if i % 3 == 0 { 1 } else { 0 }
+    u16::from(i % 3 == 0)
 }
 
 // How many words fall from one point to the next, of five as far from each other as the parts, the first at
@@ -62,8 +62,8 @@ pub fn breaks_beside(plan: &[u8], base: usize, m: usize) -> usize
     ensures { result ≡ count m (break_at plan.now base) }
 {
     if m == POINTS + REST {
-        let rest = base + kind::PROFILE_POINT_SIZE * POINTS;
-        return breaks_by_words(plan, base) as usize + breaks_some(plan, rest, REST);
+        let rest = base + kind::PROFILE_POINT.size * POINTS;
+        return usize::from(breaks_by_words(plan, base)) + breaks_some(plan, rest, REST);
     }
     breaks_some(plan, base, m)
 }

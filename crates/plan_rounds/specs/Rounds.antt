@@ -73,6 +73,9 @@ module _ {file : List ℕ} {l : Layout} {starts into next least borders : List �
   border_index_lem =
       omega (arith, borders_few (partition_of (decode file)), town.sizes.nodes, town.small.nodes_most)
 
+  pub aimed_node : {W : List ℕ} {b : ℕ} → Aimed (decode file) i W b → b < l.nodes
+  aimed_node a = omega (arith, a.border, at_node (partition_of (decode file)) i h, town.sizes.nodes)
+
   module _ {b : ℕ} (e : b ≡ get_or borders i 0) where
     pub border_is : b ≡ border_at (partition_of (decode file)) i
     border_is = e ∙ t.listed.at i h

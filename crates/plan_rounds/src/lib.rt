@@ -1,7 +1,7 @@
 // plan_rounds: the two rounds over the borders of a network whose plan is made: one counts the points of all
 // profiles, the other puts points and flags. Both work out the least travels to each border in a lent list.
-// It may call `toward_node` for least travels and `plan_rows` and `plan_flags` for points and flags, and
-// `search_arcs` for widths; it cites `plan_made` for what the plan is.
+// It may call `toward_node` for least travels and `plan_rows` and `plan_flags` for points and flags; it cites
+// `plan_made` for what the plan is.
 #![tactic(auto)]
 
 pub mod rounds;

@@ -1,10 +1,12 @@
 // The two rounds over the borders of a network.
-ghost use Rattle.std.specs.Prelude.{◌≡◌, ◌*◌, ◌≤◌, ◌<◌, length};
+ghost use Rattle.std.specs.Prelude.{◌≡◌, ◌*◌, ◌≤◌, ◌<◌, length, replicate};
 ghost use Rattle.network.specs.Decode.{decode};
+ghost use Rattle.network.specs.Limits.{most_nodes};
 ghost use Rattle.network.specs.Town.{partition_of};
 ghost use Rattle.plan.specs.Border.{border_count};
 ghost use Rattle.plan_encode.specs.Places.{PlanRoom};
-ghost use Rattle.plan_flags.specs.Words.{Flags, FlagsAfter};
+ghost use Rattle.toward_list.specs.Heights.{Bounds};
+ghost use Rattle.plan_flags.specs.Words.{Flags};
 ghost use Rattle.plan_rounds.specs.Rounds.{Tables, Aimed, Counted, Held, PutTo};
 
 use network::header::Layout;
@@ -14,10 +16,10 @@ use plan::limits::MOST_POINTS;
 use plan_flags::flag_border;
 use plan_rows::count::count_rows;
 use plan_rows::rows::put_rows;
-use search_arcs::wide;
 use toward_node::least_travels;
 
-// The least travels to border number i, which it answers. `row` is a row to work in.
+// The least travels to border number i, which it answers. `row` is a row to work in; `low` and `room` begin
+// as zeros, and end as bounds of the rows.
 fn travels_to(
     file: &[u8],
     l: Layout,
@@ -29,53 +31,19 @@ fn travels_to(
     i: usize,
     work: &mut [u32],
     row: &mut [u32; MOST_PERIOD],
+    low: &mut [u32; MOST_NODES],
+    room: &mut [u32; MOST_NODES],
 ) -> usize
     requires tables { Tables file.now l starts.now into.now next.now least.now borders.now }
     requires i_bound { (i < border_count (partition_of (decode file.now)))
         × (length work.old ≡ l.nodes * l.period) × (l.period ≤ length row.old) }
-    ensures { Aimed (decode file.now) i work.new result
+    requires zeros { (low.old ≡ replicate most_nodes 0) × (room.old ≡ replicate most_nodes 0) }
+    ensures { Aimed (decode file.now) i work.new result × Bounds l work.new low.new room.new
         × (length work.new ≡ length work.old)
         × (length row.new ≡ length row.old) }
 {
-    let b = wide(borders[i]);
-    let mut low = [0u32; MOST_NODES];
-    let mut room = [0u32; MOST_NODES];
-    least_travels(
-        file, l, starts, into, next, least, b, work, row, &mut low, &mut room,
-    );
-    b
-}
-
-// The same, with the border's flags added to the words.
-fn flags_to(
-    file: &[u8],
-    l: Layout,
-    starts: &[u16; MOST_ARCS],
-    into: &[u16; MOST_NODES],
-    next: &[u16; MOST_ARCS],
-    least: &[u16; MOST_ARCS],
-    borders: &[u16; MOST_NODES],
-    i: usize,
-    work: &mut [u32],
-    row: &mut [u32; MOST_PERIOD],
-    words: &mut [u64; MOST_ARCS],
-) -> usize
-    requires tables { Tables file.now l starts.now into.now next.now least.now borders.now }
-    requires i_bound { (i < border_count (partition_of (decode file.now)))
-        × (length work.old ≡ l.nodes * l.period) × (l.period ≤ length row.old)
-        × (l.arcs ≤ length words.old) }
-    ensures { Aimed (decode file.now) i work.new result
-        × FlagsAfter (decode file.now) result words.old words.new
-        × (length work.new ≡ length work.old)
-        × (length row.new ≡ length row.old) }
-{
-    let b = wide(borders[i]);
-    let mut low = [0u32; MOST_NODES];
-    let mut room = [0u32; MOST_NODES];
-    least_travels(
-        file, l, starts, into, next, least, b, work, row, &mut low, &mut room,
-    );
-    flag_border(file, l, starts, least, b, &low, &room, work, row, words);
+    let b = usize::from(borders[i]);
+    least_travels(file, l, starts, into, next, least, b, work, row, low, room);
     b
 }
 
@@ -100,8 +68,10 @@ pub fn count_points(
     let mut row = [0u32; MOST_PERIOD];
     let mut seen = 0;
     for i in 0..count {
+        let mut low = [0u32; MOST_NODES];
+        let mut room = [0u32; MOST_NODES];
         travels_to(
-            file, l, starts, into, next, least, borders, i, work, &mut row,
+            file, l, starts, into, next, least, borders, i, work, &mut row, &mut low, &mut room,
         );
         seen += count_rows(l, work);
         if MOST_POINTS < seen {
@@ -134,8 +104,13 @@ pub fn put_borders(
     let mut row = [0u32; MOST_PERIOD];
     let mut q = 0;
     for i in 0..k.borders {
-        flags_to(
-            file, l, starts, into, next, least, borders, i, work, &mut row, words,
+        let mut low = [0u32; MOST_NODES];
+        let mut room = [0u32; MOST_NODES];
+        let b = travels_to(
+            file, l, starts, into, next, least, borders, i, work, &mut row, &mut low, &mut room,
+        );
+        flag_border(
+            file, l, starts, least, b, &low, &room, work, &mut row, words,
         );
         q = put_rows(l, work, out, k, i * l.nodes, q);
     }

@@ -3,7 +3,7 @@
 //   count    how many points the rows have
 //   points   the points of one row, put into the file
 //   rows     the points and counts of all rows of a border
-// It may call `toward_points` for where a row has points, `toward_node` for where a row stands, and
+// It may call `toward_points` for where a row has points, `toward_list` for where a row stands, and
 // `plan_encode` to put entries; it cites `theory_loops`, `theory_travel` and `plan`.
 #![tactic(auto)]
 

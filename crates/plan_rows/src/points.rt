@@ -60,10 +60,7 @@ fn part_end(x: usize, last: usize) -> usize
     requires { x < last }
     ensures { (x < result) × (result ≤ last) }
 {
-    if last - x < PART {
-        return last;
-    }
-    x + PART
+    x + PART.min(last - x)
 }
 
 // Puts the points from tick 1 up to the last, part by part.

@@ -1,7 +1,8 @@
 -- The pass over all profiles that judges rules 18 and 19 together: the invariant of its loop, the laws of
 -- each step, and its answer. The points are scanned as long as they stand in the file and none is bad; the
 -- counts are read to their end, since rule 18 comes before rule 19.
-use Rattle.std.specs.Prelude.{◌≡◌, refl, Bool, ℕ, suc, ◌+◌, ◌*◌, ◌≤◌, ◌<◌, ltb}
+use Rattle.file_refusals.specs.Refusal.{refused}
+use Rattle.std.specs.Prelude.{◌≡◌, refl, Bool, ℕ, suc, ◌+◌, ◌*◌, ◌≤◌, ◌<◌, ltb, Result, Ok, ⊤}
 use Rattle.std.proofs.Math.Path.{sym, ap}
 use Rattle.std.proofs.Common.{◌∙◌}
 use Rattle.std.proofs.Math.Bool.{true, false, cond}
@@ -11,15 +12,13 @@ use Rattle.theory_loops.specs.First.{first, any, first_le, found, none_yet, pass
 use Rattle.theory_loops.specs.Pick.{first_rung, at_first, past_first}
 use Rattle.theory_loops.specs.Total.{total_none, total_more, total_part}
 use Rattle.theory_travel.specs.Ticks.{bad_tick}
-use Rattle.file_refusals.specs.Refusal.{faulty}
-use Rattle.file_refusals.specs.declared.Judged.{Judged}
-use Rattle.file_refusals.specs.declared.Judged.TheVariants.{Sound}
 use Rattle.file_blocks.specs.declared.walk.Walk.{Walk}
 use Rattle.plan.specs.declared.header.PlanLayout.{PlanLayout}
 use Rattle.plan_rules.specs.declared.rules.Scan.{Scan}
 use Rattle.plan.specs.{Plan.Plan, Plan.point_count, Plan.point_start, Plan.point_ticks, PlanDecode.point_total}
 use Rattle.plan.specs.{PlanWalk.count_at, PlanWalk.point_at, PlanRules.judged_counts}
 use Rattle.plan.specs.PlanRules.{bad_count, bad_profile, first_bad_point, judged_ticks, judged_sum}
+use Rattle.file_refusals.specs.declared.Refusal.{Refusal}
 use Rattle.plan_rules.specs.PlanScan.{Scanned}
 
 -- ONE PROFILE MORE
@@ -126,11 +125,11 @@ module _ (p : Plan) (l : PlanLayout) where
 
   module _ (k from m : ℕ) (counts : Walk) (scan : Scan) (s : Passing p l k from counts scan)
       (h : k < l.profiles) (e : m ≡ point_count p k) where
-    pub count_taken : (r : Judged) → l.period < m → r ≡ faulty 18 k
+    pub count_taken : (r : Result ⊤ Refusal) → l.period < m → r ≡ refused 18 k
         → r ≡ judged_counts l.period l.profiles p
     unfolding judged_counts
     count_taken r b f =
-        at_first r _ (faulty 18) l.profiles k (bad_count l.period p)
+        at_first r _ (refused 18) l.profiles k (bad_count l.period p)
         (stop _ l.profiles k s.fine h (rw (← e) (lt-ltb l.period m b))) h f
 
     module _ (next : Walk) (new : Scan) (b : m ≤ l.period) (o : m < 65536)
@@ -177,7 +176,7 @@ module _ (p : Plan) (l : PlanLayout) where
 
   -- ITS ANSWER, once no profile is left
   module _ (k from : ℕ) (counts : Walk) (scan : Scan) (s : Passing p l k from counts scan)
-      (h : l.profiles ≤ k) (r : Judged) where
+      (h : l.profiles ≤ k) (r : Result ⊤ Refusal) where
     last : k ≡ l.profiles
     last = omega (arith, s.within)
 
@@ -187,10 +186,10 @@ module _ (p : Plan) (l : PlanLayout) where
     counted : r ≡ judged_sum l.period l.profiles p → r ≡ judged_counts l.period l.profiles p
     unfolding judged_counts
     counted f =
-        past_first r _ (faulty 18) l.profiles k (bad_count l.period p)
+        past_first r _ (refused 18) l.profiles k (bad_count l.period p)
         (done _ l.profiles k s.fine s.within h) h f
 
-    pub sum_taken : (from ≡ l.points → ⊥) → r ≡ faulty 18 l.profiles
+    pub sum_taken : (from ≡ l.points → ⊥) → r ≡ refused 18 l.profiles
         → r ≡ judged_counts l.period l.profiles p
     unfolding judged_sum
     sum_taken d f =
@@ -206,17 +205,17 @@ module _ (p : Plan) (l : PlanLayout) where
       bad : scan.bad ≡ first_bad l.period p l.profiles
       bad = rw last at (s.bad_is (omega arith))
 
-      pub tick_taken : scan.bad < l.points → r ≡ faulty 19 scan.bad
+      pub tick_taken : scan.bad < l.points → r ≡ refused 19 scan.bad
           → r ≡ judged_counts l.period l.profiles p
       unfolding judged_ticks first_rung
       tick_taken b f = summed (go (any l.profiles (bad_profile l.period p)) refl)
         where
           go : (a : Bool) → any l.profiles (bad_profile l.period p) ≡ a
               → r ≡ judged_ticks l.period l.profiles p
-          go true q = rw q (f ∙ ap (faulty 19) (bad ∙ (bad_some l.period p l.profiles q).0))
+          go true q = rw q (f ∙ ap (refused 19) (bad ∙ (bad_some l.period p l.profiles q).0))
           go false q = absurd (omega (arith, bad, bad_none l.period p l.profiles q, s.points_are))
 
-      pub ticks_passed : l.points ≤ scan.bad → r ≡ Sound → r ≡ judged_counts l.period l.profiles p
+      pub ticks_passed : l.points ≤ scan.bad → r ≡ Ok tt → r ≡ judged_counts l.period l.profiles p
       unfolding judged_ticks first_rung
       ticks_passed b f = summed (go (any l.profiles (bad_profile l.period p)) refl)
         where

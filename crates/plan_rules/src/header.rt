@@ -17,9 +17,6 @@ use network::header::{Header, Layout};
 use plan::header::PlanHeader;
 use plan::{borders, limits};
 
-// The byte after the header's entry, whose block has a head of 8 bytes.
-const HEADER_END: usize = 8 + kind::PLAN_SIZE;
-
 // The numbers of the first block.
 pub fn header_at(plan: &[u8]) -> PlanHeader
     requires { block_size ≤ length plan.now }
@@ -41,7 +38,7 @@ pub fn is_first_formed(plan: &[u8]) -> bool
     requires { block_size ≤ length plan.now }
     ensures { result ≡ first_formed plan.now }
 {
-    is_formed(plan, 0, kind::PLAN, 1, HEADER_END) && le16(plan, 22) == 0
+    is_formed(plan, 0, kind::PLAN, 1) && le16(plan, 22) == 0
 }
 
 // Refusal 14 does not apply: the numbers are the network's.

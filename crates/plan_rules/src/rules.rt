@@ -12,7 +12,8 @@ ghost use Rattle.plan_rules.specs.PlanScanAll.{Standing, ScannedOn};
 
 use file_blocks::kind;
 use file_blocks::walk::Walk;
-use file_refusals::{Judged, faulty, number};
+use file_refusals::reason::Reason;
+use file_refusals::{Refusal, refused};
 use network::limits::MOST_CELLS;
 use plan::header::PlanLayout;
 use plan::read::flag_word;
@@ -51,13 +52,8 @@ pub fn first_bad_word(plan: &[u8], l: PlanLayout) -> usize
     requires { PlanLaid plan.now l }
     ensures { result ≡ first l.arcs (bad_flags l.cells (decode_plan plan.now)) }
 {
-    let arcs = l.arcs;
-    for a in 0..arcs {
-        if is_bad_word(plan, l, a) {
-            return a;
-        }
-    }
-    arcs
+    let bad = (0..l.arcs).position(|a| is_bad_word(plan, l, a));
+    bad.unwrap_or(l.arcs)
 }
 
 // Is tick t below `low`, or at `high` or above?
@@ -90,7 +86,7 @@ fn find_bad(plan: &[u8], l: PlanLayout, at: Walk, from: usize, count: usize) -> 
         }
         low = t + 1;
         high = l.period;
-        next = next.next(kind::PROFILE_POINT_PER, kind::PROFILE_POINT_SIZE);
+        next = next.next(kind::PROFILE_POINT);
     }
     Scan {
         bad: l.points,
@@ -116,48 +112,43 @@ fn scan_on(plan: &[u8], l: PlanLayout, scan: Scan, from: usize, count: usize) ->
 }
 
 // Rules 18 and 19, with the place of the fault.
-fn judge_profiles(plan: &[u8], l: PlanLayout) -> Judged
+fn judge_profiles(plan: &[u8], l: PlanLayout) -> Result<(), Refusal>
     requires { PlanLaid plan.now l }
     ensures { result ≡ judged_counts l.period l.profiles (decode_plan plan.now) }
 {
     let profiles = l.profiles;
-    let mut counts = Walk::new(l.countblock, kind::COUNT_PER, kind::COUNT_SIZE, 0);
-    let at = Walk::new(
-        l.pointblock,
-        kind::PROFILE_POINT_PER,
-        kind::PROFILE_POINT_SIZE,
-        0,
-    );
+    let mut counts = Walk::new(l.countblock, kind::COUNT, 0);
+    let at = Walk::new(l.pointblock, kind::PROFILE_POINT, 0);
     let mut scan = Scan { bad: l.points, at };
     let mut from = 0;
     for k in 0..profiles {
         let count = counts.field16(plan, 0);
         if l.period < count {
-            return faulty(number::PLAN_COUNT, k as u32);
+            return refused(Reason::PlanCount, k as u32);
         }
         scan = scan_on(plan, l, scan, from, count);
         from += count;
-        counts = counts.next(kind::COUNT_PER, kind::COUNT_SIZE);
+        counts = counts.next(kind::COUNT);
     }
     if from != l.points {
-        return faulty(number::PLAN_COUNT, profiles as u32);
+        return refused(Reason::PlanCount, profiles as u32);
     }
     let bad = scan.bad;
     if bad < l.points {
-        return faulty(number::PLAN_TICK, bad as u32);
+        return refused(Reason::PlanTick, bad as u32);
     }
-    Judged::Sound
+    Ok(())
 }
 
 // The lowest of the rules 17 to 19 that the plan breaks, and its lowest place.
-pub fn judge_plan(plan: &[u8], l: PlanLayout) -> Judged
+pub fn judge_plan(plan: &[u8], l: PlanLayout) -> Result<(), Refusal>
     requires { PlanLaid plan.now l }
     ensures { result ≡ judged_flags l.arcs l.cells l.period l.profiles
         (decode_plan plan.now) }
 {
     let a = first_bad_word(plan, l);
     if a < l.arcs {
-        return faulty(number::PLAN_FLAG, a as u32);
+        return refused(Reason::PlanFlag, a as u32);
     }
     judge_profiles(plan, l)
 }

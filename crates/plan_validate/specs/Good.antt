@@ -1,7 +1,8 @@
 -- A plan file that is laid out as its header says, and is well-formed, part by part as code asks for it: the
 -- blocks before the points, the flag words, and the points with their counts (`Risen` of `plan_rising`).
 use mathlib.Core.{Path.◌≡◌, Path.refl, Path.sym, Path.◌∙◌, Path.ap, Bool.true, Bool.and-eq-true_iff}
-use Rattle.std.specs.Prelude.{List, ℕ, ◌+◌, ◌≤◌, leb, eqb}
+use Rattle.file_refusals.specs.Refusal.{refused}
+use Rattle.std.specs.Prelude.{List, ℕ, ◌+◌, ◌≤◌, leb, eqb, Ok}
 use Rattle.std.proofs.Common.{arith}
 use borrow.Author.Tests.{leb-true, eqb-true}
 use Rattle.theory_loops.specs.{First.first, First.first_le, First.clear, Pick.rung_clear}
@@ -11,8 +12,6 @@ use Rattle.file_blocks.specs.Kind.{profile_point_kind, profile_point_per, profil
 use Rattle.file_blocks.specs.Place.{blocks}
 use Rattle.file_forms.specs.Form.{formed, unformed, RunFormed, run_formed_lem}
 use Rattle.file_forms.specs.{Read.bad, SoundBlock.sound_formed, SoundBlock.sound_sums}
-use Rattle.file_refusals.specs.Refusal.{faulty}
-use Rattle.file_refusals.specs.declared.Judged.TheVariants.{Sound}
 use Rattle.network.specs.declared.header.Header.{Header}
 use Rattle.network.specs.{Decode.decode, Town.partition_of, Valid.ValidFile}
 use Rattle.plan.specs.declared.header.{PlanHeader.PlanHeader, PlanLayout.PlanLayout}
@@ -60,12 +59,12 @@ module _ {file : List ℕ} {l : PlanLayout} (s : PlanLaid file l) where
   }
 
   -- the rules judge it sound
-  judged : SoundPlan file l → judged_by (plan_header_at file) (decode_plan file) ≡ Sound
+  judged : SoundPlan file l → judged_by (plan_header_at file) (decode_plan file) ≡ Ok tt
   unfolding plan_layout_of judged_flags
   judged g =
       let p = decode_plan file in
       sym (ap (λ (l : PlanLayout). judged_flags l.arcs l.cells l.period l.profiles p) s.is)
-      ∙ rung_clear (faulty 17) l.arcs (bad_flags l.cells p) _ (clear _ l.arcs g.flags_below)
+      ∙ rung_clear (refused 17) l.arcs (bad_flags l.cells p) _ (clear _ l.arcs g.flags_below)
       ∙ sym g.risen.rules_kept
 
   pub sound_valid : {network : List ℕ} {h : Header} → ValidFile network h → first_formed file ≡ true

@@ -30,18 +30,11 @@ fn is_sound_front(plan: &[u8], l: PlanLayout) -> bool
     if first_bad_before(plan, l.pointblock) < l.pointblock {
         return false;
     }
-    let i = first_unformed(plan, 1, kind::FLAG, kind::FLAG_PER, kind::FLAG_SIZE, l.arcs);
+    let i = first_unformed(plan, l.flags_run());
     if i < l.countblock {
         return false;
     }
-    let j = first_unformed(
-        plan,
-        l.countblock,
-        kind::COUNT,
-        kind::COUNT_PER,
-        kind::COUNT_SIZE,
-        l.profiles,
-    );
+    let j = first_unformed(plan, l.counts_run());
     l.pointblock <= j
 }
 

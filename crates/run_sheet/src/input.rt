@@ -39,8 +39,8 @@ fn take_bytes(
     ensures { result ≡ stepped_all before bytes.now }
 {
     let mut reading = before;
-    for i in 0..bytes.len() {
-        let step = take_byte(network, plan, reading, bytes[i], out);
+    for byte in bytes {
+        let step = take_byte(network, plan, reading, *byte, out);
         say(rt, out, step.length);
         reading = step.reading;
     }

@@ -18,7 +18,6 @@ ghost use Rattle.search_arcs.specs.Stretches.{Reaching};
 ghost use Rattle.search_arcs.specs.Halves.{Step};
 ghost use Rattle.search_arcs.specs.Times.{NextStart};
 
-use crate::wide;
 use network::header::Layout;
 use network::limits::MOST_ARCS;
 use network::points::Stretch;
@@ -135,10 +134,10 @@ fn count_of(file: &[u8], l: Layout, starts: &[u16; MOST_ARCS], arc: usize) -> us
         × NextStart (decode file.now) l.arcs starts.now arc }
     ensures { result ≡ count (decode file.now) arc }
 {
-    let from = wide(starts[arc]);
+    let from = usize::from(starts[arc]);
     let after = arc + 1;
     if after < l.arcs {
-        return wide(starts[after]) - from;
+        return usize::from(starts[after]) - from;
     }
     l.points - from
 }
@@ -151,7 +150,7 @@ pub fn ends_at(file: &[u8], l: Layout, starts: &[u16; MOST_ARCS], arc: usize, ti
         × NextStart (decode file.now) l.arcs starts.now arc }
     ensures { (result ≡ ends (graph_of (decode file.now)) arc tick) × (result < never) }
 {
-    let from = wide(starts[arc]);
+    let from = usize::from(starts[arc]);
     let count = count_of(file, l, starts, arc);
     let x = in_period(tick, l.period);
     tick + travel_at(file, l, from, count, x) as u32

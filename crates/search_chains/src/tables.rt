@@ -9,8 +9,7 @@ ghost use Rattle.search_chains.specs.Town.{Town};
 ghost use Rattle.search_chains.specs.Chain.{Chained, Unchained};
 ghost use Rattle.search_chains.specs.Tables.{Tabled, Filling};
 
-use file_blocks::kind::ARC_PER;
-use file_blocks::place::{blocks, entries_in};
+use file_blocks::kind::ARC;
 use network::arcs::entry_in;
 use network::header::Layout;
 use network::limits::{MOST_ARCS, MOST_NODES};
@@ -39,7 +38,7 @@ fn fill_block(
     for k in 0..m {
         let e = m - 1 - k;
         let arc = entry_in(file, l, j, e);
-        let i = ARC_PER * j + e;
+        let i = ARC.per * j + e;
         let v = arc.tail;
         next[i] = first[v];
         first[v] = i as u16;
@@ -67,11 +66,11 @@ pub fn fill(
         × Tabled (decode file.now) l.arcs 0 heads.new starts.new }
 {
     let arcs = l.arcs;
-    let runs = blocks(ARC_PER, arcs);
+    let runs = ARC.blocks(arcs);
     let mut sum = l.points;
     for k in 0..runs {
         let j = runs - 1 - k;
-        let m = entries_in(ARC_PER, arcs, j);
+        let m = ARC.entries_in(arcs, j);
         sum = fill_block(file, l, j, m, sum, heads, starts, first, next);
     }
 }

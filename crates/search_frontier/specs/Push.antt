@@ -92,7 +92,8 @@ module _ {L Q P : List ℕ} {n : ℕ} (f : Frontier L Q P n) where
         sum = omega (arith, unknown_set L v e l, label_at L v l);
       }
 
-      lower_keyed : (j : ℕ) → j < n → get_or lowered j 0 ≡ key_of (label (set L v e) (node_at Q j)) (node_at Q j)
+      lower_keyed : (j : ℕ) → j < n
+          → get_or lowered j 0 ≡ key_of (label (set L v e) (node_at Q j)) (node_at Q j)
       lower_keyed j a = elim (ℕ_discrete j (get_or P v 0)) [
         | yes q ↦ rw (q, own, get_or-set_same L v e never l) here
         | no q ↦ there j q ∙ f.keyed j a ∙ ap (λ y. key_of y (node_at Q j))
@@ -200,21 +201,22 @@ module _ {L Q P : List ℕ} {n : ℕ} (f : Frontier L Q P n) {v e : ℕ} (l : v 
       pub known_place : (at : ℕ) → at ≡ get_or P v 0 → at < most_nodes
       known_place at z = held_place f at v still z
 
-      pub grown_known : (R : List ℕ) (at : ℕ) → at ≡ get_or P v 0 → R ≡ set Q at (key_of e v)
-          → Grown L (set L v e) Q R n n
-      grown_known R at z q = rw (q, z) (lower_grown f l h k still)
+      pub grown_known : (R : List ℕ) (m : ℕ) → R ≡ set Q (get_or P v 0) (key_of e v) → m ≡ n
+          → Grown L (set L v e) Q R n m
+      grown_known R m q z = rw (q, z) (lower_grown f l h k still)
 
-      pub front_known : (R S : List ℕ) (at : ℕ) → at ≡ get_or P v 0 → R ≡ set Q at (key_of e v) → S ≡ set P v at
-          → Frontier (set L v e) R S n
-      front_known R S at z q w = rw (q, w, z, set-get_or P v 0) (lower_front f l h k still)
+      pub front_known : (R S : List ℕ) (m : ℕ) → R ≡ set Q (get_or P v 0) (key_of e v)
+          → S ≡ set P v (get_or P v 0) → m ≡ n → Frontier (set L v e) R S m
+      front_known R S m q w z = rw (q, w, z, set-get_or P v 0) (lower_front f l h k still)
 
     module _ (k : never ≤ get_or L v 0) (small : e < never) where
-      pub grown_new : (R : List ℕ) → R ≡ set Q n (key_of e v) → Grown L (set L v e) Q R n (n + 1)
-      grown_new R q = rw q (push_grown f l h k small)
+      pub grown_new : (R : List ℕ) (m : ℕ) → R ≡ set Q n (key_of e v) → m ≡ n + 1
+          → Grown L (set L v e) Q R n m
+      grown_new R m q z = rw (q, z) (push_grown f l h k small)
 
-      pub front_new : (R S : List ℕ) → R ≡ set Q n (key_of e v) → S ≡ set P v n
-          → Frontier (set L v e) R S (n + 1)
-      front_new R S q w = rw (q, w) (push_front f l h k small)
+      pub front_new : (R S : List ℕ) (m : ℕ) → R ≡ set Q n (key_of e v) → S ≡ set P v n → m ≡ n + 1
+          → Frontier (set L v e) R S m
+      front_new R S m q w z = rw (q, w, z) (push_front f l h k small)
 
 -- for `search pushes` at the needs of `relax`
 pub ruleset pushes = (grown_same, grown_known, grown_new, front_known, front_new, push_room, known_place)

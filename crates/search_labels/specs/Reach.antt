@@ -6,11 +6,9 @@ use native.Mathlib.{Nat.le_trans, Decide.dec_lt, Omega.arith}
 use Rattle.std.proofs.Common.{length-set, get_or-set_same, get_or-set_other}
 use Rattle.std.proofs.lemmas.List.{length-replicate, get_or-replicate}
 use Rattle.std.proofs.Math.ListN.{get_or-eq_default}
-use Rattle.theory_loops.specs.Fill.{Filled}
 use Rattle.theory_paths.specs.{Graph.Graph, Graph.Permit, Earliest.never, Earliest.Exact}
 use Rattle.theory_paths.proofs.Drive.{path_takes}
 use Rattle.theory_paths.specs.{Labels.label, Hops.Known, Hops.Counted, Chosen.arc_into}
-use Rattle.theory_paths.proofs.Labels.{label_at}
 use Rattle.network.specs.{Limits.most_nodes, Decode.decode, Town.graph_of}
 use Rattle.network.specs.declared.header.Layout.{Layout}
 use Rattle.search_labels.specs.{Walk.Spread, Notes.hops_in, Notes.arc_in}
@@ -65,15 +63,15 @@ pub record Searching (g : Graph) (p : Permit) (s x : ℕ) (L K Q P : List ℕ) (
   pub front : Frontier L Q P n
 
 pub started : (nodes s x : ℕ) (old new : List ℕ) → length old ≡ nodes → s < nodes
-    → Filled 0 nodes (λ _. never) old new → Started nodes s x (set new s x)
+    → new ≡ replicate (length old) never → Started nodes s x (set new s x)
 started nodes s x old new l h f =
-    let k = f.long in
+    let k : length new ≡ nodes = rw f (length-replicate {A = ℕ} (length old) never ∙ l) in
     record {
-      size = length-set new s x ∙ k ∙ l;
-      source = get_or-set_same new s x never (omega arith);
-      others = λ v ne. get_or-set_other new s v x never ne ∙ elim (dec_lt v (length new)) [
-        | yes b ↦ sym (label_at new v b) ∙ f.written v (omega arith) (omega arith)
-        | no b ↦ get_or-eq_default new never {n = v} (omega arith)
+      size = length-set new s x ∙ k;
+      source = get_or-set_same new s x never (omega (arith, k));
+      others = λ v ne. get_or-set_other new s v x never ne ∙ elim (dec_lt v (length old)) [
+        | yes b ↦ rw f (get_or-replicate (length old) v never never b)
+        | no b ↦ get_or-eq_default new never {n = v} (omega (arith, k))
       ];
     }
 
@@ -133,16 +131,16 @@ module _ {g : Graph} {s x : ℕ} (d : Leaving g s x) where
     one_held : Held keys 1 s
     one_held = record { place = 0; inside = omega arith; is = first_node }
 
-pub search_start : {file L K Q P : List ℕ} {l : Layout} {p : Permit} {s x : ℕ} → Town file l → s < l.nodes
+pub search_start : {file L K Q P : List ℕ} {l : Layout} {p : Permit} {s x n : ℕ} → Town file l → s < l.nodes
     → x < l.period
     → Started l.nodes s x L → K ≡ replicate most_nodes 0
-    → (Q ≡ set (replicate most_nodes 0) 0 (key_of x s)) × (P ≡ set (replicate most_nodes 0) s 0)
-    → Searching (graph_of (decode file)) p s x L K Q P 1
+    → (Q ≡ set (replicate most_nodes 0) 0 (key_of x s)) × (P ≡ set (replicate most_nodes 0) s 0) × (n ≡ 0 + 1)
+    → Searching (graph_of (decode file)) p s x L K Q P n
 search_start {s = s} t h k a e q =
     let d = leaving t h k in
     let b = rw t.sizes.nodes at a in
     let r = get_or-replicate {A = ℕ} most_nodes s 0 0 (omega (arith, d.node, d.few)) in
-    rw (q.0, q.1) (record {
+    rw (q.0, q.1, q.2) (record {
       left = d;
       kept = start d.ok d.bounded d.node (small d) b.size b.source b.others (one_held d b);
       tallied = tally_start b.others (one_held d b) (rw e r);

@@ -98,15 +98,16 @@ module _ {file : List ℕ} {l : Layout} {mask heads starts L Q P : List ℕ} {n 
   pub settle_size : n ≤ most_nodes
   settle_size = omega (arith, f.room)
 
-  pub walking_start : {first next H R S : List ℕ} (a b : ℕ) → Taken Q P n u R S → Open L Q n (label L u)
+  pub walking_start : {first next H R S : List ℕ} {m : ℕ} (a b : ℕ) → Taken Q P n u R S × (m ≡ n - 1)
+      → Open L Q n (label L u)
       → Chained (tail (decode file)) l.nodes l.arcs 0 first next → label L u ≤ last_label
       → a ≡ get_or first u 0 → b ≡ longer (note H u) → hops_in H u < most_nodes → length H ≡ most_nodes
-      → Walking file l mask heads starts first next u (get_or L u 0) b a L L H H R R S (n - 1) (n - 1)
-  walking_start {R = R} a b q p c k d r v m =
+      → Walking file l mask heads starts first next u (get_or L u 0) b a L L H H R R S m m
+  walking_start {R = R} a b (q, less) p c k d r v m =
       let z = label_at L u settle_label in
       let j : NextArc (tail (decode file)) (graph_of (decode file)).arcs u 0 a =
       rw (d, ← w.town.sizes.arcs) (c.firsts u settle_node) in
-      record {
+      rw less (record {
         ready = w;
         tables = c;
         early = omega arith;
@@ -120,7 +121,7 @@ module _ {file : List ℕ} {l : Layout} {mask heads starts L Q P : List ℕ} {n 
         grown = grown_same L R (n - 1);
         front = taken_front f o q;
         above = rw (← z) at (taken_open f o q refl p);
-      }
+      })
 
 -- a step
 pub arc_place : {file : List ℕ} {l : Layout} {mask heads starts : List ℕ} (a : ℕ)
@@ -212,11 +213,11 @@ module _ {file : List ℕ} {l : Layout} {mask heads starts first next L H Q : Li
 
 -- at the end; the walk started from the labels L and the rest of the frontier
 pub walking_end : {file : List ℕ} {l : Layout} {mask heads starts first next L H Q P R₀ S₀ : List ℕ}
-    {n u y b a : ℕ} {M K R S : List ℕ} {m : ℕ}
-    → Frontier L Q P n → Held Q n u → Taken Q P n u R₀ S₀
-    → Walking file l mask heads starts first next u y b a L M H K R₀ R S (n - 1) m → l.arcs ≤ a
+    {n u y b a : ℕ} {M K R S : List ℕ} {k m : ℕ}
+    → Frontier L Q P n → Held Q n u → Taken Q P n u R₀ S₀ × (k ≡ n - 1)
+    → Walking file l mask heads starts first next u y b a L M H K R₀ R S k m → l.arcs ≤ a
     → Spread (graph_of (decode file)) (permit_of mask) u L M H K Q R S n m
-walking_end {a = a} f o w k h = record {
+walking_end {a = a} f o (w, less) walked h = let k = rw less at walked in record {
   relaxed = walk_last a _ k.walked k.at (omega (arith, k.ready.town.sizes.arcs));
   noted = noted_last a _ _ k.noted k.at k.brings (omega (arith, k.ready.town.sizes.arcs));
   moved = taken_moved f o w k.grown;

@@ -19,7 +19,7 @@ use crate::notes;
 use crate::query::Query;
 use network::header::Layout;
 use network::limits::{MOST_ARCS, MOST_NODES, NEVER};
-use search_arcs::{times, wide};
+use search_arcs::times;
 use search_chains::{chain, tables};
 use search_frontier::frontier;
 
@@ -36,11 +36,11 @@ fn head_of(
     requires arc_lt_arcs { arc < l.arcs }
     ensures { (result ≡ head (decode file.now) arc) × (result < 65536) }
 {
-    wide(heads[arc])
+    usize::from(heads[arc])
 }
 
 // Relaxes one arc, taken at a tick and bringing its note from `base` on: of two notes for one label the
-// lesser stays, and a head that gets its first label goes into the frontier. Answers the frontier's size.
+// lesser stays, and a head that gets its first label goes into the frontier.
 fn relax(
     file: &[u8],
     l: Layout,
@@ -52,53 +52,48 @@ fn relax(
     base: u32,
     labels: &mut [u32],
     notes: &mut [u32; MOST_NODES],
-    keys: &mut [u32; MOST_NODES],
-    places: &mut [u16; MOST_NODES],
-    size: usize,
-) -> usize
+    frontier: &mut frontier::Frontier,
+)
     requires ready { Ready file.now l mask.now heads.now starts.now }
     requires arc_lt_arcs { (arc < l.arcs) × (tick ≤ last_label) × (base ≤ most_note) ×
         (length labels.old ≡ l.nodes) }
-    requires frontier { Frontier labels.old keys.old places.old size ×
-        Open labels.old keys.old size tick }
+    requires frontier { Frontier labels.old frontier.old.keys frontier.old.places frontier.old.size ×
+        Open labels.old frontier.old.keys frontier.old.size tick }
     ensures { Stepped (graph_of (decode file.now)) (permit_of mask.now) tick base
         arc labels.old labels.new notes.old notes.new
-        keys.old keys.new places.new size result }
+        frontier.old.keys frontier.new.keys frontier.new.places frontier.old.size frontier.new.size }
 {
     if mask[arc] != 1 {
-        return size;
+        return;
     }
     let v = head_of(file, l, mask, heads, starts, arc);
     let old = labels[v];
     // An arc never ends before it is taken.
     if old <= tick {
-        return size;
+        return;
     }
     let end = times::ends_at(file, l, starts, arc, tick);
     if old < end {
-        return size;
+        return;
     }
     let note = base + arc as u32;
     if old <= end {
         if notes[v] <= note {
-            return size;
+            return;
         }
         notes[v] = note;
-        return size;
+        return;
     }
     labels[v] = end;
     notes[v] = note;
     if old < NEVER {
-        let at = wide(places[v]);
-        frontier::put(keys, places, at, v, end);
-        return size;
+        frontier.lower(v, end);
+        return;
     }
-    frontier::put(keys, places, size, v, end);
-    size + 1
+    frontier.add(v, end);
 }
 
 // Takes a nearest node out of the frontier, and relaxes the permitted arcs out of it, taken at its label.
-// Answers the frontier's size.
 fn settle(
     file: &[u8],
     l: Layout,
@@ -110,32 +105,29 @@ fn settle(
     u: usize,
     labels: &mut [u32],
     notes: &mut [u32; MOST_NODES],
-    keys: &mut [u32; MOST_NODES],
-    places: &mut [u16; MOST_NODES],
-    size: usize,
-) -> usize
+    frontier: &mut frontier::Frontier,
+)
     requires ready { Ready file.now l mask.now heads.now starts.now }
     requires chained { Chained (tail (decode file.now)) l.nodes l.arcs 0 first.now next.now }
     requires labels_len { (length labels.old ≡ l.nodes) × (label labels.old u ≤ last_label) }
     requires u_bound { (hops_in notes.old u < most_nodes) × (length notes.old ≡ most_nodes) }
-    requires frontier { Frontier labels.old keys.old places.old size × Held keys.old size u ×
-        Open labels.old keys.old size (label labels.old u) }
+    requires frontier { Frontier labels.old frontier.old.keys frontier.old.places frontier.old.size ×
+        Held frontier.old.keys frontier.old.size u ×
+        Open labels.old frontier.old.keys frontier.old.size (label labels.old u) }
     ensures { Spread (graph_of (decode file.now)) (permit_of mask.now) u
         labels.old labels.new notes.old notes.new
-        keys.old keys.new places.new size result }
+        frontier.old.keys frontier.new.keys frontier.new.places frontier.old.size frontier.new.size }
 {
-    frontier::take(keys, places, u, size);
+    frontier.take(u);
     let tick = labels[u];
     let base = notes::longer(notes[u]);
-    let mut held = size - 1;
-    let mut a = wide(first[u]);
+    let mut a = usize::from(first[u]);
     while a < l.arcs {
-        held = relax(
-            file, l, mask, heads, starts, a, tick, base, labels, notes, keys, places, held,
+        relax(
+            file, l, mask, heads, starts, a, tick, base, labels, notes, frontier,
         );
-        a = wide(next[a]);
+        a = usize::from(next[a]);
     }
-    held
 }
 
 // The source's label is the departure, and no other node has one.
@@ -144,9 +136,7 @@ fn start(labels: &mut [u32], q: Query)
     ensures { Started (length labels.old) q.source q.departure
         labels.new }
 {
-    for v in 0..labels.len() {
-        labels[v] = NEVER;
-    }
+    labels.fill(NEVER);
     labels[q.source as usize] = q.departure;
 }
 
@@ -172,16 +162,18 @@ fn settle_all(
         (permit_of mask.now) q.source q.target labels.new notes.new ×
         (label labels.new q.source ≡ q.departure) }
 {
-    let mut keys = [0u32; MOST_NODES];
-    let mut places = [0u16; MOST_NODES];
-    frontier::put(&mut keys, &mut places, 0, q.source as usize, q.departure);
-    let mut size = 1;
-    while 0 < size {
-        let u = frontier::node(frontier::nearest(&keys, size));
+    let mut frontier = frontier::Frontier {
+        keys: [0u32; MOST_NODES],
+        places: [0u16; MOST_NODES],
+        size: 0,
+    };
+    frontier.add(q.source as usize, q.departure);
+    while 0 < frontier.size {
+        let u = frontier::node(frontier.nearest());
         if u == q.target as usize {
             return;
         }
-        size = settle(
+        settle(
             file,
             l,
             mask,
@@ -192,9 +184,7 @@ fn settle_all(
             u,
             labels,
             notes,
-            &mut keys,
-            &mut places,
-            size,
+            &mut frontier,
         );
     }
 }
@@ -209,7 +199,8 @@ pub fn reach(
     notes: &mut [u32; MOST_NODES],
 )
     requires town { Town file.now l × (l.arcs ≤ length mask.now) }
-    requires source_lt_nodes { (q.source < l.nodes) × (q.departure < l.period) × (length labels.old ≡ l.nodes) ×
+    requires source_lt_nodes { (q.source < l.nodes) × (q.departure < l.period)
+        × (length labels.old ≡ l.nodes) ×
         (notes.old ≡ replicate most_nodes 0) }
     ensures { Reached (graph_of (decode file.now))
         (permit_of mask.now) q.source q.target labels.new notes.new ×

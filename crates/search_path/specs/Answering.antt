@@ -2,7 +2,7 @@
 -- they tell and show what the true labels do. In the shape of the needs of `tell`, `search_nodes` and
 -- `search`.
 use mathlib.Core.{Path.◌≡◌, Path.sym, Path.◌∙◌, Path.ap, Logic.◌≢◌, List.List, List.◌++◌}
-use Rattle.std.specs.Prelude.{ℕ, ◌+◌, ◌-◌, ◌≤◌, ◌<◌, length, get_or, take, drop, Bool, true, false, cond}
+use Rattle.std.specs.Prelude.{ℕ, ◌+◌, ◌-◌, ◌≤◌, ◌<◌, length, get_or, take, drop, Bool, true, false, cond, Result, Ok, Err}
 use native.Mathlib.{Nat.le_refl, Nat.le_of_lt, Decide.dec_lt, Omega.arith}
 use Rattle.std.proofs.Common.{length-take, eq-eqb, ne_eqb, lt-ltb, le-ltb}
 use Rattle.std.proofs.Math.ListN.{get_or-eq_default, get_or-append}
@@ -22,9 +22,8 @@ use Rattle.search_path.specs.Trail.{road_to, Trail, Listed}
 use Rattle.search_path.specs.Back.{trail, trail_count, trail_road}
 use Rattle.search_path.specs.Answer.{Answered, Told, entry_of, path_of, answer_of, written}
 use Rattle.file_refusals.specs.declared.Refusal.{Refusal}
-use Rattle.file_refusals.specs.Refusal.{refusal}
-use Rattle.search_path.specs.declared.answer.Answer.{Answer}
-use Rattle.search_path.specs.declared.answer.Answer.TheVariants.{Arrived, Refused}
+use Rattle.search_path.specs.declared.answer.Arrival.{Arrival}
+use Rattle.file_refusals.specs.Refusal.{refusal, refused}
 
 -- a list that is written whole
 filled_all : (f : ℕ → ℕ) (n : ℕ) (old new : List ℕ) → length old ≡ n → length new ≡ n
@@ -58,7 +57,7 @@ filled_front f n old part l h = record {
         rw (← e) (get_or-append-add part (drop n old) (k - n) 0 ∙ get_or-drop n old (k - n) 0 ∙ rw (e, q))
 
 -- FOR `search`: from the part of the list of arrivals to the whole
-pub answered_front : (g : Graph) (p : Permit) (s x t n : ℕ) (old part roads₀ roads : List ℕ) (r : Answer)
+pub answered_front : (g : Graph) (p : Permit) (s x t n : ℕ) (old part roads₀ roads : List ℕ) (r : Result Arrival Refusal)
     → n ≡ g.nodes → n ≤ length old
     → Answered g p s x t (take n old) part roads₀ roads r
     → Answered g p s x t old (part ++ drop n old) roads₀ roads r
@@ -86,24 +85,24 @@ nothing_filled f h a =
 
 -- the three answers, by the target's label
 module _ {total : ℕ} {road : ℕ → ℕ} (t : ℕ) (L : List ℕ) {roads₀ : List ℕ} (l : t < length L) where
-  pub told_none : (r : Refusal) → get_or L t 0 ≡ never → r ≡ refusal 28 0
-      → Told (label L t) total road roads₀ roads₀ (Refused r)
+  pub told_none : (r : Result Arrival Refusal) → get_or L t 0 ≡ never → r ≡ refused 28 0
+      → Told (label L t) total road roads₀ roads₀ r
   told_none r e f =
-      record { answer = rw (← (label_at L t l), eq-eqb _ never e, f); writes = fill_none _ roads₀ 0 }
+      rw f (record { answer = rw (← (label_at L t l), eq-eqb _ never e); writes = fill_none _ roads₀ 0 })
 
   module _ (count : ℕ) {roads : List ℕ} (ne : get_or L t 0 ≢ never) (h : Listed total road roads₀ roads count)
     where
-      pub told_short : (r : Refusal) → length roads < count → r ≡ refusal 29 0
-          → Told (label L t) total road roads₀ roads (Refused r)
+      pub told_short : (r : Result Arrival Refusal) → length roads < count → r ≡ refused 29 0
+          → Told (label L t) total road roads₀ roads r
       told_short r m f =
           let o = lt-ltb (length roads₀) count (omega (arith, h.writes.long)) in
-          record {
-            answer = rw (← (label_at L t l), ne_eqb _ never ne, ← h.counts, o, f);
+          rw f (record {
+            answer = rw (← (label_at L t l), ne_eqb _ never ne, ← h.counts, o);
             writes = rw o at h.writes;
-          }
+          })
 
       pub told_way : count ≤ length roads
-          → Told (label L t) total road roads₀ roads (Arrived (record { tick = get_or L t 0; count = count }))
+          → Told (label L t) total road roads₀ roads (Ok (record { tick = get_or L t 0; count = count }))
       told_way m =
           let o = le-ltb (length roads₀) count (omega (arith, h.writes.long)) in
           record {
@@ -119,10 +118,10 @@ module _ {g : Graph} {s x : ℕ} (d : Leaving g s x) (p : Permit) where
   pub true_capped : (v : ℕ) → label (labels g p s x) v ≤ never
   true_capped = labels_capped d.ok p s x d.node (le_of_lt (small d))
 
-told_never : (c d : ℕ) (f h : ℕ → ℕ) {roads₀ roads : List ℕ} (r : Answer) → Told never c f roads₀ roads r
+told_never : (c d : ℕ) (f h : ℕ → ℕ) {roads₀ roads : List ℕ} (r : Result Arrival Refusal) → Told never c f roads₀ roads r
     → Told never d h roads₀ roads r
 told_never c d f h r q =
-    let z : r ≡ Refused (refusal 28 0) = q.answer in
+    let z : r ≡ Err (refusal 28 0) = q.answer in
     record { answer = z; writes = rw z (nothing_filled f h (rw z at q.writes)) }
 
 -- no more is written than there are roads
@@ -140,7 +139,7 @@ written_most : (tick count room : ℕ) → written (answer_of tick count room) �
 written_most tick count room = go (eqb tick never) (ltb room count)
   where
     go : (b d : Bool)
-        → written (cond b (Refused (refusal 28 0)) (cond d (Refused (refusal 29 0)) (Arrived (record {
+        → written (cond b (Err (refusal 28 0)) (cond d (Err (refusal 29 0)) (Ok (record {
           tick = tick;
           count = count;
         })))) ≤ count
@@ -180,7 +179,7 @@ module _ {g : Graph} {p : Permit} {s x t : ℕ} (d : Leaving g s x) (l : t < g.n
       trail_count d.ok d.few r (known m) ∙ ap length
       (chosen_same d.ok L true_labels exact (true_exact d p) (known m) m)
 
-  told_same : {roads₀ roads : List ℕ} {o : Answer}
+  told_same : {roads₀ roads : List ℕ} {o : Result Arrival Refusal}
       → Told (label L t) (hops_in K t) (road_to g K t) roads₀ roads o
       → Told (label true_labels t) (length (path_of g p s t x)) (entry_of (path_of g p s t x)) roads₀ roads o
   told_same {roads₀} {roads} {o} h = elim (dec_lt (label L t) never) [
@@ -215,7 +214,7 @@ tellable {L = L} {t = t} w a h b r = record {
       });
 }
 
-pub answered : (mask : List ℕ) {file old L K new roads₀ roads : List ℕ} {l : Layout} {s x t : ℕ} {o : Answer}
+pub answered : (mask : List ℕ) {file old L K new roads₀ roads : List ℕ} {l : Layout} {s x t : ℕ} {o : Result Arrival Refusal}
     → Town file l
     → s < l.nodes → t < l.nodes → x < l.period → length old ≡ l.nodes
     → Reached (graph_of (decode file)) (permit_of mask) s t L K × (label L s ≡ x)

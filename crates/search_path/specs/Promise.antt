@@ -3,7 +3,7 @@
 -- permitted paths, by the chosen path. From a node to itself it arrives at once (`at_home`). The word for
 -- never is no arrival (`before_never`).
 use mathlib.Core.{Path.◌≡◌, Path.refl, Path.sym, Path.◌∙◌, Path.ap, Logic.◌≢◌, Logic.◌↔◌, List.List}
-use Rattle.std.specs.Prelude.{ℕ, ◌+◌, ◌-◌, ◌*◌, ◌≤◌, ◌<◌, length}
+use Rattle.std.specs.Prelude.{ℕ, ◌+◌, ◌-◌, ◌*◌, ◌≤◌, ◌<◌, length, Result, Ok, Err}
 use native.Mathlib.{Nat.sub-le, Nat.mul-le-mul_right, Omega.arith}
 use Rattle.std.proofs.Common.{ne_eqb, le-ltb}
 use Rattle.theory_paths.specs.Graph.{Graph, Permit, driven, Reachable, EarliestArrival}
@@ -18,8 +18,8 @@ use Rattle.search_labels.specs.Ready.{Leaving}
 use Rattle.search_chains.specs.Town.{last_tick}
 use Rattle.search_path.specs.Answering.{true_exact, true_capped}
 use Rattle.search_path.specs.Answer.{path_of, searched, Case, none, short, fits, case_of}
-use Rattle.search_path.specs.declared.answer.{Arrival.Arrival, Answer.Answer}
-use Rattle.search_path.specs.declared.answer.Answer.TheVariants.{Arrived, Refused}
+use Rattle.file_refusals.specs.declared.Refusal.{Refusal}
+use Rattle.search_path.specs.declared.answer.{Arrival.Arrival}
 
 -- The path is the way of document 02 from s to t; driven from tick x, it ends at the tick; no permitted path
 -- ends before; and it has fewer arcs than there are nodes.
@@ -29,12 +29,12 @@ pub record Way (g : Graph) (p : Permit) (s x t : ℕ) (path : List ℕ) (tick : 
   pub earliest : EarliestArrival g p s x t tick
   pub few : length path ≤ g.nodes - 1
 
-pub data Means (g : Graph) (p : Permit) (s t x room : ℕ) (a : Answer) : Type 0 where
-  no_way : (¬ Reachable g p s t) → a ≡ Refused (refusal 28 0) → Means g p s t x room a
+pub data Means (g : Graph) (p : Permit) (s t x room : ℕ) (a : Result Arrival Refusal) : Type 0 where
+  no_way : (¬ Reachable g p s t) → a ≡ Err (refusal 28 0) → Means g p s t x room a
   too_short : (tick : ℕ) → Way g p s x t (path_of g p s t x) tick → room < length (path_of g p s t x)
-      → a ≡ Refused (refusal 29 0)
+      → a ≡ Err (refusal 29 0)
       → Means g p s t x room a
-  arrives : (r : Arrival) → a ≡ Arrived r → r.count ≡ length (path_of g p s t x) → r.count ≤ room
+  arrives : (r : Arrival) → a ≡ Ok r → r.count ≡ length (path_of g p s t x) → r.count ≤ room
       → Way g p s x t (path_of g p s t x) r.tick → Means g p s t x room a
 
 module _ {g : Graph} {s x : ℕ} (d : Leaving g s x) where
@@ -79,7 +79,7 @@ module _ {g : Graph} {s x : ℕ} (d : Leaving g s x) where
           go (short ne m q) = too_short _ (way ne) m q
           go (fits ne m q) = arrives _ q refl m (way ne)
 
-      pub at_home : s ≡ t → (room : ℕ) → searched g p s t x room ≡ Arrived (record { tick = x; count = 0 })
+      pub at_home : s ≡ t → (room : ℕ) → searched g p s t x room ≡ Ok (record { tick = x; count = 0 })
       at_home e room =
           let L = labels g p s x in
           let y : label L t ≡ x = ap (label L) (sym e) ∙ (true_exact d p).source in

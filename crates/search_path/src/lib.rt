@@ -1,15 +1,15 @@
 // search_path: the earliest arrival over permitted arcs and the chosen path, of a sound network file that is
 // read in place. It owns the answer of a search (28 and 29 among them) and its meaning (specs/Answer,
 // specs/Promise, specs/Shows).
-//   answer what a trip answers
+//   answer where a trip arrives
 //   path   the chosen path, from the notes that the search left
 // It may call `search_labels` for the labels and notes, `network` for the entries of the file and
 // `file_refusals` to refuse; it cites `search_chains`, `theory_loops` and `theory_paths`.
 #![tactic(auto)]
 
-use crate::answer::{Answer, Arrival};
-use file_refusals::number::{NO_WAY, ROADS_SHORT};
-use file_refusals::refuse;
+use crate::answer::Arrival;
+use file_refusals::reason::Reason;
+use file_refusals::{Refusal, refused};
 use network::header::Layout;
 use network::limits::{MOST_NODES, NEVER};
 use search_labels::query::Query;
@@ -65,7 +65,7 @@ fn tell(
     notes: &[u32; MOST_NODES],
     target: usize,
     roads: &mut [u16],
-) -> Answer
+) -> Result<Arrival, Refusal>
     requires town { Town file.now l }
     requires tellable { Tellable (graph_of (decode file.now)) labels.now notes.now target }
     ensures { Told (label labels.now target) (hops_in notes.now target)
@@ -74,13 +74,13 @@ fn tell(
 {
     let tick = labels[target];
     if tick == NEVER {
-        return Answer::Refused(refuse(NO_WAY, 0));
+        return refused(Reason::NoWay, 0);
     }
     let count = path::path(file, l, notes, target, roads);
     if roads.len() < count {
-        return Answer::Refused(refuse(ROADS_SHORT, 0));
+        return refused(Reason::RoadsShort, 0);
     }
-    Answer::Arrived(Arrival { tick, count })
+    Ok(Arrival { tick, count })
 }
 
 // The search over labels for exactly the nodes.
@@ -91,7 +91,7 @@ fn search_nodes(
     q: Query,
     labels: &mut [u32],
     roads: &mut [u16],
-) -> Answer
+) -> Result<Arrival, Refusal>
     requires town { Town file.now l }
     requires arcs_in_bounds { (l.arcs ≤ length mask.now) × (length labels.old ≡ l.nodes) }
     requires source_lt_nodes { (q.source < l.nodes) × (q.target < l.nodes) × (q.departure < l.period) }
@@ -116,7 +116,7 @@ pub fn search(
     q: Query,
     arrivals: &mut [u32],
     roads: &mut [u16],
-) -> Answer
+) -> Result<Arrival, Refusal>
     requires laid { Laid file.now l }
     requires sound_network { SoundNetwork (decode file.now) }
     requires arcs_in_bounds { (l.arcs ≤ length mask.now) × (l.nodes ≤ length arrivals.old) }

@@ -2,14 +2,14 @@
 -- the input as a whole that is the texts of its first 64 lines (`reads_lines`), whatever text a line has:
 -- `say` gives it.
 use mathlib.Core.{Path.◌≡◌, Path.refl, Path.sym, Path.◌∙◌, Path.ap, Logic.◌≢◌}
-use Rattle.std.specs.Prelude.{true, false, not}
+use Rattle.std.specs.Prelude.{Option, true, false, not}
 use Rattle.std.proofs.Math.Bool.{cond}
 use mathlib.Core.List.{List, [], ◌∷◌, ◌++◌, append-nil}
 use Prim.Native.Nat.{ℕ, suc, ◌+◌, ◌-◌, ◌≤◌, ◌<◌}
 use native.Mathlib.{Decide.ℕ_discrete, Decide.dec_lt, Omega.arith}
 use lib.{ListN.take, Seq.take-nil, Dec.eqb, Dec.leb}
 use borrow.Author.Tests.{le-leb, lt-leb, ne_eqb}
-use Rattle.sheet_line.specs.declared.line.Line.{Line}
+use Rattle.sheet_line.specs.declared.line.Asking.{Asking}
 use Rattle.text_spaced.specs.declared.spaced.Scan.{Scan}
 use Rattle.sheet.specs.declared.reading.Reading.{Reading}
 use Rattle.text_lines.specs.Lines.{is_empty, lines_from}
@@ -34,7 +34,7 @@ stepped r b =
 abbrev pub stepped_all : Reading → List ℕ → Reading
 stepped_all r bs = folded stepped r bs
 
-module _ (say : Line → List ℕ) where
+module _ (say : Option Asking → List ℕ) where
   -- what is printed at that byte: at a line feed the text of the line
   unfoldable pub step_text : Reading → ℕ → List ℕ
   step_text r b = cond (leb 64 r.lines) [] (cond (eqb b 10) (say (ended r.scan)) [])
@@ -68,7 +68,7 @@ more_begun : (w : List ℕ) (b : ℕ) → not (is_empty (w ++ (b ∷ []))) ≡ t
 more_begun [] b = refl
 more_begun (a ∷ w) b = refl
 
-more_scanned : (s : Scan) (w : List ℕ) (b : ℕ)
+more_scanned : (s : Option Scan) (w : List ℕ) (b : ℕ)
     → scanned_all 10 s (w ++ (b ∷ [])) ≡ scanned 10 (scanned_all 10 s w) b
 unfolding folded
 more_scanned s w b = folded_append (scanned 10) s w (b ∷ [])
@@ -77,7 +77,7 @@ more_scanned s w b = folded_append (scanned 10) s w (b ∷ [])
 abbrev after : ℕ → List ℕ → Reading
 after n w = record { lines = n; begun = not (is_empty w); scan = scanned_all 10 fresh w }
 
-module _ (say : Line → List ℕ) where
+module _ (say : Option Asking → List ℕ) where
   at_end : (n : ℕ) (w : List ℕ) → n < 64
       → run_text say (after n w) [] ≡ texts_of say (take (64 - n) (lines_from w []))
   unfolding run_text end_text texts_of lines_from
@@ -102,7 +102,8 @@ module _ (say : Line → List ℕ) where
       rw (e, lt-leb 64 n l, q) (ap (λ (t : List ℕ). say (line_of w) ++ t) ih)
 
   at_byte : (n b : ℕ) (w bs : List ℕ) → n < 64 → b ≢ 10
-      → run_text say (after n (w ++ (b ∷ []))) bs ≡ texts_of say (take (64 - n) (lines_from (w ++ (b ∷ [])) bs))
+      → run_text say (after n (w ++ (b ∷ []))) bs
+      ≡ texts_of say (take (64 - n) (lines_from (w ++ (b ∷ [])) bs))
       → run_text say (after n w) (b ∷ bs) ≡ texts_of say (take (64 - n) (lines_from w (b ∷ bs)))
   unfolding run_text step_text stepped lines_from
   at_byte n b w bs l e ih =

@@ -1,9 +1,9 @@
 -- The laws by which the code of a step meets its definitions: by whether the 64th line is past, and by the
 -- byte.
 use mathlib.Core.{Path.◌≡◌, Bool.Bool, Bool.true, Bool.false, Bool.cond, List.List}
-use Rattle.std.specs.Prelude.{ℕ, ◌+◌, ◌≤◌, ◌<◌}
+use Rattle.std.specs.Prelude.{Option, ℕ, ◌+◌, ◌≤◌, ◌<◌}
 use borrow.Author.Tests.{le-leb, lt-leb, eq-eqb, ne_eqb}
-use Rattle.sheet_line.specs.declared.line.Line.{Line}
+use Rattle.sheet_line.specs.declared.line.Asking.{Asking}
 use Rattle.text_spaced.specs.declared.spaced.Scan.{Scan}
 use Rattle.sheet.specs.declared.reading.Reading.{Reading}
 use Rattle.text_numbers.specs.Text.{Stored}
@@ -14,8 +14,8 @@ use Rattle.sheet_text.specs.Head.{reads}
 use Rattle.sheet.specs.Reading.{beginning, stepped, step_text, end_text}
 
 -- before the first byte
-pub begins : (network plan : List ℕ) (b : Bool) (n : ℕ) (s : Scan) → b ≡ reads network plan → n ≡ cond b 0 64
-    → s ≡ fresh
+pub begins : (network plan : List ℕ) (b : Bool) (n : ℕ) (s : Option Scan) → b ≡ reads network plan
+    → n ≡ cond b 0 64 → s ≡ fresh
     → record { lines = n; begun = false; scan = s } ≡ beginning network plan
 unfolding beginning
 begins network plan b n s e f g = rw (f, e, g)
@@ -25,17 +25,17 @@ module _ (r : Reading) (b : ℕ) where
   unfolding stepped
   stepped_past l = rw (le-leb 64 r.lines l)
 
-  pub stepped_line : (s : Scan) → r.lines < 64 → b ≡ 10 → s ≡ fresh
+  pub stepped_line : (s : Option Scan) → r.lines < 64 → b ≡ 10 → s ≡ fresh
       → record { lines = r.lines + 1; begun = false; scan = s } ≡ stepped r b
   unfolding stepped
   stepped_line s l e f = rw (lt-leb 64 r.lines l, eq-eqb b 10 e, f)
 
-  pub stepped_byte : (s : Scan) → r.lines < 64 → (b ≡ 10 → ⊥) → s ≡ scanned 10 r.scan b
+  pub stepped_byte : (s : Option Scan) → r.lines < 64 → (b ≡ 10 → ⊥) → s ≡ scanned 10 r.scan b
       → record { lines = r.lines; begun = true; scan = s } ≡ stepped r b
   unfolding stepped
   stepped_byte s l e f = rw (lt-leb 64 r.lines l, ne_eqb b 10 e, f)
 
-module _ (say : Line → List ℕ) (r : Reading) (old : List ℕ) where
+module _ (say : Option Asking → List ℕ) (r : Reading) (old : List ℕ) where
   pub step_past : (b : ℕ) → 64 ≤ r.lines → Printed old old 0 (step_text say r b)
   unfolding step_text
   step_past b l = rw (le-leb 64 r.lines l) (printed_none old)

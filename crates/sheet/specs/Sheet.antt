@@ -23,7 +23,8 @@ unfolding sheet_text beginning folded
 sheet_bytes network plan input = ap (λ (t : List ℕ). head_text network plan ++ t) (by (reads network plan))
   where
     by : (b : Bool)
-        → run_text (line_text network plan) (record { lines = cond b 0 64; begun = false; scan = fresh }) input
+        → run_text (line_text network plan) (record { lines = cond b 0 64; begun = false; scan = fresh })
+        input
         ≡ cond b (texts_of (line_text network plan) (take 64 (lines_of input))) []
     by true = reads_lines (line_text network plan) input [] 0
     by false = full (line_text network plan) input _ (omega arith)

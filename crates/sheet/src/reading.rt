@@ -21,7 +21,7 @@ pub const LINES: u32 = 64;
 pub struct Reading {
     pub lines: u32,
     pub begun: bool,
-    pub scan: Scan,
+    pub scan: Option<Scan>,
 }
 
 // The reading after a step, and how many bytes of text the step has stored.
@@ -80,9 +80,9 @@ pub fn take_byte(network: &[u8], plan: &[u8], reading: Reading, byte: u8, out: &
     }
     Step {
         reading: Reading {
-            lines: reading.lines,
             begun: true,
             scan: scan_byte(scan, byte, ANY),
+            ..reading
         },
         length: 0,
     }

@@ -1,4 +1,4 @@
-// A line of the input: it asks for a trip, or it is of another shape.
+// A line of the input, and the trip that it asks for.
 ghost use Rattle.std.specs.Prelude.{◌≡◌};
 ghost use Rattle.sheet_line.specs.Line as lines;
 
@@ -12,25 +12,21 @@ pub struct Asking {
     pub leave: u32,
 }
 
-#[derive(Clone, Copy)]
-pub enum Line {
-    Asks(Asking),
-    Other,
-}
-
 // How many numbers such a line has.
 const NUMBERS: u32 = 3;
 
-// The line, once it has ended.
-pub fn ended(s: Scan) -> Line
+// What a line asks for, once it has ended: a trip, or nothing where it is of another shape.
+#[tactic(auto, unfolding(crate::specs::Line::ended))]
+pub fn ended(s: Option<Scan>) -> Option<Asking>
     ensures { result ≡ lines.ended s }
 {
-    if is_whole(s, NUMBERS) {
-        return Line::Asks(Asking {
-            from: s.first,
-            to: s.second,
-            leave: s.value,
-        });
+    let s = s?;
+    if !is_whole(s, NUMBERS) {
+        return None;
     }
-    Line::Other
+    Some(Asking {
+        from: s.first,
+        to: s.second,
+        leave: s.value,
+    })
 }

@@ -1,11 +1,9 @@
 -- The laws by which the code of the first line meets its definitions: by the files' lengths, by the verdict,
 -- and by whether lines are read.
 use mathlib.Core.{Path.◌≡◌, Bool.Bool, Bool.true, Bool.false, List.List, List.[], List.◌∷◌}
-use Rattle.std.specs.Prelude.{ℕ, ◌≤◌, ◌<◌, length}
+use Rattle.std.specs.Prelude.{ℕ, ◌≤◌, ◌<◌, length, Result, Ok, Err, ⊤}
 use borrow.Author.Tests.{lt-ltb, le-ltb}
 use Rattle.file_refusals.specs.declared.Refusal.{Refusal}
-use Rattle.plan_check.specs.declared.answer.Checking.{Checking}
-use Rattle.plan_check.specs.declared.answer.Checking.TheVariants.{Accepted, Refused}
 use Rattle.plan_check.specs.CheckPlan.{checking}
 use Rattle.text_numbers.specs.Text.{Stored, ascii, line_feed, stored_then}
 use Rattle.sheet_text.specs.Numbers.{spaced}
@@ -15,7 +13,7 @@ pub refusal_stored : (old mid new last : List ℕ) (next end count : ℕ) (r : R
     → Stored old mid 0 next (ascii "plan refused")
     → Stored mid new next end (spaced (r.number ∷ r.first ∷ r.second ∷ r.third ∷ []))
     → Stored new last end count line_feed
-    → Stored old last 0 count (verdict_text (Refused r))
+    → Stored old last 0 count (verdict_text (Err r))
 unfolding verdict_text
 refusal_stored old mid new last next end count r p q f =
     stored_then old new last 0 end count _ line_feed
@@ -24,21 +22,21 @@ refusal_stored old mid new last next end count r p q f =
     f
 
 -- the verdict, by its case
-module _ (x : Checking) where
-  pub accepted_text : (old new : List ℕ) (count : ℕ) → x ≡ Accepted
+module _ (x : Result ⊤ Refusal) where
+  pub accepted_text : (old new : List ℕ) (count : ℕ) → x ≡ Ok tt
       → Stored old new 0 count (ascii "plan accepted\n") → Stored old new 0 count (verdict_text x)
   unfolding verdict_text
   accepted_text old new count e p = rw e p
 
-  pub refused_text : (old new : List ℕ) (count : ℕ) (r : Refusal) → x ≡ Refused r
-      → Stored old new 0 count (verdict_text (Refused r)) → Stored old new 0 count (verdict_text x)
+  pub refused_text : (old new : List ℕ) (count : ℕ) (r : Refusal) → x ≡ Err r
+      → Stored old new 0 count (verdict_text (Err r)) → Stored old new 0 count (verdict_text x)
   refused_text old new count r e p = rw e p
 
-  pub accepted_is : x ≡ Accepted → true ≡ is_accepted x
+  pub accepted_is : x ≡ Ok tt → true ≡ is_accepted x
   unfolding is_accepted
   accepted_is e = rw e
 
-  pub refused_is : (r : Refusal) → x ≡ Refused r → false ≡ is_accepted x
+  pub refused_is : (r : Refusal) → x ≡ Err r → false ≡ is_accepted x
   unfolding is_accepted
   refused_is r e = rw e
 
@@ -54,7 +52,7 @@ module _ (network plan old new : List ℕ) (count : ℕ) where
   unfolding head_text
   head_plan k l p = rw (le-ltb most (length network) k, lt-ltb most (length plan) l) p
 
-  pub head_verdict : (x : Checking) → length network ≤ most → length plan ≤ most → x ≡ checking network plan
+  pub head_verdict : (x : Result ⊤ Refusal) → length network ≤ most → length plan ≤ most → x ≡ checking network plan
       → Stored old new 0 count (verdict_text x)
       → Stored old new 0 count (head_text network plan)
   unfolding head_text
@@ -70,7 +68,7 @@ module _ (network plan : List ℕ) where
   unfolding reads
   reads_plan b k l f = rw (le-ltb most (length network) k, lt-ltb most (length plan) l) f
 
-  pub reads_verdict : (x : Checking) (b : Bool) → length network ≤ most → length plan ≤ most
+  pub reads_verdict : (x : Result ⊤ Refusal) (b : Bool) → length network ≤ most → length plan ≤ most
       → x ≡ checking network plan → b ≡ is_accepted x → b ≡ reads network plan
   unfolding reads
   reads_verdict x b k l e f = rw (le-ltb most (length network) k, le-ltb most (length plan) l, ← e) f

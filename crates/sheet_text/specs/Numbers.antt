@@ -53,11 +53,5 @@ spaced_last ns old new at end i p l m =
     let q : i ≡ length ns = omega arith in
     rw (take-length ns) at (rw q at p)
 
-pub spaced_counted : (ns old new : List ℕ) (at end i n : ℕ) → Stored old new at end (spaced (take i ns))
-    → i ≤ n → n ≤ i → Stored old new at end (spaced (take n ns))
-spaced_counted ns old new at end i n p l m =
-    let q : i ≡ n = omega arith in
-    rw q at p
-
 -- for `search numbers` in such a loop
-pub ruleset numbers = (spaced_first, spaced_next, spaced_last, spaced_counted)
+pub ruleset numbers = (spaced_first, spaced_next, spaced_last)

@@ -10,9 +10,10 @@ ghost use Rattle.search_path.specs.Says.{trip_count};
 ghost use Rattle.network.specs.Limits.{most_roads};
 
 use crate::numbers::{put_numbers, put_roads};
+use file_refusals::Refusal;
 use network::limits::{MOST_NODES, MOST_ROADS, NEVER};
-use search_path::answer::{Answer, Arrival};
-use sheet_line::line::{Asking, Line, ended};
+use search_path::answer::Arrival;
+use sheet_line::line::{Asking, ended};
 use text_numbers::text::{end_line, put_decimal, put_text};
 use text_spaced::spaced::Scan;
 use trip::flagged::flagged_trip;
@@ -60,15 +61,20 @@ fn put_refused(out: &mut [u8], at: usize, number: u32) -> usize
 }
 
 // What a trip answers.
-fn put_answer(out: &mut [u8], at: usize, answer: Answer, roads: &[u16; MOST_ROADS]) -> usize
+fn put_answer(
+    out: &mut [u8],
+    at: usize,
+    answer: Result<Arrival, Refusal>,
+    roads: &[u16; MOST_ROADS],
+) -> usize
     requires { (most_line ≤ length out.old) × (at ≤ 32) × (trip_count answer ≤ most_roads) }
     ensures text { Stored out.old out.new at result
         (answer_text answer (take (trip_count answer) roads.now)) }
     ensures room { result ≤ most_line }
 {
     match answer {
-        Answer::Arrived(a) => put_arrival(out, at, a, roads),
-        Answer::Refused(r) => put_refused(out, at, r.number),
+        Ok(a) => put_arrival(out, at, a, roads),
+        Err(r) => put_refused(out, at, r.number),
     }
 }
 
@@ -96,14 +102,14 @@ fn put_trip(network: &[u8], plan: &[u8], a: Asking, out: &mut [u8]) -> usize
 }
 
 // A line that has ended.
-pub fn put_line(network: &[u8], plan: &[u8], scan: Scan, out: &mut [u8]) -> usize
+pub fn put_line(network: &[u8], plan: &[u8], scan: Option<Scan>, out: &mut [u8]) -> usize
     requires { most_line ≤ length out.old }
     ensures text { Stored out.old out.new 0 result
         (line_text network.now plan.now (lines.ended scan)) }
     ensures room { result ≤ most_line }
 {
     match ended(scan) {
-        Line::Asks(a) => put_trip(network, plan, a, out),
-        Line::Other => put_text(out, 0, b"refused 32\n"),
+        Some(a) => put_trip(network, plan, a, out),
+        None => put_text(out, 0, b"refused 32\n"),
     }
 }

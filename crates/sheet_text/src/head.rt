@@ -1,14 +1,12 @@
 // The first line of the sheet, stored in lent bytes: the check, or `too large` where a file has more than
 // 24,576 bytes. Lines of the input are read only where the plan is accepted.
-ghost use Rattle.std.specs.Prelude.{◌≡◌, false, ◌≤◌, length};
-ghost use Rattle.plan_check.specs.declared.answer.Checking.TheVariants as verdict;
+ghost use Rattle.std.specs.Prelude.{◌≡◌, false, ◌≤◌, length, Err};
 ghost use Rattle.text_numbers.specs.Text.{Stored, ascii};
 ghost use Rattle.sheet_text.specs.Printed.{most_line};
 ghost use Rattle.sheet_text.specs.Head.{verdict_text, is_accepted, head_text, reads};
 
 use crate::numbers::put_numbers;
 use file_refusals::Refusal;
-use plan_check::answer::Checking;
 use plan_check::check::check_plan;
 use text_numbers::text::{end_line, put_text};
 
@@ -26,7 +24,7 @@ pub struct Head {
 fn put_refusal(out: &mut [u8], r: Refusal) -> usize
     requires { most_line ≤ length out.old }
     ensures text { Stored out.old out.new 0 result
-        (verdict_text (verdict.Refused r)) }
+        (verdict_text (Err r)) }
     ensures room { result ≤ most_line }
 {
     let next = put_text(out, 0, b"plan refused");
@@ -36,18 +34,18 @@ fn put_refusal(out: &mut [u8], r: Refusal) -> usize
 }
 
 // The check's verdict.
-fn put_verdict(out: &mut [u8], checked: Checking) -> Head
+fn put_verdict(out: &mut [u8], checked: Result<(), Refusal>) -> Head
     requires { most_line ≤ length out.old }
     ensures text { Stored out.old out.new 0 result.length (verdict_text checked) }
     ensures room { result.length ≤ most_line }
     ensures lines { result.reads ≡ is_accepted checked }
 {
     match checked {
-        Checking::Accepted => Head {
+        Ok(()) => Head {
             length: put_text(out, 0, b"plan accepted\n"),
             reads: true,
         },
-        Checking::Refused(r) => Head {
+        Err(r) => Head {
             length: put_refusal(out, r),
             reads: false,
         },

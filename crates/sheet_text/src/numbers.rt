@@ -1,6 +1,6 @@
 // Numbers stored in lent bytes, one after the other and a space before each: each function answers the byte
 // after what it stored, and leaves the other bytes as they were.
-ghost use Rattle.std.specs.Prelude.{◌≡◌, ◌∷◌, ◌+◌, ◌*◌, ◌≤◌, ◌<◌, length, take};
+ghost use Rattle.std.specs.Prelude.{◌∷◌, ◌+◌, ◌*◌, ◌≤◌, length, take};
 ghost use Rattle.text_numbers.specs.Text.{Stored};
 ghost use Rattle.text_numbers.specs.Number.{decimal};
 ghost use Rattle.sheet_text.specs.Numbers.{spaced};
@@ -23,17 +23,10 @@ pub fn put_numbers(out: &mut [u8], at: usize, numbers: &[u32]) -> usize
     ensures room { result ≤ at + 11 * length numbers.now }
 {
     let mut next = at;
-    for i in 0..numbers.len() {
-        next = put_spaced(out, next, numbers[i]);
+    for n in numbers {
+        next = put_spaced(out, next, *n);
     }
     next
-}
-
-// A road's number, as wide as other numbers.
-fn wide(road: u16) -> u32
-    ensures { (result ≡ road) × (result < 65536) }
-{
-    road as u32
 }
 
 // Stores the first numbers of a list of roads, a space before each.
@@ -44,8 +37,8 @@ pub fn put_roads(out: &mut [u8], at: usize, roads: &[u16], count: usize) -> usiz
     ensures room { result ≤ at + 6 * count }
 {
     let mut next = at;
-    for i in 0..count {
-        next = put_spaced(out, next, wide(roads[i]));
+    for road in &roads[..count] {
+        next = put_spaced(out, next, u32::from(*road));
     }
     next
 }

@@ -1,2 +1,2 @@
--- The lines of a text, and the search for a line's end (Lines).
+-- The lines of a text, and where a line ends (Lines).
 pub mod Lines

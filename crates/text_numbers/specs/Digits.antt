@@ -4,7 +4,8 @@ use mathlib.Core.{Path.◌≡◌, Path.◌∙◌, Logic.◌≢◌, Bool.true, Bo
 use Rattle.std.specs.Prelude.{ℕ, zero, suc, ◌+◌, ◌-◌, ◌*◌, ◌%◌, ◌^◌, ◌<◌, ◌≤◌, List, [], ◌∷◌, ◌++◌}
 use native.Mathlib.{Numerals.add-one, Nat.pow-succ', Nat.pow-le-pow_right, Omega.arith}
 use lib.{ListN.length, ListN.get_or, ListN.take, ListN.drop, ListN.length-take, ListN.length-drop, Dec.leb}
-use Rattle.std.proofs.Common.{take-suc, take-add, get_or-take, get_or-drop, drop-drop, drop-cons, le-leb, leb-true}
+use Rattle.std.proofs.Common.{take-suc, take-add, get_or-take, get_or-drop, drop-drop, drop-cons}
+use Rattle.std.proofs.Common.{le-leb, leb-true}
 use Rattle.text_lines.specs.Lines.{Unended}
 use Rattle.text_numbers.specs.Number.{is_digit, are_digits, value_from, value_of, digits_append}
 use Rattle.text_numbers.specs.{Number.value_append, Spaced.Numeral}
@@ -63,21 +64,20 @@ digits_more text at i value digit h f l by d =
       small = rw p (omega (arith, h.small));
     }
 
--- FOR THE CODE: no digits, a value that has room for one more, and all nine
+-- FOR THE CODE: no digits, and one more of those that are looked at
 pub digits_none : (text : List ℕ) (at : ℕ) → DigitsAt text at at 0
 unfolding are_digits value_from
 digits_none text at =
     let z : at - at ≡ 0 = omega arith in
     record { after = omega arith; few = omega arith; digits = rw z; is = rw z; small = rw z (omega arith) }
 
-pub digits_below : (text : List ℕ) (at i value : ℕ) → DigitsAt text at i value → i < at + 9 → value < 10 ^ 8
-digits_below text at i value h l =
-    let m : i - at ≤ 8 = omega arith in
-    omega (arith, h.small, pow-le-pow_right {n = 10} (omega arith) {i = i - at} {j = 8} m)
-
-pub digits_nine : (text : List ℕ) (at i value : ℕ) → DigitsAt text at i value → at + 9 ≤ i
-    → DigitsAt text at (at + 9) value
-digits_nine text at i value h l = let z : i ≡ at + 9 = omega (arith, h.few) in rw z at h
+pub digits_next : (text : List ℕ) (at k i value n digit : ℕ) → DigitsAt text at i value → i ≡ at + k → k < 9
+    → k < n → i < length text → DigitBy (get_or (take n (drop at text)) k 0) digit → digit ≤ 9
+    → DigitsAt text at (i + 1) (10 * value + digit)
+digits_next text at k i value n digit h e l m some by d =
+    let byte : get_or (take n (drop at text)) k 0 ≡ get_or text i 0 =
+    rw e (get_or-take n (drop at text) k 0 m ∙ get_or-drop at text k 0) in
+    digits_more text at i value digit h (omega arith) some (rw byte at by) d
 
 -- and one to four
 module _ (text : List ℕ) (at : ℕ) (room : at + 9 ≤ length text) (a : ℕ) (by₁ : DigitBy (get_or text at 0) a)

@@ -2,7 +2,8 @@
 -- read, with any number of them. What is printed is digits alone (`decimal_digits`), and is read back
 -- (`value_decimal`).
 use mathlib.Core.{Path.◌≡◌, Path.refl, Path.sym, Path.◌∙◌, Path.ap, List.List, List.[], List.◌∷◌, List.◌++◌}
-use Rattle.std.specs.Prelude.{ℕ, zero, suc, ◌+◌, ◌-◌, ◌*◌, ◌/◌, ◌%◌, ◌^◌, ◌<◌, ◌≤◌, Bool, true, false, cond, ◌&&◌}
+use Rattle.std.specs.Prelude.{ℕ, zero, suc, ◌+◌, ◌-◌, ◌*◌, ◌/◌, ◌%◌, ◌^◌, ◌<◌, ◌≤◌}
+use Rattle.std.specs.Prelude.{Bool, true, false, cond, ◌&&◌}
 use Rattle.std.proofs.Math.Bool.{and-eq-true_iff}
 use native.Mathlib.{Nat.pow-succ', Omega.arith}
 use lib.{ListN.length, ListN.set, ListN.length-append, Dec.leb, Dec.ltb}
@@ -151,7 +152,8 @@ unfolding decimal
 decimal_digits n = are_digits_lem 10 n
 
 -- AND IS READ BACK
-pub value_append : (v : ℕ) (w : List ℕ) (b : ℕ) → value_from v (w ++ (b ∷ [])) ≡ 10 * value_from v w + (b - 48)
+pub value_append : (v : ℕ) (w : List ℕ) (b : ℕ)
+    → value_from v (w ++ (b ∷ [])) ≡ 10 * value_from v w + (b - 48)
 unfolding value_from
 value_append v [] b = refl
 value_append v (a ∷ w) b = value_append (10 * v + (a - 48)) w b

@@ -2,8 +2,6 @@
 ghost use Rattle.std.specs.Prelude.{◌+◌, ◌≤◌, length};
 ghost use Rattle.text_numbers.specs.Digits.{DigitsAt, DigitBy};
 
-use std::num::wrapping_sub_u32;
-
 // A number, and the place behind its last digit.
 #[derive(Clone, Copy)]
 pub struct Number {
@@ -15,7 +13,7 @@ pub struct Number {
 fn digit(byte: u8) -> u32
     ensures { DigitBy byte result }
 {
-    wrapping_sub_u32(byte as u32, 48)
+    u32::from(byte).wrapping_sub(u32::from(b'0'))
 }
 
 // The first digits from byte `at` on, up to nine. There may be none, and there may be further ones.
@@ -23,15 +21,18 @@ fn digits_at(text: &[u8], at: usize) -> Number
     requires { at + 9 ≤ length text.now }
     ensures { DigitsAt text.now at result.end result.value }
 {
-    let mut value: u32 = 0;
-    for i in at..at + 9 {
-        let next = digit(text[i]);
+    let mut number = Number { value: 0, end: at };
+    for byte in &text[at..at + 9] {
+        let next = digit(*byte);
         if 9 < next {
-            return Number { value, end: i };
+            return number;
         }
-        value = 10 * value + next;
+        number = Number {
+            value: 10 * number.value + next,
+            end: number.end + 1,
+        };
     }
-    Number { value, end: at + 9 }
+    number
 }
 
 // The same, with no loop where there are at most four, as those of a town's roads are.

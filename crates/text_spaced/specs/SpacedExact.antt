@@ -1,12 +1,12 @@
 -- The scan says that a line is numbers one space apart exactly where it is: what it has read of a line that
 -- is not ruled out are such numbers (`scanned_spaced`), and up to three of them are read (`spaced-scanned`).
-use mathlib.Core.{Path.◌≡◌, Path.refl, Path.sym, Path.◌∙◌, Path.subst⁻¹, Logic.◌≢◌}
-use Rattle.std.specs.Prelude.{Bool, true, false, cond, ℕ, ◌+◌, ◌-◌, ◌*◌, ◌≤◌, ◌<◌, min}
+use mathlib.Core.{Path.◌≡◌, Path.refl, Path.sym, Path.◌∙◌, Path.subst, Path.subst⁻¹, Logic.◌≢◌}
+use Rattle.std.specs.Prelude.{Option, Some, None, true, cond, ℕ, ◌+◌, ◌-◌, ◌*◌, ◌≤◌, ◌<◌, min}
 use Rattle.std.proofs.Math.Bool.{and-eq-true_iff}
 use mathlib.Core.List.{List, [], ◌∷◌, ◌++◌, append-nil, append_assoc}
 use native.Mathlib.{Nat.le_refl, Nat.le_trans, Decide.ℕ_discrete, Decide.dec_lt, Omega.arith}
-use lib.{ListN.length, ListN.length-append, Dec.eqb, Dec.leb}
-use borrow.Author.Tests.{lt-ltb, le-ltb, leb-true, le-leb, eq-eqb, ne_eqb, ltb-true}
+use lib.{ListN.length, ListN.length-append, Dec.eqb, Dec.leb, Dec.ltb}
+use borrow.Author.Tests.{lt-ltb, le-ltb, leb-true, le-leb, eq-eqb, ne_eqb, ltb-true, eqb-true}
 use Rattle.text_spaced.specs.declared.spaced.Scan.{Scan}
 use Rattle.text_numbers.specs.Number.{is_digit, are_digits, value_from, value_of, digits_append}
 use Rattle.text_numbers.specs.Number.{value_append}
@@ -28,17 +28,27 @@ one_more_counted n = omega arith
 zero_one : ◌≡◌ {A = ℕ} 0 1 → ⊥
 zero_one z = omega arith
 
-true_false : ◌≡◌ {A = Bool} true false → ⊥
-true_false e = zero_one (cc)
+-- the state that is not ruled out, and the one after a digit
+abbrev state : ℕ → ℕ → ℕ → ℕ → ℕ → Scan
+state fields digits value first second =
+    record { fields = fields; digits = digits; value = value; first = first; second = second }
+
+abbrev after_digit : Scan → ℕ → Scan
+after_digit s b = state s.fields (one_more s.digits) (10 * s.value + (b - 48)) s.first s.second
+
+same : (s t : Scan) → Some s ≡ Some t → s ≡ t
+same s t e = cc
+
+none_some : {P : Type 0} {s : Scan} → None ≡ Some s → P
+none_some e = absurd (zero_one (cc))
 
 -- ONE BYTE of a state that is not ruled out
-module _ (most : ℕ) (s : Scan) (h : s.bad ≡ false) (b : ℕ) where
+module _ (most : ℕ) (s : Scan) (b : ℕ) where
   at_digit : 48 ≤ b → b ≤ 57 → one_more s.digits ≤ most → 10 * s.value + (b - 48) ≤ limit
-      → scanned most s b
+      → scanned most (Some s) b
       ≡ reading s.fields (one_more s.digits) (10 * s.value + (b - 48)) s.first s.second
   unfolding scanned digit_scanned
   at_digit p q m l = rw (
-    h,
     ne_eqb b 32 (omega arith),
     le-ltb b 48 p,
     le-ltb 57 b q,
@@ -46,18 +56,17 @@ module _ (most : ℕ) (s : Scan) (h : s.bad ≡ false) (b : ℕ) where
     le-ltb limit (10 * s.value + (b - 48)) l,
   )
 
-  at_low : b ≢ 32 → b < 48 → scanned most s b ≡ ruled_out
+  at_low : b ≢ 32 → b < 48 → scanned most (Some s) b ≡ ruled_out
   unfolding scanned digit_scanned
-  at_low n l = rw (h, ne_eqb b 32 n, lt-ltb b 48 l)
+  at_low n l = rw (ne_eqb b 32 n, lt-ltb b 48 l)
 
-  at_high : 57 < b → scanned most s b ≡ ruled_out
+  at_high : 57 < b → scanned most (Some s) b ≡ ruled_out
   unfolding scanned digit_scanned
-  at_high l = rw (h, ne_eqb b 32 (omega arith), le-ltb b 48 (omega arith), lt-ltb 57 b l)
+  at_high l = rw (ne_eqb b 32 (omega arith), le-ltb b 48 (omega arith), lt-ltb 57 b l)
 
-  at_many : 48 ≤ b → b ≤ 57 → most < one_more s.digits → scanned most s b ≡ ruled_out
+  at_many : 48 ≤ b → b ≤ 57 → most < one_more s.digits → scanned most (Some s) b ≡ ruled_out
   unfolding scanned digit_scanned
   at_many p q m = rw (
-    h,
     ne_eqb b 32 (omega arith),
     le-ltb b 48 p,
     le-ltb 57 b q,
@@ -65,10 +74,9 @@ module _ (most : ℕ) (s : Scan) (h : s.bad ≡ false) (b : ℕ) where
   )
 
   at_large : 48 ≤ b → b ≤ 57 → one_more s.digits ≤ most → limit < 10 * s.value + (b - 48)
-      → scanned most s b ≡ ruled_out
+      → scanned most (Some s) b ≡ ruled_out
   unfolding scanned digit_scanned
   at_large p q m l = rw (
-    h,
     ne_eqb b 32 (omega arith),
     le-ltb b 48 p,
     le-ltb 57 b q,
@@ -76,9 +84,9 @@ module _ (most : ℕ) (s : Scan) (h : s.bad ≡ false) (b : ℕ) where
     lt-ltb limit (10 * s.value + (b - 48)) l,
   )
 
-  at_space : b ≡ 32 → scanned most s b ≡ space_scanned s
+  at_space : b ≡ 32 → scanned most (Some s) b ≡ space_scanned s
   unfolding scanned
-  at_space e = rw (h, e)
+  at_space e = rw (e)
 
 -- WHAT HAS BEEN READ: the numbers that a space has ended, and the digits of the next
 done : Scan → List ℕ
@@ -126,28 +134,26 @@ numeral most w s r l = record {
 }
 
 -- ONE BYTE MORE of a line that is not ruled out
-module _ (most : ℕ) (w : List ℕ) (s : Scan) (h : s.bad ≡ false) (r : Read most w s) (b : ℕ) where
+module _ (most : ℕ) (w : List ℕ) (s : Scan) (r : Read most w s) (b : ℕ) where
   digit_more : 48 ≤ b → b ≤ 57 → one_more s.digits ≤ most → 10 * s.value + (b - 48) ≤ limit
-      → Read most (w ++ (b ∷ [])) (scanned most s b)
+      → Read most (w ++ (b ∷ [])) (after_digit s b)
   unfolding done
-  digit_more p q m l =
-      rw (at_digit most s h b p q m l)
-      (record {
-        ended = r.ended;
-        word = r.word ++ (b ∷ []);
-        parts = rw r.parts (append_assoc r.ended r.word (b ∷ []));
-        before = r.before;
-        digits = digits_append r.word b r.digits (is_digit_lem b p q);
-        value = value_append 0 r.word b ∙ rw r.value;
-        small = l;
-        count = rw (length-append, r.count) (one_more_counted (length r.word));
-        few = m;
-      })
+  digit_more p q m l = record {
+    ended = r.ended;
+    word = r.word ++ (b ∷ []);
+    parts = rw r.parts (append_assoc r.ended r.word (b ∷ []));
+    before = r.before;
+    digits = digits_append r.word b r.digits (is_digit_lem b p q);
+    value = value_append 0 r.word b ∙ rw r.value;
+    small = l;
+    count = rw (length-append, r.count) (one_more_counted (length r.word));
+    few = m;
+  }
 
   -- a state with no digit yet, after a space
   spaced_read : (fields first second : ℕ) → 0 < s.digits → b ≡ 32
-      → done (reading fields 0 0 first second) ≡ done s ++ (s.value ∷ [])
-      → Read most (w ++ (b ∷ [])) (reading fields 0 0 first second)
+      → done (state fields 0 0 first second) ≡ done s ++ (s.value ∷ [])
+      → Read most (w ++ (b ∷ [])) (state fields 0 0 first second)
   unfolding are_digits value_from
   spaced_read fields first second l e f = record {
     ended = r.ended ++ (r.word ++ (32 ∷ []));
@@ -163,77 +169,79 @@ module _ (most : ℕ) (w : List ℕ) (s : Scan) (h : s.bad ≡ false) (r : Read 
     few = omega arith;
   }
 
-  space_more : b ≡ 32 → (scanned most s b).bad ≡ false → Read most (w ++ (b ∷ [])) (scanned most s b)
-  unfolding space_scanned done
-  space_more e g = elim (ℕ_discrete s.digits 0) [
-    | yes z ↦ absurd (true_false (rw (at_space most s h b e, space_scanned, eq-eqb s.digits 0 z) at g))
-    | no z ↦ elim (ℕ_discrete s.fields 0) [
-      | yes y ↦
-          rw (at_space most s h b e, space_scanned, ne_eqb s.digits 0 z, eq-eqb s.fields 0 y)
-          (spaced_read 1 s.value 0 (omega arith) e (rw (done, y)))
-      | no y ↦ elim (ℕ_discrete s.fields 1) [
-        | yes x ↦
-            rw (
-              at_space most s h b e,
-              space_scanned,
-              ne_eqb s.digits 0 z,
-              ne_eqb s.fields 0 y,
-              eq-eqb s.fields 1 x,
-            )
-            (spaced_read 2 s.first s.value (omega arith) e (rw (done, x)))
-        | no x ↦ absurd (true_false
-            (rw (
-              at_space most s h b e,
-              space_scanned,
-              ne_eqb s.digits 0 z,
-              ne_eqb s.fields 0 y,
-              ne_eqb s.fields 1 x,
-            ) at g))
+  module _ (t : Scan) (g : scanned most (Some s) b ≡ Some t) where
+    -- the state after the byte is one that was read so far, and none where the byte rules numbers out
+    to : (u : Scan) → scanned most (Some s) b ≡ Some u → Read most (w ++ (b ∷ [])) u
+        → Read most (w ++ (b ∷ [])) t
+    to u e h = subst (Read most (w ++ (b ∷ []))) (same u t (sym e ∙ g)) h
+
+    out : {P : Type 0} → scanned most (Some s) b ≡ ruled_out → P
+    out e = none_some (sym e ∙ g)
+
+    space_more : b ≡ 32 → Read most (w ++ (b ∷ [])) t
+    unfolding space_scanned done
+    space_more e = elim (ℕ_discrete s.digits 0) [
+      | yes z ↦ out (at_space most s b e ∙ rw (space_scanned, eq-eqb s.digits 0 z))
+      | no z ↦ elim (ℕ_discrete s.fields 0) [
+        | yes y ↦
+            to (state 1 0 0 s.value 0)
+            (at_space most s b e ∙ rw (space_scanned, ne_eqb s.digits 0 z, eq-eqb s.fields 0 y))
+            (spaced_read 1 s.value 0 (omega arith) e (rw (done, y)))
+        | no y ↦ elim (ℕ_discrete s.fields 1) [
+          | yes x ↦
+              to (state 2 0 0 s.first s.value)
+              (at_space most s b e
+              ∙ rw (space_scanned, ne_eqb s.digits 0 z, ne_eqb s.fields 0 y, eq-eqb s.fields 1 x))
+              (spaced_read 2 s.first s.value (omega arith) e (rw (done, x)))
+          | no x ↦ out (at_space most s b e
+              ∙ rw (space_scanned, ne_eqb s.digits 0 z, ne_eqb s.fields 0 y, ne_eqb s.fields 1 x))
+        ]
       ]
     ]
-  ]
 
-  out : scanned most s b ≡ ruled_out → (scanned most s b).bad ≡ false → ⊥
-  out e g = true_false (rw e at g)
-
-  read_more : (scanned most s b).bad ≡ false → Read most (w ++ (b ∷ [])) (scanned most s b)
-  read_more g = elim (ℕ_discrete b 32) [
-    | yes e ↦ space_more e g
-    | no n ↦ elim (dec_lt b 48) [
-      | yes l ↦ absurd (out (at_low most s h b n l) g)
-      | no l ↦ elim (dec_lt 57 b) [
-        | yes k ↦ absurd (out (at_high most s h b k) g)
-        | no k ↦ elim (dec_lt most (one_more s.digits)) [
-          | yes m ↦ absurd (out (at_many most s h b (omega arith) (omega arith) m) g)
-          | no m ↦ elim (dec_lt limit (10 * s.value + (b - 48))) [
-            | yes j ↦ absurd (out (at_large most s h b (omega arith) (omega arith) (omega arith) j) g)
-            | no j ↦ digit_more (omega arith) (omega arith) (omega arith) (omega arith)
+    read_more : Read most (w ++ (b ∷ [])) t
+    read_more = elim (ℕ_discrete b 32) [
+      | yes e ↦ space_more e
+      | no n ↦ elim (dec_lt b 48) [
+        | yes l ↦ out (at_low most s b n l)
+        | no l ↦ elim (dec_lt 57 b) [
+          | yes k ↦ out (at_high most s b k)
+          | no k ↦ elim (dec_lt most (one_more s.digits)) [
+            | yes m ↦ out (at_many most s b (omega arith) (omega arith) m)
+            | no m ↦ elim (dec_lt limit (10 * s.value + (b - 48))) [
+              | yes j ↦ out (at_large most s b (omega arith) (omega arith) (omega arith) j)
+              | no j ↦
+                  to (after_digit s b)
+                  (at_digit most s b (omega arith) (omega arith) (omega arith) (omega arith))
+                  (digit_more (omega arith) (omega arith) (omega arith) (omega arith))
+            ]
           ]
         ]
       ]
     ]
-  ]
 
--- WHOLE LINES: what has been read stays so
-bad_stays : (most : ℕ) (s : Scan) (w : List ℕ) → s.bad ≡ true → (scanned_all most s w).bad ≡ true
+-- WHOLE LINES: what has been ruled out stays so, and what has been read stays read
+none_stays : (most : ℕ) (w : List ℕ) → scanned_all most None w ≡ None
 unfolding folded scanned
-bad_stays most s [] e = e
-bad_stays most s (b ∷ w) e = bad_stays most (scanned most s b) w (rw e)
+none_stays most [] = refl
+none_stays most (b ∷ w) = none_stays most w
 
-reads : (most : ℕ) (w : List ℕ) (s : Scan) (bs : List ℕ) → s.bad ≡ false → Read most w s
-    → (scanned_all most s bs).bad ≡ false → Read most (w ++ bs) (scanned_all most s bs)
+reads : (most : ℕ) (w : List ℕ) (s t : Scan) (bs : List ℕ) → Read most w s
+    → scanned_all most (Some s) bs ≡ Some t → Read most (w ++ bs) t
 unfolding folded
-reads most w s [] h r g = rw (append-nil w) r
-reads most w s (b ∷ bs) h r g =
-    let e : (scanned most s b).bad ≡ false = good (scanned most s b).bad refl in
-    rw (append_assoc w (b ∷ []) bs) at
-    (reads most (w ++ (b ∷ [])) (scanned most s b) bs e (read_more most w s h r b e) g)
+reads most w s t [] r g = rw (append-nil w) (subst (Read most w) (same s t g) r)
+reads most w s t (b ∷ bs) r g =
+    go (scanned most (Some s) b) refl
+    (λ u e. reads most (w ++ (b ∷ [])) u t bs (read_more most w s r b u e))
   where
-    good : (t : Bool) → (scanned most s b).bad ≡ t → (scanned most s b).bad ≡ false
-    good true e = absurd (true_false (sym (bad_stays most (scanned most s b) bs e) ∙ g))
-    good false e = e
+    go : (o : Option Scan) → scanned most (Some s) b ≡ o
+        → ((u : Scan) → scanned most (Some s) b ≡ Some u → scanned_all most (Some u) bs ≡ Some t
+        → Read most ((w ++ (b ∷ [])) ++ bs) t)
+        → Read most (w ++ (b ∷ bs)) t
+    go None e f = none_some (sym (none_stays most bs) ∙ (rw e at g))
+    go (Some u) e f = rw (append_assoc w (b ∷ []) bs) at (f u e (rw e at g))
 
-fresh_read : (most : ℕ) → Read most [] fresh
+fresh_read : (most : ℕ) → Read most [] (state 0 0 0 0 0)
 unfolding are_digits value_from done
 fresh_read most = record {
   ended = [];
@@ -248,41 +256,34 @@ fresh_read most = record {
 }
 
 -- what a whole line says of its state
-whole_is : (s : Scan) (count : ℕ) → whole s count ≡ true
-    → (s.bad ≡ false) × (s.fields + 1 ≡ count) × (0 < s.digits)
+whole_is : (s : Scan) (count : ℕ) → whole s count ≡ true → (s.fields + 1 ≡ count) × (0 < s.digits)
 unfolding whole
-whole_is s count e = go s.bad refl
-  where
-    go : (t : Bool) → s.bad ≡ t → (s.bad ≡ false) × (s.fields + 1 ≡ count) × (0 < s.digits)
-    go true f = absurd (true_false (sym (rw f at e)))
-    go false f = elim (ℕ_discrete (s.fields + 1) count) [
-      | yes m ↦ (f, m, ltb-true 0 s.digits (rw (f, eq-eqb (s.fields + 1) count m) at e))
-      | no m ↦ absurd (true_false (sym (rw (f, ne_eqb (s.fields + 1) count m) at e)))
-    ]
+whole_is s count e =
+    let (f, l) = (and-eq-true_iff (eqb (s.fields + 1) count) (ltb 0 s.digits)).0 e in
+    (eqb-true (s.fields + 1) count f, ltb-true 0 s.digits l)
 
 -- the numbers of a line of two, and of three
 pub two_values : (s : Scan) → whole s 2 ≡ true → values_of s ≡ s.first ∷ s.value ∷ []
 unfolding values_of done
 two_values s e =
-    let (h, f, l) = whole_is s 2 e in
+    let (f, l) = whole_is s 2 e in
     let g : s.fields ≡ 1 = omega arith in
     rw g
 
 pub three_values : (s : Scan) → whole s 3 ≡ true → values_of s ≡ s.first ∷ s.second ∷ s.value ∷ []
 unfolding values_of done
 three_values s e =
-    let (h, f, l) = whole_is s 3 e in
+    let (f, l) = whole_is s 3 e in
     let g : s.fields ≡ 2 = omega arith in
     rw g
 
 -- AND BACK: a line that is taken for numbers is such numbers
-pub scanned_spaced : (most count : ℕ) (line : List ℕ) → whole (scanned_all most fresh line) count ≡ true
-    → Spaced most line (values_of (scanned_all most fresh line))
+pub scanned_spaced : (most count : ℕ) (line : List ℕ) (s : Scan) → scanned_all most fresh line ≡ Some s
+    → whole s count ≡ true → Spaced most line (values_of s)
 unfolding values_of
-scanned_spaced most count line e =
-    let s = scanned_all most fresh line in
-    let (h, f, l) = whole_is s count e in
-    let r = reads most [] fresh line refl (fresh_read most) h in
+scanned_spaced most count line s g e =
+    let (f, l) = whole_is s count e in
+    let r = reads most [] (state 0 0 0 0 0) s line (fresh_read most) g in
     subst⁻¹ (λ (w : List ℕ). Spaced most w (done s ++ (s.value ∷ []))) r.parts
     (ended_then most r.ended (done s) r.word (s.value ∷ []) r.before
     (one r.word s.value (numeral most line s r l)))
@@ -306,7 +307,7 @@ digits_read most (b ∷ w) n fields value first second d m l =
     let z : n + length (b ∷ w) ≡ n + 1 + length w = omega arith in
     rw (
       z,
-      at_digit most (reading fields (min n 10) value first second) refl b p q (omega arith)
+      at_digit most (state fields (min n 10) value first second) b p q (omega arith)
           (le_trans (value_grows w next) l),
       one_more_counted n,
     )
@@ -348,7 +349,7 @@ last_read most _ v fields first second (more w _ line _ n s) =
     absurd (omega (arith, some_numbers most line [] s))
 
 -- the state after a first or second number and its space
-word_read : (most : ℕ) (w line : List ℕ) (v fields first second : ℕ) (next : Scan) → Numeral most w v
+word_read : (most : ℕ) (w line : List ℕ) (v fields first second : ℕ) (next : Option Scan) → Numeral most w v
     → scanned most (reading fields (counted w) v first second) 32 ≡ next
     → scanned_all most (reading fields 0 0 first second) (w ++ (32 ∷ line)) ≡ scanned_all most next line
 unfolding folded

@@ -1,6 +1,7 @@
 -- Counting by adding up, along a row: a test's answer as 1 or 0, the entry before an entry, the count with
 -- one index more, and with a block of indices more.
 use mathlib.Core.{Path.◌≡◌, Path.refl, Path.sym, Path.◌∙◌, Bool.Bool, Bool.true, Bool.false, Bool.cond}
+use mir.Val.{bool_byte}
 use Rattle.std.specs.Prelude.{ℕ, zero, suc, ◌+◌, ◌-◌, ◌≤◌, ◌<◌}
 use native.Mathlib.{Nat.add-zero, Numerals.add-one, Omega.arith}
 use Rattle.theory_loops.specs.Count.{count, count_none, count_yes, count_no, count_same}
@@ -8,6 +9,11 @@ use Rattle.theory_loops.specs.Count.{count, count_none, count_yes, count_no, cou
 -- 1 for yes, 0 for no
 abbrev pub flag : Bool → ℕ
 flag b = cond b 1 0
+
+-- as a cast or `from` makes a number of it
+pub flag_of : (b : Bool) → bool_byte b ≡ flag b
+flag_of true = refl
+flag_of false = refl
 
 pub flag_few : (b : Bool) → flag b ≤ 1
 flag_few true = omega arith

@@ -16,6 +16,6 @@ pub fn line(x: u16, a: u16, v: u32, b: u16, w: u32) -> u32
     requires { (a ≤ x) × (x < b) }
     ensures { result ≡ Line.line x a v b w }
 {
-    ((v as u64 * (b - x) as u64 + w as u64 * (x - a) as u64 + (b - a - 1) as u64)
-        / (b - a) as u64) as u32
+    ((u64::from(v) * u64::from(b - x) + u64::from(w) * u64::from(x - a) + u64::from(b - a - 1))
+        / u64::from(b - a)) as u32
 }

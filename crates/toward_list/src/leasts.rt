@@ -1,5 +1,5 @@
 // The least travel of each arc, as its points have it.
-ghost use Rattle.std.specs.Prelude.{◌≡◌, ◌+◌, ◌≤◌, ◌<◌, min, length};
+ghost use Rattle.std.specs.Prelude.{◌≡◌, ◌+◌, ◌≤◌, ◌<◌, length};
 ghost use Rattle.network.specs.Decode.{decode, Laid};
 ghost use Rattle.toward_row.specs.Arcs.{Primed};
 ghost use Rattle.toward_list.specs.Leasts.{LeastOf, LeastTravel, Leasts};
@@ -7,14 +7,6 @@ ghost use Rattle.toward_list.specs.Leasts.{LeastOf, LeastTravel, Leasts};
 use network::header::Layout;
 use network::limits::MOST_ARCS;
 use network::read;
-use search_arcs::wide;
-
-// The lesser of two travels.
-fn lesser_travel(a: usize, b: usize) -> usize
-    ensures { result ≡ min a b }
-{
-    if b < a { b } else { a }
-}
 
 // The least travel of `count` points from `from` on.
 fn least_of_points(file: &[u8], l: Layout, from: usize, count: usize) -> usize
@@ -22,9 +14,9 @@ fn least_of_points(file: &[u8], l: Layout, from: usize, count: usize) -> usize
     requires count_bound { from + count ≤ l.points }
     ensures { LeastOf (decode file.now).travels from count result × (result < 65536) }
 {
-    let mut low = 65535;
+    let mut low = 65535usize;
     for k in 0..count {
-        low = lesser_travel(low, read::travel(file, l, from + k));
+        low = low.min(read::travel(file, l, from + k));
     }
     low
 }
@@ -35,7 +27,7 @@ fn least_of_arc(file: &[u8], l: Layout, starts: &[u16; MOST_ARCS], arc: usize) -
     requires arc_lt_arcs { arc < l.arcs }
     ensures { LeastTravel file.now l arc result }
 {
-    let from = wide(starts[arc]);
+    let from = usize::from(starts[arc]);
     let count = read::count(file, l, arc);
     least_of_points(file, l, from, count) as u16
 }

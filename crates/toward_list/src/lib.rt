@@ -6,7 +6,7 @@
 // entry of its row is below; `room`, 0 where it has no number yet and else never less its greatest; and
 // `low`, what `near` last had of a clean node (specs/Heights.antt).
 // It may call `toward_row` for an arc lowered into a row, `network` for the entries of the file and
-// `search_arcs` for widths and comparisons; it cites `theory_loops`, `theory_paths` and `theory_travel`.
+// `search_arcs` for comparisons; it cites `theory_loops`, `theory_paths` and `theory_travel`.
 #![tactic(auto)]
 
 pub mod leasts;

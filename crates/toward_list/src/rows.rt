@@ -34,9 +34,8 @@ pub fn copy_row(l: Layout, v: usize, work: &[u32], hs: &mut [u32; MOST_PERIOD])
         hs.new }
 {
     let p = row_place(l, v);
-    for x in 0..l.period {
-        hs[x] = work[p + x];
-    }
+    let e = p + l.period;
+    hs[..l.period].copy_from_slice(&work[p..e]);
 }
 
 // Lowers the row of node u by what an arc gives, where `hs` is its head's row. `first` says that the row has
@@ -91,8 +90,8 @@ pub fn nearness(l: Layout, u: usize, work: &[u32]) -> u32
     let p = row_place(l, u);
     let e = p + l.period;
     let mut low = work[p];
-    for i in p..e {
-        low = lower(low, work[i]);
+    for &number in &work[p..e] {
+        low = lower(low, number);
     }
     NEVER - low
 }
@@ -122,8 +121,8 @@ pub fn highest(l: Layout, u: usize, work: &[u32]) -> u32
     let p = row_place(l, u);
     let e = p + l.period;
     let mut high = work[p];
-    for i in p..e {
-        high = higher(high, work[i]);
+    for &number in &work[p..e] {
+        high = higher(high, number);
     }
     high
 }
@@ -137,9 +136,7 @@ pub fn fill_row(l: Layout, u: usize, value: u32, work: &mut [u32])
 {
     let p = row_place(l, u);
     let e = p + l.period;
-    for i in p..e {
-        work[i] = value;
-    }
+    work[p..e].fill(value);
 }
 
 // The rows of the nodes from `from` up to `to` that have no number are never.

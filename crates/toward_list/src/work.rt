@@ -7,7 +7,5 @@ pub fn zero(work: &mut [u32], size: usize)
     requires { size ≤ length work.old }
     ensures { Filled 0 size (λ _. 0) work.old work.new }
 {
-    for i in 0..size {
-        work[i] = 0;
-    }
+    work[..size].fill(0);
 }

@@ -1,6 +1,8 @@
--- The nearest dirty node: the laws of the two loops that look for it.
-use mathlib.Core.{Path.◌≡◌, Logic.◌≢◌, List.List}
-use Rattle.std.specs.Prelude.{ℕ, ◌+◌, ◌≤◌, ◌<◌, max, get_or}
+-- The nearest dirty node: the laws of the two looks for it.
+use mathlib.Core.{Path.◌≡◌, Path.sym, Path.◌∙◌, Logic.◌≢◌, List.List}
+use Rattle.std.specs.Prelude.{ℕ, ◌+◌, ◌≤◌, ◌<◌, max, length, get_or, take, Option, None, Some}
+use Rattle.std.specs.{Option.MatchOption, Option.unwrap_or, List.AllWithin, List.HoldsAt}
+use Rattle.std.proofs.lemmas.List.{length-take-le, get_or-take}
 use native.Mathlib.{Omega.arith, Decide.ℕ_discrete, Decide.dec_lt}
 use Rattle.toward_node.specs.Turn.{Found}
 
@@ -9,10 +11,6 @@ pub record Most (v most : ℕ) (D : List ℕ) : Type 0 where
   pub all : (u : ℕ) → u < v → get_or D u 0 ≤ most
   pub at : ℕ
   pub met : 0 < most → (at < v) × (get_or D at 0 ≡ most)
-
--- no node below v has `most`
-pub record Unmet (v most : ℕ) (D : List ℕ) : Type 0 where
-  pub all : (u : ℕ) → u < v → get_or D u 0 ≢ most
 
 module _ (D : List ℕ) where
   pub most_none : Most 0 0 D
@@ -36,19 +34,20 @@ module _ (D : List ℕ) where
   pub most_end : (v most n : ℕ) → Most v most D → v ≤ n → n ≤ v → Most n most D
   most_end v most n w l m = let e : v ≡ n = omega arith in rw e at w
 
-  pub unmet_none : (most : ℕ) → Unmet 0 most D
-  unmet_none most = record { all = λ u l. absurd (omega arith) }
-
-  pub unmet_more : (v most : ℕ) → Unmet v most D → get_or D v 0 ≢ most → Unmet (v + 1) most D
-  unmet_more v most w q = record {
-    all = λ u l e. elim (ℕ_discrete u v) [ yes i ↦ q (rw i at e) | no i ↦ w.all u (omega arith) e ];
-  }
-
-  -- of the nodes below v none has `most`, so v is one of those that are left
-  pub unmet_end : {A : Type 0} (nodes v most : ℕ) → Most nodes most D → Unmet v most D → nodes ≤ v → most ≢ 0
-      → A
-  unmet_end nodes v most w n l ne =
-      let o = w.met (omega arith) in absurd (n.all w.at (omega (arith, o.0)) o.1)
+  -- FOR THE LOOK for the first that has it: there is one
+  pub first_met : (nodes most : ℕ) (r : Option ℕ) (k : ℕ) → nodes ≤ length D → Most nodes most D → most ≢ 0
+      → MatchOption r (AllWithin (λ x. x ≢ most) (take nodes D) 0 (length (take nodes D)))
+      (λ i. (i < length (take nodes D)) × HoldsAt (λ x. x ≡ most) (take nodes D) i
+      × AllWithin (λ x. x ≢ most) (take nodes D) 0 i)
+      → k ≡ unwrap_or r nodes → (k < nodes) × (get_or D k 0 ≡ most)
+  first_met nodes most None k l w ne f e =
+      let o = w.met (omega arith) in
+      let long = length-take-le nodes D l in
+      absurd (f w.at 0 (omega arith) (omega (arith, o.0)) (get_or-take nodes D w.at 0 o.0 ∙ o.1))
+  first_met nodes most (Some i) k l w ne f e =
+      let long = length-take-le nodes D l in
+      let within : i < nodes = omega (arith, f.0) in
+      rw e (within, sym (get_or-take nodes D i 0 within) ∙ f.1 0)
 
   module _ (nodes bar most : ℕ) where
     pub found_most : (v : ℕ) → v < nodes → get_or D v 0 ≡ most → bar < most → Found nodes bar D v

@@ -6,8 +6,8 @@
 // lent as it comes: a row's first numbers are written over what stood there, and a wanted row that got none
 // is filled with never in the end (`toward_list`, specs/Seen.antt).
 // By the tables beside the rows an arc that cannot lower its tail's row is passed over.
-// It may call `toward_list` for rows and tables, `network` for the entries of the file and `search_arcs` for
-// widths; it cites `toward_row`, `theory_loops` and `theory_paths`.
+// It may call `toward_list` for rows and tables and `network` for the entries of the file; it cites
+// `toward_row`, `theory_loops` and `theory_paths`.
 #![tactic(auto)]
 
 ghost use Rattle.std.specs.Prelude.{◌≡◌, ◌≢◌, ◌+◌, ◌*◌, ◌≤◌, ◌<◌, max, length, get_or, replicate, leb};
@@ -26,22 +26,14 @@ ghost use Rattle.toward_node.specs.Nearest.{Most};
 use network::header::Layout;
 use network::limits::{MOST_ARCS, MOST_NODES, MOST_PERIOD, NEVER};
 use network::read;
-use search_arcs::wide;
 use toward_list::rows::{copy_row, fill_row, highest, lower_row, nearness_after, show_wanted};
-
-// The greater of two entries of a table.
-fn greater(a: u32, b: u32) -> u32
-    ensures { result ≡ max a b }
-{
-    if a < b { b } else { a }
-}
 
 // Whether an arc gives no less than its tail's row has, or nothing that is wanted: `near` is that of its
 // head, `room` that of its tail, and `least` its least travel.
 fn is_idle(near: u32, room: u32, bar: u32, least: u16) -> bool
     ensures { result ≡ leb near (max room bar + least) }
 {
-    near as u64 <= greater(room, bar) as u64 + least as u64
+    u64::from(near) <= u64::from(room.max(bar)) + u64::from(least)
 }
 
 // An arc's turn: its tail's row is lowered, and where an entry fell the tail is dirty. `hs` is its head's row
@@ -111,10 +103,10 @@ fn settle(
     let reach = near[v];
     near[v] = 0;
     low[v] = reach;
-    let mut a = wide(into[v]);
+    let mut a = usize::from(into[v]);
     while a < l.arcs {
         lower_tail(file, l, starts, least, a, hs, reach, bar, work, near, room);
-        a = wide(next[a]);
+        a = usize::from(next[a]);
     }
 }
 
@@ -123,9 +115,9 @@ fn most_near(near: &[u32; MOST_NODES], nodes: usize) -> u32
     requires { nodes ≤ most_nodes }
     ensures { Most nodes result near.now }
 {
-    let mut most = 0;
-    for v in 0..nodes {
-        most = greater(most, near[v]);
+    let mut most = 0u32;
+    for &entry in &near[..nodes] {
+        most = most.max(entry);
     }
     most
 }
@@ -135,12 +127,10 @@ fn first_with(near: &[u32; MOST_NODES], nodes: usize, most: u32) -> usize
     requires { (nodes ≤ most_nodes) × Most nodes most near.now × (most ≢ 0) }
     ensures { (result < nodes) × (get_or near.now result 0 ≡ most) }
 {
-    for v in 0..nodes {
-        if near[v] == most {
-            return v;
-        }
-    }
-    nodes
+    near[..nodes]
+        .iter()
+        .position(|&entry| entry == most)
+        .unwrap_or(nodes)
 }
 
 // The nearest dirty node, or the number of nodes where none has more than `bar` in `near`. Two looks, the

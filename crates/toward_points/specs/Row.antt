@@ -1,7 +1,8 @@
 -- A row of travels, a number for each tick of a day, and the laws of the loop that counts its points.
-use mathlib.Core.{Path.◌≡◌, Path.refl, Logic.◌≢◌, Bool.Bool, Bool.true, Bool.false, Bool.cond, Bool.not}
+use mathlib.Core.{Path.◌≡◌, Path.refl, Path.◌∙◌, Bool.Bool, Bool.true, Bool.false, Bool.cond, Bool.not}
 use Rattle.std.specs.Prelude.{List, ℕ, ◌+◌, ◌-◌, ◌≤◌, ◌<◌, ◌^◌}
-use Rattle.std.proofs.Common.{arith, eq-eqb, ne_eqb}
+use Rattle.std.proofs.Common.{arith, ne_eqb}
+use mir.{Val.bool_byte}
 use lib.{ListN.length, ListN.get_or, Dec.eqb}
 use Rattle.theory_loops.specs.Count.{count, count_none, count_yes, count_no, count_few}
 use Rattle.theory_travel.specs.{Day.closed_in, Day.closed_end, Turns.turns, Turns.straight, Turns.turn_count}
@@ -24,13 +25,13 @@ abbrev pub points_before : List ℕ → ℕ → ℕ
 points_before row x = count x (turns (entry_of row) (length row))
 
 -- FOR CODE that tells whether a tick is a point
-pub differ_not : (a b : ℕ) → a ≡ b → 0 ≡ differ a b
+pub differ_told : (a b r : ℕ) → r ≡ bool_byte (not (eqb a b)) → r ≡ differ a b
 unfolding differ
-differ_not a b e = rw (eq-eqb a b e)
-
-pub differ_is : (a b : ℕ) → a ≢ b → 1 ≡ differ a b
-unfolding differ
-differ_is a b e = rw (ne_eqb a b e)
+differ_told a b r e = e ∙ go (eqb a b)
+  where
+    go : (t : Bool) → bool_byte (not t) ≡ cond t 0 1
+    go true = refl
+    go false = refl
 
 pub differ_few : (a b r : ℕ) → r ≡ differ a b → r ≤ 1
 unfolding differ
@@ -89,6 +90,3 @@ module _ (f : ℕ → ℕ) (period : ℕ) where
 
   pub turned_few : (c x : ℕ) → c ≡ count x (turns f period) → c ≤ x
   turned_few c x e = omega (arith, count_few (turns f period) x)
-
--- for `search turning` at the needs of such code
-pub ruleset turning = (differ_not, differ_is)

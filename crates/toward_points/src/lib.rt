@@ -12,10 +12,7 @@ pub fn turn(before: u32, at: u32, after: u32) -> u32
     requires { (before < 2 ^ 31) × (at < 2 ^ 31) × (after < 2 ^ 31) }
     ensures { result ≡ differ (before + after) (at + at) }
 {
-    if before + after == at + at {
-        return 0;
-    }
-    1
+    u32::from(before + after != at + at)
 }
 
 // How many points a row has from tick a up to tick b, neither of them the first or after the last. The loop
@@ -26,8 +23,8 @@ pub fn points_between(row: &[u32], a: usize, b: usize) -> u32
     ensures { points_before row.now a + result ≡ points_before row.now b }
 {
     let mut seen = 0;
-    for x in a..b {
-        seen += turn(row[x - 1], row[x], row[x + 1]);
+    for near in row[a - 1..b + 1].windows(3) {
+        seen += turn(near[0], near[1], near[2]);
     }
     seen
 }

@@ -2,8 +2,8 @@
 // arc's travel does not change the head's row is copied, shifted, so the inner loop has no look-up and
 // becomes vector code. Where the runs of one travel begin is found by one division for each point of the arc.
 // It tells whether an entry fell by a count.
-// It may call `network` for the entries of the file, `search_arcs` for widths and `travel_runs` for steps; it
-// cites `theory_travel` and `theory_loops`.
+// It may call `network` for the entries of the file, `search_arcs` for comparisons and `travel_runs` for
+// steps; it cites `theory_travel` and `theory_loops`.
 #![tactic(auto)]
 
 ghost use Rattle.std.specs.Prelude.{◌≡◌, true, false, ◌+◌, ◌-◌, ◌/◌, ◌^◌, ◌≤◌, ◌<◌, min, length};
@@ -21,7 +21,7 @@ ghost use Rattle.toward_row.specs.Arcs.{Arc, Primed};
 use network::header::Layout;
 use network::limits::MOST_ARCS;
 use network::read;
-use search_arcs::{is_before, wide};
+use search_arcs::is_before;
 
 // The lesser of an entry and a head's entry with `more` added.
 fn lesser(old: u32, value: u32, more: u32) -> u32
@@ -36,10 +36,7 @@ fn lesser(old: u32, value: u32, more: u32) -> u32
 fn fell(old: u32, new: u32) -> u32
     ensures { Fell old new result }
 {
-    if new == old {
-        return 0;
-    }
-    1
+    u32::from(new != old)
 }
 
 // The wholes of so many parts.
@@ -78,7 +75,8 @@ fn fold_run(hs: &[u32], from: usize, more: u32, row: &mut [u32], a: usize, b: us
     count
 }
 
-// The same, where the row may be written for the first time: then there is nothing to compare.
+// The same, where the row may be written for the first time: then there is nothing to compare. Which it is is
+// asked here, once a run, so that neither loop has a test.
 fn lower_run(
     first: bool,
     hs: &[u32],
@@ -277,7 +275,7 @@ pub fn lower_arc(
         (lowered first (travel_at (decode file.now) arc) (entries hs.now) l.period
         row.old) row.old row.new result }
 {
-    let from = wide(starts[arc]);
+    let from = usize::from(starts[arc]);
     let count = read::count(file, l, arc);
     lower_points(first, file, l, from, count, hs, row)
 }

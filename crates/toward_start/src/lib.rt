@@ -1,7 +1,7 @@
 // toward_start: whether an arc starts a least path to the node that a list of travels is for, at some tick.
 // An arc never gives less than its tail's number, so it gives that number somewhere exactly where it lowers
 // the tail's row once each entry there is one more.
-// It may call `toward_row` for an arc lowered into a row and `toward_node` for rows; it cites `theory_paths`.
+// It may call `toward_row` for an arc lowered into a row and `toward_list` for rows; it cites `theory_paths`.
 #![tactic(auto)]
 
 ghost use Rattle.std.specs.Prelude.{◌≡◌, ◌+◌, ◌*◌, ◌≤◌, ◌<◌, length};

@@ -13,7 +13,7 @@ pub fn step_up(rise: u32, width: usize) -> u64
     requires { (0 < width) × (width ≤ 65536) }
     ensures { result ≡ step_up rise width }
 {
-    (rise as u64 * 4294967296 + (width - 1) as u64) / width as u64
+    (u64::from(rise) * 4294967296 + (width - 1) as u64) / width as u64
 }
 
 // The same, rounded down.
@@ -21,5 +21,5 @@ pub fn step_down(rise: u32, width: usize) -> u64
     requires { (0 < width) × (width ≤ 65536) }
     ensures { result ≡ step_down rise width }
 {
-    rise as u64 * 4294967296 / width as u64
+    u64::from(rise) * 4294967296 / width as u64
 }

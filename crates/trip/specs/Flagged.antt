@@ -1,44 +1,39 @@
 -- The flagged trip: validation of both files, the refusals 25 to 27, and a search over the arcs with the flag
 -- of the target's cell.
 use mathlib.Core.{Path.◌≡◌, Path.refl, Path.sym, Path.◌∙◌, Path.ap, List.List}
-use Rattle.std.specs.Prelude.{Bool, true, false, cond, ℕ, ◌≤◌, ◌<◌}
+use Rattle.std.specs.Prelude.{Bool, true, false, cond, ℕ, ◌≤◌, ◌<◌, Result, Ok, Err}
 use Rattle.std.proofs.Common.{arith}
 use lib.{ListN.length, ListN.replicate, ListN.length-replicate, Dec.eqb}
 use Rattle.theory_loops.specs.Fill.{Filled}
 use Rattle.theory_paths.specs.{Graph.Graph, Graph.Permit, Flags.flagged}
 use Rattle.file_refusals.specs.declared.Refusal.{Refusal}
-use Rattle.network.specs.declared.answer.Opening.{Opening}
-use Rattle.network.specs.declared.answer.Opening.TheVariants.{Opened, Refused}
 use Rattle.network.specs.declared.header.Header.{Header}
 use Rattle.network.specs.{Limits.most_arcs, Limits.most_cells, Network.arcs, Network.cell, Decode.decode}
 use Rattle.network.specs.{Town.graph_of, Town.partition_of, Validate.validated}
 use Rattle.network.specs.Valid.{ValidFile}
 use Rattle.network.proofs.Valid.{valid_exactly}
-use Rattle.plan.specs.declared.answer.Planning.{Planning}
-use Rattle.plan.specs.declared.answer.Planning.TheVariants as planning
 use Rattle.plan.specs.declared.header.{PlanHeader.PlanHeader, PlanLayout.PlanLayout}
 use Rattle.plan.specs.{Plan.Plan, Plan.bit, Plan.flag, Plan.towards, PlanLayout.plan_layout_of}
 use Rattle.plan.specs.{PlanDecode.decode_plan, PlanDecode.PlanLaid, PlanDecode.flag_word, PlanValidate.planned}
 use Rattle.plan.specs.PlanHeader.{PlanWithin}
 use Rattle.plan.specs.PlanValid.{ValidPlan, valid_within, valid_plan_laid, valid_for, plan_exactly}
 use Rattle.search_labels.specs.Ready.{permit_of}
-use Rattle.search_path.specs.declared.answer.Answer.{Answer}
-use Rattle.search_path.specs.declared.answer.Answer.TheVariants as answer
 use Rattle.trip_call.specs.{Trip.asked, Trip.and_then, Trip.TripCall, Stage.asked_passed, Stage.then_passed}
 use Rattle.trip_call.specs.Drive.{call_permit, drive_nodes, drive_arcs, drive_cells, drive_period}
+use Rattle.search_path.specs.declared.answer.Arrival.{Arrival}
 use Rattle.trip_plain.specs.Plain.{Begun}
 
 -- a ladder after the validation of a plan
-abbrev pub planned_then : Planning → Opening → Opening
-planned_then (planning.Refused r) next = Refused r
-planned_then (planning.WellFormed k) next = next
+abbrev pub planned_then : Result PlanHeader Refusal → Result Header Refusal → Result Header Refusal
+planned_then (Err r) next = Err r
+planned_then (Ok k) next = next
 
 -- what comes before the search: 1 to 10 and 37, 11 to 19, then 25 to 27
-abbrev pub flagged_with : Header → List ℕ → List ℕ → ℕ → ℕ → ℕ → ℕ → Opening
+abbrev pub flagged_with : Header → List ℕ → List ℕ → ℕ → ℕ → ℕ → ℕ → Result Header Refusal
 flagged_with h network plan from to departure room =
     planned_then (planned h (decode network) plan) (asked h from to departure room)
 
-abbrev pub flagged_begin : List ℕ → List ℕ → ℕ → ℕ → ℕ → ℕ → Opening
+abbrev pub flagged_begin : List ℕ → List ℕ → ℕ → ℕ → ℕ → ℕ → Result Header Refusal
 flagged_begin network plan from to departure room =
     and_then (validated network) (λ h. flagged_with h network plan from to departure room)
 
@@ -47,31 +42,31 @@ abbrev pub flagged_arcs : List ℕ → List ℕ → ℕ → Permit
 flagged_arcs network plan to = towards (partition_of (decode network)) (decode_plan plan) to
 
 -- THE FLAGGED TRIP, after what comes before its search: the lists at entry and at exit, and the answer
-abbrev pub FlaggedAfter : Opening → List ℕ → List ℕ → ℕ → ℕ → ℕ → List ℕ → List ℕ → List ℕ → List ℕ → Answer
+abbrev pub FlaggedAfter : Result Header Refusal → List ℕ → List ℕ → ℕ → ℕ → ℕ → List ℕ → List ℕ → List ℕ → List ℕ → Result Arrival Refusal
     → Type 0
 FlaggedAfter b network plan from to departure arrivals₀ arrivals₁ roads₀ roads₁ a =
     TripCall b (graph_of (decode network))
     (flagged_arcs network plan to) from to departure arrivals₀ arrivals₁ roads₀ roads₁ a
 
-abbrev pub FlaggedTrip : List ℕ → List ℕ → ℕ → ℕ → ℕ → List ℕ → List ℕ → List ℕ → List ℕ → Answer → Type 0
+abbrev pub FlaggedTrip : List ℕ → List ℕ → ℕ → ℕ → ℕ → List ℕ → List ℕ → List ℕ → List ℕ → Result Arrival Refusal → Type 0
 FlaggedTrip network plan from to departure arrivals₀ arrivals₁ roads₀ roads₁ a =
     FlaggedAfter (flagged_begin network plan from to departure (length arrivals₀))
     network plan from to departure arrivals₀ arrivals₁ roads₀ roads₁ a
 
 -- what it has shown where nothing before its search is refused
-planned_passed : (m : Planning) (next : Opening) (h : Header) → planned_then m next ≡ Opened h
-    → next ≡ Opened h
-planned_passed (planning.Refused r) next h e = let z : ◌≡◌ {A = ℕ} 0 1 = cc in absurd (omega arith)
-planned_passed (planning.WellFormed k) next h e = e
+planned_passed : (m : Result PlanHeader Refusal) (next : Result Header Refusal) (h : Header) → planned_then m next ≡ Ok h
+    → next ≡ Ok h
+planned_passed (Err r) next h e = let z : ◌≡◌ {A = ℕ} 0 1 = cc in absurd (omega arith)
+planned_passed (Ok k) next h e = e
 
 pub flagged_begun : (network plan : List ℕ) (h : Header) (from to departure room : ℕ)
-    → flagged_begin network plan from to departure room ≡ Opened h → Begun network h from to departure room
+    → flagged_begin network plan from to departure room ≡ Ok h → Begun network h from to departure room
 flagged_begun network plan h from to departure room e =
     let (k, v, f) =
     then_passed (validated network) (λ h. flagged_with h network plan from to departure room) h e in
     let (a, q) =
     asked_passed k h from to departure room (planned_passed (planned k (decode network) plan) _ h f) in
-    record { valid = (valid_exactly network h).0 (v ∙ ap (λ (x : Header). Opened x) q); asks = a }
+    record { valid = (valid_exactly network h).0 (v ∙ ap (λ (x : Header). Ok x) q); asks = a }
 
 -- the mask's entry for arc a, towards cell c
 abbrev pub mask_of : Plan → ℕ → ℕ → ℕ
@@ -132,10 +127,10 @@ module _ {network plan : List ℕ} {h : Header} {k : PlanHeader} (v : ValidFile 
         mask_permits (decode_plan plan) c l.arcs old mask f a (omega (arith, flags_are l e))
         ∙ ap (λ (x : ℕ). flag (decode_plan plan) a x) d
 
-    pub flagged_driven : (s x : ℕ) (arrivals₀ arrivals₁ roads₀ roads₁ : List ℕ) (a : Answer)
-        → TripCall (Opened h) (graph_of (decode network))
+    pub flagged_driven : (s x : ℕ) (arrivals₀ arrivals₁ roads₀ roads₁ : List ℕ) (a : Result Arrival Refusal)
+        → TripCall (Ok h) (graph_of (decode network))
         (permit_of mask) s t x arrivals₀ arrivals₁ roads₀ roads₁ a
-        → FlaggedAfter (Opened h) network plan s t x arrivals₀ arrivals₁ roads₀ roads₁ a
+        → FlaggedAfter (Ok h) network plan s t x arrivals₀ arrivals₁ roads₀ roads₁ a
     flagged_driven s x arrivals₀ arrivals₁ roads₀ roads₁ a =
         call_permit (graph_of (decode network)) (permit_of mask) (flagged_arcs network plan t) some permits s t x
 
@@ -143,22 +138,22 @@ module _ {network plan : List ℕ} {h : Header} {k : PlanHeader} (v : ValidFile 
 pub ruleset flags = (flags_within, flags_laid, flags_few, fresh_mask, filled_mask, cell_few, flagged_driven)
 
 -- the stage of the plan: refused, or gone on from
-module _ (m M : Planning) (e : m ≡ M) (next : Opening) (g : Graph) (p : Permit) (s t x : ℕ) where
-  pub plan_refused : (r : Refusal) → m ≡ planning.Refused r → (arrivals roads : List ℕ) (a : Answer)
-      → a ≡ answer.Refused r → TripCall (planned_then M next) g p s t x arrivals arrivals roads roads a
+module _ (m M : Result PlanHeader Refusal) (e : m ≡ M) (next : Result Header Refusal) (g : Graph) (p : Permit) (s t x : ℕ) where
+  pub plan_refused : (r : Refusal) → m ≡ Err r → (arrivals roads : List ℕ) (a : Result Arrival Refusal)
+      → a ≡ Err r → TripCall (planned_then M next) g p s t x arrivals arrivals roads roads a
   plan_refused r f arrivals roads a k =
       record { answer = rw (← e, f) k; arrivals = rw (← e, f); roads = rw k }
 
-  pub plan_opened : (k : PlanHeader) → m ≡ planning.WellFormed k
-      → (arrivals₀ arrivals₁ roads₀ roads₁ : List ℕ) (a : Answer)
+  pub plan_opened : (k : PlanHeader) → m ≡ Ok k
+      → (arrivals₀ arrivals₁ roads₀ roads₁ : List ℕ) (a : Result Arrival Refusal)
       → TripCall next g p s t x arrivals₀ arrivals₁ roads₀ roads₁ a
       → TripCall (planned_then M next) g p s t x arrivals₀ arrivals₁ roads₀ roads₁ a
   plan_opened k f arrivals₀ arrivals₁ roads₀ roads₁ a c = rw (← e, f) c
 
 -- what is valid by then
 module _ {network : List ℕ} {h : Header} (v : ValidFile network h) where
-  pub stage_plan : (plan : List ℕ) (m : Planning) (k : PlanHeader) → m ≡ planned h (decode network) plan
-      → m ≡ planning.WellFormed k
+  pub stage_plan : (plan : List ℕ) (m : Result PlanHeader Refusal) (k : PlanHeader) → m ≡ planned h (decode network) plan
+      → m ≡ Ok k
       → ValidPlan h (decode network) plan k
   stage_plan plan m k e f = (plan_exactly v plan k).0 (sym e ∙ f)
 

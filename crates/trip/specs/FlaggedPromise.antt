@@ -3,27 +3,25 @@
 -- under a plan that the check has accepted, whoever made it, the trip is as good as any way over any roads
 -- with any waits (`accepted_trip`; `accepted_call` for the call with fresh lists).
 use mathlib.Core.{Path.◌≡◌, Path.refl, Logic.◌↔◌, Logic.◌⊎◌, List.List}
-use Rattle.std.specs.Prelude.{ℕ, ◌≤◌, ◌<◌, length, take}
+use Rattle.std.specs.Prelude.{ℕ, ◌≤◌, ◌<◌, length, take, Result, Ok}
 use Rattle.std.proofs.Common.{arith}
 use Rattle.theory_paths.specs.{Graph.Graph, Graph.Permit, Graph.all, Graph.Reachable, Chosen.IsChosen}
 use Rattle.theory_paths.proofs.Drive.{path_all}
-use Rattle.network.specs.declared.answer.Opening.{Opening}
 use Rattle.network.specs.declared.header.Header.{Header}
 use Rattle.network.specs.{Limits.most_nodes, Limits.most_roads, Network.nodes, Decode.decode}
 use Rattle.network.specs.{Town.graph_of, Town.partition_of, Valid.ValidFile}
 use Rattle.network.proofs.Valid.{valid_exactly}
 use Rattle.plan.specs.declared.header.PlanHeader.{PlanHeader}
 use Rattle.plan.specs.{PlanDecode.decode_plan, PlanValid.ValidPlan, PlanValid.plan_exactly}
-use Rattle.plan_check.specs.declared.answer.Checking.TheVariants.{Accepted}
 use Rattle.plan_check.specs.CheckPlan.{checking, AcceptedPlan, accepted_plan, accepted_lawful}
 use Rattle.plan_check.specs.Promise.{FlaggedTrips, flagged_trips}
 use Rattle.search_path.specs.{Says.trip_says, Shows.ShowsBefore, Shows.ShowsAll}
-use Rattle.search_path.specs.declared.answer.{Arrival.Arrival, Answer.Answer}
-use Rattle.search_path.specs.declared.answer.Answer.TheVariants as answer
+use Rattle.search_path.specs.declared.answer.{Arrival.Arrival}
 use Rattle.trip_call.specs.{Drive.drive_nodes, Drive.drive_period, Stage.Asked, Stage.asked_opens}
 use Rattle.trip.specs.Flagged.{flagged_begin, flagged_arcs, FlaggedTrip}
 use Rattle.trip.specs.{Calls.flagged_call, Calls.flagged_path, Numbers.flagged_begins}
 use Rattle.trip.specs.Promise.{BestTrip, AsGoodAsAny, Passed, BeforeSearch, Begins, listed}
+use Rattle.file_refusals.specs.declared.Refusal.{Refusal}
 use Rattle.trip.specs.Promise as trip
 
 -- nothing before the search is refused of a network that validates, a well-formed plan, and a call that asks
@@ -37,7 +35,7 @@ flagged_passes {network} {plan} {from} {to} {departure} {room} {h} {k} v m q =
 
 -- FOR ANY PLAN, well-formed or not, accepted or not
 module _ (network plan : List ℕ) {from to departure : ℕ} {arrivals₀ arrivals₁ roads₀ roads₁ : List ℕ}
-    {a : Answer}
+    {a : Result Arrival Refusal}
     (c : FlaggedTrip network plan from to departure arrivals₀ arrivals₁ roads₀ roads₁ a) where
   abbrev g : Graph
   g = graph_of (decode network)
@@ -48,7 +46,7 @@ module _ (network plan : List ℕ) {from to departure : ℕ} {arrivals₀ arriva
   abbrev path : List ℕ
   path = flagged_path network plan from to departure
 
-  abbrev before : Opening
+  abbrev before : Result Header Refusal
   before = flagged_begin network plan from to departure (length arrivals₀)
 
   begins : Begins before g from to departure (length arrivals₀)
@@ -66,21 +64,21 @@ module _ (network plan : List ℕ) {from to departure : ℕ} {arrivals₀ arriva
 
   -- a way, and a list that is long enough for the chosen one, give an arrival
   pub flagged_reaches : Passed before → Reachable g flagged from to → length path ≤ length roads₀
-      → (r : Arrival) × (a ≡ answer.Arrived r)
+      → (r : Arrival) × (a ≡ Ok r)
   flagged_reaches = trip.trip_reaches begins flagged (length roads₀) c.answer
 
   -- an arrival is the earliest over flagged roads, with whatever waits, and the listed roads drive there
-  pub flagged_arrives : (r : Arrival) → a ≡ answer.Arrived r
+  pub flagged_arrives : (r : Arrival) → a ≡ Ok r
       → BestTrip g flagged from departure to (take r.count roads₁) r
   flagged_arrives = trip.trip_arrives begins c
 
   -- they are the chosen way over flagged roads
-  pub flagged_chosen : (r : Arrival) → a ≡ answer.Arrived r
+  pub flagged_chosen : (r : Arrival) → a ≡ Ok r
       → IsChosen g flagged from departure to (take r.count roads₁)
   flagged_chosen = trip.trip_chosen begins c
 
   -- from a place to itself the answer is the departure, with no road
-  pub flagged_home : Passed before → from ≡ to → a ≡ answer.Arrived (record { tick = departure; count = 0 })
+  pub flagged_home : Passed before → from ≡ to → a ≡ Ok (record { tick = departure; count = 0 })
   flagged_home = trip.trip_home begins flagged (length roads₀) c.answer
 
   -- on arrival and on 29 the first N arrivals hold the least arrival where it is before the target's or the
@@ -117,7 +115,7 @@ module _ {network plan : List ℕ} (c : AcceptedPlan network plan) where
     early = k.early;
   }
 
-  good_all : {from to departure : ℕ} {path : List ℕ} {a : Answer}
+  good_all : {from to departure : ℕ} {path : List ℕ} {a : Result Arrival Refusal}
       → AsGoodAsAny (graph_of (decode network)) (flagged_arcs network plan to) from departure to path a
       → AsGoodAsAny (graph_of (decode network)) all from departure to path a
   good_all {from} {to} k = record {
@@ -144,9 +142,9 @@ module _ {network plan : List ℕ} (c : AcceptedPlan network plan) where
 -- DEMAND 3. Whatever network and plan the check has accepted together, whoever made the plan: at every
 -- departure below the period, from every node to every node.
 module _ (network plan : List ℕ) {from to departure : ℕ} {arrivals₀ arrivals₁ roads₀ roads₁ : List ℕ}
-    {a : Answer}
+    {a : Result Arrival Refusal}
     (c : FlaggedTrip network plan from to departure arrivals₀ arrivals₁ roads₀ roads₁ a)
-    (accepted : checking network plan ≡ Accepted) where
+    (accepted : checking network plan ≡ Ok tt) where
   -- 28 exactly where there is no way over any roads
   pub accepted_no_way : from < nodes (decode network) → to < nodes (decode network)
       → departure < (decode network).period
@@ -160,7 +158,7 @@ module _ (network plan : List ℕ) {from to departure : ℕ} {arrivals₀ arriva
       )
 
   -- an arrival is the earliest over all ways, with whatever waits, and the listed roads drive there
-  pub accepted_arrives : (r : Arrival) → a ≡ answer.Arrived r
+  pub accepted_arrives : (r : Arrival) → a ≡ Ok r
       → BestTrip (graph_of (decode network)) all from departure to (take r.count roads₁) r
   accepted_arrives r q = best_all (accepted_plan network plan accepted) (flagged_arrives network plan c r q)
 
@@ -179,7 +177,7 @@ module _ (network plan : List ℕ) {from to departure : ℕ} {arrivals₀ arriva
       (λ q. n (((flags d).reachable from to).0 q)))
 
 -- of the call with fresh lists
-pub accepted_call : (network plan : List ℕ) (from to departure : ℕ) → checking network plan ≡ Accepted
+pub accepted_call : (network plan : List ℕ) (from to departure : ℕ) → checking network plan ≡ Ok tt
     → from < nodes (decode network) → to < nodes (decode network) → departure < (decode network).period
     → AsGoodAsAny (graph_of (decode network)) all from departure to
     (flagged_path network plan from to departure) (flagged_call network plan from to departure)

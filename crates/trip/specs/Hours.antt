@@ -2,37 +2,35 @@
 -- which the target is open (`plain_opens`, `flagged_opens`); and nothing else looks at hours: two networks
 -- that are alike but for them give the same trips and the same verdicts on plans (`hours_apart`).
 use mathlib.Core.{Path.◌≡◌, Path.refl, Path.sym, Path.◌∙◌, Path.ap, List.List, List.[]}
-use Rattle.std.specs.Prelude.{Bool, true, false, cond, ℕ}
+use Rattle.file_refusals.specs.Refusal.{refused}
+use Rattle.std.specs.Prelude.{Bool, true, false, cond, ℕ, Result, Ok, Err}
 use lib.{Dec.leb, Dec.ltb, ListN.length}
 use Rattle.theory_paths.specs.{Graph.all, Partition.Partition}
-use Rattle.network.specs.declared.answer.Opening.{Opening}
-use Rattle.network.specs.declared.answer.Opening.TheVariants.{Opened}
 use Rattle.network.specs.declared.header.Header.{Header}
 use Rattle.network.specs.{Limits.most_nodes, Limits.most_roads, Decode.decode, Town.partition_of, Town.travel_at}
 use Rattle.network.specs.Network.{Network, nodes, arcs, points, start}
-use Rattle.network.specs.{Validate.unopened, Validate.validated, Valid.ValidFile}
+use Rattle.network.specs.{Validate.validated, Valid.ValidFile}
 use Rattle.network.proofs.Valid.{valid_exactly}
 use Rattle.network_hours.specs.Hours.{FirstOpen}
-use Rattle.plan.specs.declared.answer.Planning.{Planning}
-use Rattle.plan.specs.declared.answer.Planning.TheVariants as planning
 use Rattle.plan.specs.{Plan.towards, PlanDecode.decode_plan}
 use Rattle.plan.specs.PlanValidate.{planned, planned_first, planned_header, matching}
 use Rattle.plan_check.specs.CheckPlan.{checked_by, checking}
 use Rattle.search_path.specs.Answer.{path_of, searched}
-use Rattle.search_path.specs.declared.answer.{Arrival.Arrival, Answer.Answer}
-use Rattle.search_path.specs.declared.answer.Answer.TheVariants as answer
+use Rattle.search_path.specs.declared.answer.{Arrival.Arrival}
 use Rattle.trip_call.specs.{Trip.asked, Trip.trip_answer, Drive.drive_points, Visit.open_tick, Visit.visit_open}
 use Rattle.trip_call.specs.Drive.{drive_number, drive_period, drive_nodes, drive_arcs, drive_cells}
 use Rattle.trip_plain.specs.Plain.{PlainTrip, begun}
 use Rattle.trip.specs.Flagged.{FlaggedTrip, flagged_arcs, planned_then, flagged_begun}
 use Rattle.trip.specs.Calls.{plain_call, plain_path, flagged_call, flagged_path}
+use Rattle.file_refusals.specs.declared.Refusal.{Refusal}
+use Rattle.plan.specs.declared.header.PlanHeader.{PlanHeader}
 use Rattle.trip.specs.{Promise.trip_arrived, Numbers.plain_begins, Numbers.flagged_begins}
 
 -- WHEN THE TARGET IS OPEN, beside the answer a of a trip
-module _ (network : List ℕ) {from to departure : ℕ} {arrivals₀ arrivals₁ roads₀ roads₁ : List ℕ} {a : Answer}
+module _ (network : List ℕ) {from to departure : ℕ} {arrivals₀ arrivals₁ roads₀ roads₁ : List ℕ} {a : Result Arrival Refusal}
     {opens : ℕ} (e : opens ≡ open_tick (decode network) to a) where
   pub plain_opens : PlainTrip network from to departure arrivals₀ arrivals₁ roads₀ roads₁ a
-      → (r : Arrival) → a ≡ answer.Arrived r → FirstOpen (decode network) to r.tick opens
+      → (r : Arrival) → a ≡ Ok r → FirstOpen (decode network) to r.tick opens
   plain_opens c r q =
       let w = plain_begins network from to departure (length arrivals₀) in
       let (h, f) = (trip_arrived w all (length roads₀) c.answer r q).passed in
@@ -41,7 +39,7 @@ module _ (network : List ℕ) {from to departure : ℕ} {arrivals₀ arrivals₁
 
   pub flagged_opens : (plan : List ℕ)
       → FlaggedTrip network plan from to departure arrivals₀ arrivals₁ roads₀ roads₁ a
-      → (r : Arrival) → a ≡ answer.Arrived r → FirstOpen (decode network) to r.tick opens
+      → (r : Arrival) → a ≡ Ok r → FirstOpen (decode network) to r.tick opens
   flagged_opens plan c r q =
       let w = flagged_begins network from to departure (length arrivals₀) plan in
       let (h, f) =
@@ -109,17 +107,17 @@ header_counts v = λ i. record {
 }
 
 -- What comes before a trip's search, and the validation of a plan, look at no more than that.
-bare_asked : (h : Header) (from to departure room : ℕ) (found : Answer)
+bare_asked : (h : Header) (from to departure room : ℕ) (found : Result Arrival Refusal)
     → trip_answer (asked h from to departure room) found
     ≡ trip_answer (asked (bare_header h) from to departure room) found
 unfolding asked
 bare_asked h from to departure room found =
     go (leb h.nodes from) (leb h.nodes to) (leb h.period departure) (ltb room h.nodes)
   where
-    rungs : Header → Bool → Bool → Bool → Bool → Opening
+    rungs : Header → Bool → Bool → Bool → Bool → Result Header Refusal
     rungs j a b c d =
-        cond a (unopened 25 from)
-        (cond b (unopened 25 to) (cond c (unopened 26 0) (cond d (unopened 27 0) (Opened j))))
+        cond a (refused 25 from)
+        (cond b (refused 25 to) (cond c (refused 26 0) (cond d (refused 27 0) (Ok j))))
 
     go : (a b c d : Bool) → trip_answer (rungs h a b c d) found
         ≡ trip_answer (rungs (bare_header h) a b c d) found
@@ -135,19 +133,19 @@ unfolding planned planned_first planned_header matching travel_at start
 bare_planned h n plan = refl
 
 -- A trip and a verdict by the counts, the graph with its cells, and what the plan's validation says.
-abbrev plain_by : Header → Partition → ℕ → ℕ → ℕ → Answer
+abbrev plain_by : Header → Partition → ℕ → ℕ → ℕ → Result Arrival Refusal
 plain_by h G from to departure =
     trip_answer (asked h from to departure most_nodes) (searched G.graph all from to departure most_roads)
 
-abbrev flagged_by : Header → Partition → List ℕ → Planning → ℕ → ℕ → ℕ → Answer
+abbrev flagged_by : Header → Partition → List ℕ → Result PlanHeader Refusal → ℕ → ℕ → ℕ → Result Arrival Refusal
 flagged_by h G plan m from to departure =
     trip_answer (planned_then m (asked h from to departure most_nodes))
     (searched G.graph (towards G (decode_plan plan) to) from to departure most_roads)
 
-bare_flagged : (h : Header) (G : Partition) (plan : List ℕ) (m : Planning) (from to departure : ℕ)
+bare_flagged : (h : Header) (G : Partition) (plan : List ℕ) (m : Result PlanHeader Refusal) (from to departure : ℕ)
     → flagged_by h G plan m from to departure ≡ flagged_by (bare_header h) G plan m from to departure
-bare_flagged h G plan (planning.Refused r) from to departure = refl
-bare_flagged h G plan (planning.WellFormed k) from to departure =
+bare_flagged h G plan (Err r) from to departure = refl
+bare_flagged h G plan (Ok k) from to departure =
     bare_asked h from to departure most_nodes _
 
 -- THE SAME TRIPS AND VERDICTS, with fresh lists, for two networks that open and are alike but for hours
@@ -160,8 +158,8 @@ pub record HoursApart (network other : List ℕ) : Type 0 where
       × (flagged_path network plan from to departure ≡ flagged_path other plan from to departure)
   pub verdict : (plan : List ℕ) → checking network plan ≡ checking other plan
 
-pub hours_apart : (network other : List ℕ) {h k : Header} → validated network ≡ Opened h
-    → validated other ≡ Opened k → without_hours (decode network) ≡ without_hours (decode other)
+pub hours_apart : (network other : List ℕ) {h k : Header} → validated network ≡ Ok h
+    → validated other ≡ Ok k → without_hours (decode network) ≡ without_hours (decode other)
     → HoursApart network other
 hours_apart network other {h} {k} e f q = record {
   plain = λ from to departure. (

@@ -1,8 +1,7 @@
 // The flagged trip, over the arcs with the flag of the target's cell. An unchecked plan gets the earliest
 // arrival over its flagged arcs.
-ghost use Rattle.std.specs.Prelude.{◌≡◌, cond, ◌≤◌, ◌<◌, length};
+ghost use Rattle.std.specs.Prelude.{◌≡◌, cond, ◌≤◌, ◌<◌, length, Ok};
 ghost use Rattle.theory_loops.specs.Fill.{Filled};
-ghost use Rattle.network.specs.declared.answer.Opening.TheVariants.{Opened};
 ghost use Rattle.network.specs.Limits.{most_arcs, most_cells};
 ghost use Rattle.network.specs.Decode.{decode};
 ghost use Rattle.network.specs.Valid.{ValidFile};
@@ -14,12 +13,10 @@ ghost use Rattle.trip_call.specs.Stage.{Asked};
 ghost use Rattle.trip_call.specs.Visit.{open_tick};
 ghost use Rattle.trip.specs.Flagged.{mask_of, flagged_with, FlaggedAfter, FlaggedTrip};
 
-use network::answer::Opening;
 use network::header::Header;
 use network::limits::MOST_ARCS;
 use network::read::cell;
 use network_validate::validate::validate;
-use plan::answer::Planning;
 use plan::flag::is_set;
 use plan::header::{PlanHeader, PlanLayout};
 use plan::read::flag_word;
@@ -34,7 +31,7 @@ fn flag(word: u64, c: usize) -> u8
     requires { c < most_cells }
     ensures { result ≡ cond (bit word c) 1 0 }
 {
-    if is_set(word, c) { 1 } else { 0 }
+    u8::from(is_set(word, c))
 }
 
 // The mask of the arcs with the flag of cell c.
@@ -62,7 +59,7 @@ fn drive_flagged(
     requires valid_file { ValidFile network.now h }
     requires valid_plan { ValidPlan h (decode network.now) plan.now k }
     requires asked { Asked h q.source q.target q.departure (length arrivals.old) }
-    ensures trip { FlaggedAfter (Opened h) network.now plan.now
+    ensures trip { FlaggedAfter (Ok h) network.now plan.now
         q.source q.target q.departure
         arrivals.old arrivals.new roads.old roads.new
         result.trip }
@@ -94,8 +91,8 @@ fn flagged_asked(
     ensures opens { result.opens ≡ open_tick (decode network.now) q.target result.trip }
 {
     match ask(h, q, arrivals.len()) {
-        Opening::Refused(r) => refused(r),
-        Opening::Opened(_) => drive_flagged(network, h, plan, k, q, arrivals, roads),
+        Err(r) => refused(r),
+        Ok(_) => drive_flagged(network, h, plan, k, q, arrivals, roads),
     }
 }
 
@@ -118,8 +115,8 @@ fn flagged_planned(
 {
     let borders = count_borders(network, h, h.layout());
     match validate_plan(network, h, borders, plan) {
-        Planning::Refused(r) => refused(r),
-        Planning::WellFormed(k) => flagged_asked(network, h, plan, k, q, arrivals, roads),
+        Err(r) => refused(r),
+        Ok(k) => flagged_asked(network, h, plan, k, q, arrivals, roads),
     }
 }
 
@@ -146,7 +143,7 @@ pub fn flagged_trip(
         departure,
     };
     match validate(network) {
-        Opening::Refused(r) => refused(r),
-        Opening::Opened(h) => flagged_planned(network, h, plan, q, arrivals, roads),
+        Err(r) => refused(r),
+        Ok(h) => flagged_planned(network, h, plan, q, arrivals, roads),
     }
 }

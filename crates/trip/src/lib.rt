@@ -3,7 +3,7 @@
 // (specs/PlainPromise, specs/FlaggedPromise).
 // It may call `network_validate`, `plan_rules` and `plan_validate` to validate files, `network` and `plan` to
 // read them, and `trip_call` to search, with the query of `search_labels`; it cites `trip_plain` for the
-// plain trip. It refuses, and requires nothing.
+// plain trip, and `theory_breaks` for a flag as a number. It refuses, and requires nothing.
 #![tactic(auto)]
 
 pub mod flagged;

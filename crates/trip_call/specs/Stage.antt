@@ -1,19 +1,18 @@
 -- The stages before a search: the network's validation, and the refusals 25 to 27. What they have shown where
 -- they are passed (`Asked`), and the laws for code that goes on from one to the next.
 use mathlib.Core.{Path.◌≡◌, Path.refl, Path.sym, Path.◌∙◌, List.List}
-use Rattle.std.specs.Prelude.{ℕ, ◌≤◌, ◌<◌, leb, ltb}
+use Rattle.file_refusals.specs.Apart.{same_value, not_both}
+use Rattle.file_refusals.specs.Refusal.{refusal, refused}
+use Rattle.std.specs.Prelude.{ℕ, ◌≤◌, ◌<◌, leb, ltb, Result, Ok, Err}
 use Rattle.std.proofs.Common.{arith, leb-false, ltb-false, le-ltb}
 use Rattle.std.proofs.lemmas.Bool.{lt-leb}
 use Rattle.theory_loops.specs.Pick.{passed_by_lem}
 use Rattle.theory_paths.specs.Graph.{Graph, Permit}
 use Rattle.file_refusals.specs.declared.Refusal.{Refusal}
-use Rattle.network.specs.declared.answer.Opening.{Opening}
-use Rattle.network.specs.declared.answer.Opening.TheVariants.{Opened, Refused}
 use Rattle.network.specs.declared.header.Header.{Header}
-use Rattle.network.specs.{Validate.unopened, Validate.validated, Valid.ValidFile}
+use Rattle.network.specs.{Validate.validated, Valid.ValidFile}
 use Rattle.network.proofs.Valid.{valid_exactly}
-use Rattle.search_path.specs.declared.answer.Answer.{Answer}
-use Rattle.search_path.specs.declared.answer.Answer.TheVariants as answer
+use Rattle.search_path.specs.declared.answer.Arrival.{Arrival}
 use Rattle.trip_call.specs.Trip.{asked, and_then, TripCall}
 
 -- what the call has shown where nothing before the search is refused
@@ -23,22 +22,16 @@ pub record Asked (h : Header) (from to departure room : ℕ) : Type 0 where
   pub early : departure < h.period
   pub long : h.nodes ≤ room
 
-pub not_opened : (number place : ℕ) (h : Header) → unopened number place ≡ Opened h → ⊥
-not_opened number place h e = let z : ◌≡◌ {A = ℕ} 0 1 = cc in omega arith
-
-pub one_header : (k h : Header) → Opened k ≡ Opened h → k ≡ h
-one_header k h e = cc
-
-pub asked_passed : (k h : Header) (from to departure room : ℕ) → asked k from to departure room ≡ Opened h
+pub asked_passed : (k h : Header) (from to departure room : ℕ) → asked k from to departure room ≡ Ok h
     → Asked h from to departure room × (k ≡ h)
 unfolding asked
 asked_passed k h from to departure room e =
-    let (a, e₁) = passed_by_lem (leb k.nodes from) (unopened 25 from) _ (Opened h) (not_opened 25 from h) e in
-    let (b, e₂) = passed_by_lem (leb k.nodes to) (unopened 25 to) _ (Opened h) (not_opened 25 to h) e₁ in
-    let (c, e₃) = passed_by_lem (leb k.period departure) (unopened 26 0) _ (Opened h) (not_opened 26 0 h) e₂ in
+    let (a, e₁) = passed_by_lem (leb k.nodes from) (refused 25 from) _ (Ok h) (not_both (refusal 25 from) h) e in
+    let (b, e₂) = passed_by_lem (leb k.nodes to) (refused 25 to) _ (Ok h) (not_both (refusal 25 to) h) e₁ in
+    let (c, e₃) = passed_by_lem (leb k.period departure) (refused 26 0) _ (Ok h) (not_both (refusal 26 0) h) e₂ in
     let (d, e₄) =
-    passed_by_lem (ltb room k.nodes) (unopened 27 0) (Opened k) (Opened h) (not_opened 27 0 h) e₃ in
-    let q : k ≡ h = one_header k h e₄ in
+    passed_by_lem (ltb room k.nodes) (refused 27 0) (Ok k) (Ok h) (not_both (refusal 27 0) h) e₃ in
+    let q : k ≡ h = same_value k h e₄ in
     let r : Asked k from to departure room =
     record {
       from_node = leb-false _ _ a;
@@ -50,7 +43,7 @@ asked_passed k h from to departure room e =
 
 -- a call that asks nothing wrong is not refused before its search
 pub asked_opens : (h : Header) (from to departure room : ℕ) → Asked h from to departure room
-    → asked h from to departure room ≡ Opened h
+    → asked h from to departure room ≡ Ok h
 unfolding asked
 asked_opens h from to departure room q =
     let a = lt-leb h.nodes from q.from_node in
@@ -58,43 +51,43 @@ asked_opens h from to departure room q =
     rw (a, b, lt-leb h.period departure q.early, le-ltb room h.nodes q.long)
 
 -- a ladder after another is passed where both are
-pub then_passed : (o : Opening) (next : Header → Opening) (h : Header) → and_then o next ≡ Opened h
-    → (k : Header) × (o ≡ Opened k) × (next k ≡ Opened h)
-then_passed (Refused r) next h e = let z : ◌≡◌ {A = ℕ} 0 1 = cc in absurd (omega arith)
-then_passed (Opened k) next h e = (k, refl, e)
+pub then_passed : (o : Result Header Refusal) (next : Header → Result Header Refusal) (h : Header) → and_then o next ≡ Ok h
+    → (k : Header) × (o ≡ Ok k) × (next k ≡ Ok h)
+then_passed (Err r) next h e = let z : ◌≡◌ {A = ℕ} 0 1 = cc in absurd (omega arith)
+then_passed (Ok k) next h e = (k, refl, e)
 
 -- FOR CODE: v is what a stage answered, W the definition that it meets. Where it refuses, the call is over,
 -- and both lists are as they were; else the call is what goes on from it.
-module _ (v W : Opening) (e : v ≡ W) (g : Graph) (p : Permit) (s t x : ℕ) where
-  module _ (r : Refusal) (f : v ≡ Refused r) (arrivals roads : List ℕ) (a : Answer)
-      (k : a ≡ answer.Refused r) where
+module _ (v W : Result Header Refusal) (e : v ≡ W) (g : Graph) (p : Permit) (s t x : ℕ) where
+  module _ (r : Refusal) (f : v ≡ Err r) (arrivals roads : List ℕ) (a : Result Arrival Refusal)
+      (k : a ≡ Err r) where
     pub stage_refused : TripCall W g p s t x arrivals arrivals roads roads a
     stage_refused = record { answer = rw (← e, f) k; arrivals = rw (← e, f); roads = rw k }
 
-    pub network_refused : (next : Header → Opening)
+    pub network_refused : (next : Header → Result Header Refusal)
         → TripCall (and_then W next) g p s t x arrivals arrivals roads roads a
     network_refused next = record { answer = rw (← e, f) k; arrivals = rw (← e, f); roads = rw k }
 
-  module _ (h : Header) (f : v ≡ Opened h) (arrivals₀ arrivals₁ roads₀ roads₁ : List ℕ) (a : Answer) where
-    pub stage_opened : (k : Header) → TripCall (Opened k) g p s t x arrivals₀ arrivals₁ roads₀ roads₁ a
+  module _ (h : Header) (f : v ≡ Ok h) (arrivals₀ arrivals₁ roads₀ roads₁ : List ℕ) (a : Result Arrival Refusal) where
+    pub stage_opened : (k : Header) → TripCall (Ok k) g p s t x arrivals₀ arrivals₁ roads₀ roads₁ a
         → TripCall W g p s t x arrivals₀ arrivals₁ roads₀ roads₁ a
     stage_opened k c =
         record { answer = rw (← e, f) c.answer; arrivals = rw (← e, f) c.arrivals; roads = c.roads }
 
-    pub network_opened : (next : Header → Opening)
+    pub network_opened : (next : Header → Result Header Refusal)
         → TripCall (next h) g p s t x arrivals₀ arrivals₁ roads₀ roads₁ a
         → TripCall (and_then W next) g p s t x arrivals₀ arrivals₁ roads₀ roads₁ a
     network_opened next c = rw (← e, f) c
 
 -- the calls that the search needs, from the stage 25 to 27
-pub stage_asks : (b : Opening) (h k : Header) (from to departure room : ℕ)
-    → b ≡ asked h from to departure room → b ≡ Opened k
+pub stage_asks : (b : Result Header Refusal) (h k : Header) (from to departure room : ℕ)
+    → b ≡ asked h from to departure room → b ≡ Ok k
     → Asked h from to departure room
 stage_asks b h k from to departure room e f =
     let (a, q) = asked_passed h k from to departure room (sym e ∙ f) in rw q a
 
 -- what is valid by then
-pub stage_valid : (file : List ℕ) (v : Opening) (h : Header) → v ≡ validated file → v ≡ Opened h
+pub stage_valid : (file : List ℕ) (v : Result Header Refusal) (h : Header) → v ≡ validated file → v ≡ Ok h
     → ValidFile file h
 stage_valid file v h e f = (valid_exactly file h).0 (sym e ∙ f)
 

@@ -1,12 +1,10 @@
 // A trip, and the first tick at or after its arrival at which its target is open.
-ghost use Rattle.std.specs.Prelude.{◌≡◌, ◌^◌, ◌≤◌, ◌<◌, length};
-ghost use Rattle.network.specs.declared.answer.Opening.TheVariants.{Opened};
+ghost use Rattle.std.specs.Prelude.{◌≡◌, ◌^◌, ◌≤◌, ◌<◌, length, Ok, Err};
 ghost use Rattle.network.specs.Decode.{decode};
 ghost use Rattle.network.specs.Valid.{ValidFile};
 ghost use Rattle.network.specs.Town.{graph_of};
 ghost use Rattle.search_labels.specs.Ready.{permit_of};
 ghost use Rattle.search_path.specs.Says.{trip_tick};
-ghost use Rattle.search_path.specs.declared.answer.Answer.TheVariants.{Refused};
 ghost use Rattle.trip_call.specs.Trip.{TripCall};
 ghost use Rattle.trip_call.specs.Stage.{Asked};
 ghost use Rattle.trip_call.specs.Visit.{open_tick};
@@ -16,31 +14,31 @@ use file_refusals::Refusal;
 use network::header::Header;
 use network_hours::open_after;
 use search_labels::query::Query;
-use search_path::answer::Answer;
+use search_path::answer::Arrival;
 
 #[derive(Clone, Copy)]
 pub struct Visit {
-    pub trip: Answer,
+    pub trip: Result<Arrival, Refusal>,
     pub opens: u32,
 }
 
 // A trip that is refused.
 pub fn refused(refusal: Refusal) -> Visit
-    ensures { (result.trip ≡ Refused refusal) × (result.opens ≡ 0) }
+    ensures { (result.trip ≡ Err refusal) × (result.opens ≡ 0) }
 {
-    let trip = Answer::Refused(refusal);
+    let trip = Err(refusal);
     Visit { trip, opens: 0 }
 }
 
 // The first tick at which the target is open, where the trip arrives.
-fn open_tick(network: &[u8], h: Header, target: u32, trip: Answer) -> u32
+fn open_tick(network: &[u8], h: Header, target: u32, trip: Result<Arrival, Refusal>) -> u32
     requires valid_file { ValidFile network.now h }
     requires target_lt_nodes { (target < h.nodes) × (trip_tick trip ≤ 2 ^ 31) }
     ensures { result ≡ open_tick (decode network.now) target trip }
 {
     match trip {
-        Answer::Arrived(a) => open_after(network, h.layout(), target as usize, a.tick),
-        Answer::Refused(_) => 0,
+        Ok(a) => open_after(network, h.layout(), target as usize, a.tick),
+        Err(_) => 0,
     }
 }
 
@@ -56,7 +54,7 @@ pub fn visit_over(
     requires valid_file { ValidFile network.now h }
     requires asked { Asked h q.source q.target q.departure (length arrivals.old) }
     requires arcs_in_bounds { h.arcs ≤ length mask.now }
-    ensures trip { TripCall (Opened h) (graph_of (decode network.now))
+    ensures trip { TripCall (Ok h) (graph_of (decode network.now))
         (permit_of mask.now) q.source q.target q.departure
         arrivals.old arrivals.new roads.old roads.new
         result.trip }

@@ -4,7 +4,8 @@ ghost use Rattle.network.specs.Decode.{decode};
 ghost use Rattle.trip_call.specs.Visit.{open_tick};
 ghost use Rattle.trip_plain.specs.Plain.{plain_begin, PlainTrip};
 
-use network::answer::Opening;
+use file_refusals::Refusal;
+use network::header::Header;
 use network::limits::MOST_ARCS;
 use network_validate::validate::validate;
 use search_labels::query::Query;
@@ -12,13 +13,11 @@ use trip_call::begin::ask;
 use trip_call::visit::{Visit, refused, visit_over};
 
 // The refusals before the search: 1 to 10 and 37, then 25 to 27.
-fn begin_plain(network: &[u8], q: Query, room: usize) -> Opening
+fn begin_plain(network: &[u8], q: Query, room: usize) -> Result<Header, Refusal>
     ensures { result ≡ plain_begin network.now q.source q.target q.departure room }
 {
-    match validate(network) {
-        Opening::Refused(r) => Opening::Refused(r),
-        Opening::Opened(h) => ask(h, q, room),
-    }
+    let h = validate(network)?;
+    ask(h, q, room)
 }
 
 // From one node to another, leaving at a tick of the day: the earliest tick of arrival over all ways, the
@@ -41,8 +40,8 @@ pub fn plain_trip(
         departure,
     };
     match begin_plain(network, q, arrivals.len()) {
-        Opening::Refused(r) => refused(r),
-        Opening::Opened(h) => {
+        Err(r) => refused(r),
+        Ok(h) => {
             let mask = [1u8; MOST_ARCS];
             visit_over(network, h, &mask, q, arrivals, roads)
         }

@@ -1,22 +1,18 @@
 -- Laws for the entries: from what an operation answered to what the call returns and leaves.
 use mathlib.Core.{Path.◌≡◌, Path.refl, Path.sym, Path.◌∙◌, Path.ap, List.List, List.◌++◌}
-use Rattle.std.specs.Prelude.{ℕ, ◌≤◌, ◌<◌}
+use Rattle.file_refusals.specs.Says.{number_says}
+use Rattle.std.specs.Prelude.{ℕ, ◌≤◌, ◌<◌, Result, Ok, Err}
 use Rattle.std.proofs.Common.{arith, lt-ltb, le-ltb}
 use lib.{ListN.length, ListN.take, ListN.replicate, Seq.sets, Seq.take-length}
 use Rattle.theory_loops.specs.{Fill.overwritten, Stores.stored_front}
 use Rattle.theory_paths.specs.Graph.{Graph, Permit, all}
-use Rattle.file_refusals.specs.{Says.Says, Says.numbers_of, Writing.writing_says, Writing.Writes}
-use Rattle.network.specs.declared.answer.Opening.{Opening}
+use Rattle.file_refusals.specs.{Says.Says, Says.numbers_of, Writing.Writes}
 use Rattle.network.specs.{Answer.opening_says, Limits.most_roads, Network.Network, Tables.Tables, Town.graph_of}
 use Rattle.network_open.specs.Open.{OpenCall}
 use Rattle.plan_check.specs.declared.answer.Report.{Report}
 use Rattle.plan_check.specs.{Answer.report_says, CheckPlan.checking, Finds.Finds}
 use Rattle.plan_make.specs.Make.{MakeCall}
-use Rattle.file_refusals.specs.Listing.{listing_says}
-use Rattle.file_refusals.specs.declared.listing.Listing.{Listing}
-use Rattle.file_refusals.specs.declared.writing.Writing.{Writing}
-use Rattle.search_path.specs.declared.answer.{Arrival.Arrival, Answer.Answer}
-use Rattle.search_path.specs.declared.answer.Answer.TheVariants.{Arrived, Refused}
+use Rattle.search_path.specs.declared.answer.{Arrival.Arrival}
 use Rattle.search_path.specs.{Answer.path_of, Says.trip_says, Says.trip_count}
 use Rattle.trip_call.specs.declared.visit.Visit.{Visit}
 use Rattle.trip_call.specs.{Trip.TripCall, Visit.open_tick, Visit.visit_says}
@@ -26,6 +22,8 @@ use Rattle.trip.specs.Numbers.{plain_begins, flagged_begins}
 use Rattle.day_arrivals.specs.Sheet.{DaySheet}
 use Rattle.c_trip.specs.{Reply.trip_size, Reply.bytes, Reply.road_bytes, Reply.trip_bytes, Writing.trip_long}
 use Rattle.varnwalnut.specs.{Room.roomed, Room.kept, Replies.SheetReply, Replies.TripDesk}
+use Rattle.file_refusals.specs.declared.Refusal.{Refusal}
+use Rattle.network.specs.declared.header.Header.{Header}
 use Rattle.varnwalnut.specs.Replies.{TripReply, DeskReply, CheckReply, OpenReply, WriteReply, MakeReply}
 
 -- ROOM
@@ -79,7 +77,7 @@ module _ (file : List ℕ) (tables₀ : Tables) (before : List ℕ) (r : ℕ) wh
   pub open_short : length before < 10 → r ≡ 31 → OpenReply file tables₀ tables₀ before before r
   open_short l e = record { reply = desk_short 10 _ before r l e; written = kept_short 10 _ tables₀ _ l }
 
-  pub open_written : (o : Opening) (tables₁ : Tables) (after : List ℕ) → 10 ≤ length before
+  pub open_written : (o : Result Header Refusal) (tables₁ : Tables) (after : List ℕ) → 10 ≤ length before
       → OpenCall file tables₀ tables₁ o → r ≡ (opening_says o).number
       → after ≡ overwritten (numbers_of (opening_says o)) before → OpenReply file tables₀ tables₁ before after r
   open_written o tables₁ after l c e f =
@@ -90,17 +88,17 @@ module _ (file : List ℕ) (tables₀ : Tables) (before : List ℕ) (r : ℕ) wh
       }
 
 -- PACK AND IMPORT
-module _ (told : Writing) (file out₀ before : List ℕ) (r : ℕ) where
+module _ (told : Result ℕ Refusal) (file out₀ before : List ℕ) (r : ℕ) where
   pub write_short : length before < 4 → r ≡ 31 → WriteReply told file out₀ out₀ before before r
   write_short l e = record { reply = desk_short 4 _ before r l e; written = kept_short 4 _ out₀ _ l }
 
-  pub write_written : (o : Writing) (out₁ after : List ℕ) → 4 ≤ length before
-      → Writes told file out₀ out₁ o → r ≡ (writing_says o).number
-      → after ≡ overwritten (numbers_of (writing_says o)) before → WriteReply told file out₀ out₁ before after r
+  pub write_written : (o : Result ℕ Refusal) (out₁ after : List ℕ) → 4 ≤ length before
+      → Writes told file out₀ out₁ o → r ≡ (number_says o).number
+      → after ≡ overwritten (numbers_of (number_says o)) before → WriteReply told file out₀ out₁ before after r
   write_written o out₁ after l c e f =
       let q = c.answer in
       record {
-        reply = rw q at (desk_written 4 (writing_says o) before r after l e f);
+        reply = rw q at (desk_written 4 (number_says o) before r after l e f);
         written = kept_enough 4 _ out₀ l (rw q at c.written);
       }
 
@@ -113,14 +111,14 @@ module _ (network work₀ out₀ before : List ℕ) (r : ℕ) where
     written = kept_short 4 _ out₀ _ l;
   }
 
-  pub make_written : (o : Writing) (work₁ out₁ after : List ℕ) → 4 ≤ length before
-      → MakeCall network work₀ work₁ out₀ out₁ o → r ≡ (writing_says o).number
-      → after ≡ overwritten (numbers_of (writing_says o)) before
+  pub make_written : (o : Result ℕ Refusal) (work₁ out₁ after : List ℕ) → 4 ≤ length before
+      → MakeCall network work₀ work₁ out₀ out₁ o → r ≡ (number_says o).number
+      → after ≡ overwritten (numbers_of (number_says o)) before
       → MakeReply network work₀ work₁ out₀ out₁ before after r
   make_written o work₁ out₁ after l c e f =
       let q = c.answer in
       record {
-        reply = rw q at (desk_written 4 (writing_says o) before r after l e f);
+        reply = rw q at (desk_written 4 (number_says o) before r after l e f);
         work = kept_enough 4 _ work₀ l c.work;
         written = kept_enough 4 _ out₀ l (rw q at c.written);
       }
@@ -135,20 +133,20 @@ module _ (network : List ℕ) (from to : ℕ) (work₀ list₀ before : List ℕ
     list = kept_short 4 _ list₀ _ l;
   }
 
-  pub sheet_written : (o : Listing) (work₁ list₁ after : List ℕ) → 4 ≤ length before
-      → DaySheet network from to work₀ work₁ list₀ list₁ o → r ≡ (listing_says o).number
-      → after ≡ overwritten (numbers_of (listing_says o)) before
+  pub sheet_written : (o : Result ℕ Refusal) (work₁ list₁ after : List ℕ) → 4 ≤ length before
+      → DaySheet network from to work₀ work₁ list₀ list₁ o → r ≡ (number_says o).number
+      → after ≡ overwritten (numbers_of (number_says o)) before
       → SheetReply network from to work₀ work₁ list₀ list₁ before after r
   sheet_written o work₁ list₁ after l c e f =
       let q = c.answer in
       record {
-        reply = rw q at (desk_written 4 (listing_says o) before r after l e f);
+        reply = rw q at (desk_written 4 (number_says o) before r after l e f);
         work = kept_enough 4 _ work₀ l c.work;
         list = kept_enough 4 _ list₀ l (rw q at c.list);
       }
 
 -- THE TRIPS WITH LISTS
-module _ (b : Opening) (n : Network) (p : Permit) (s t x : ℕ) (arrivals₀ roads₀ before : List ℕ) (r : ℕ) where
+module _ (b : Result Header Refusal) (n : Network) (p : Permit) (s t x : ℕ) (arrivals₀ roads₀ before : List ℕ) (r : ℕ) where
   pub lists_short : length before < 6 → r ≡ 31
       → TripDesk b n p s t x arrivals₀ arrivals₀ roads₀ roads₀ before before r
   lists_short l e = record {
@@ -172,27 +170,27 @@ module _ (b : Opening) (n : Network) (p : Permit) (s t x : ℕ) (arrivals₀ roa
 
 -- THE TABLET'S TRIPS: where the trip a arrives, its count is the path's length, and the list of the most
 -- roads begins with the path
-pub record Lists (a : Answer) (path roads : List ℕ) : Type 0 where
-  pub counted : (r : Arrival) → a ≡ Arrived r → r.count ≡ length path
-  pub few : (r : Arrival) → a ≡ Arrived r → length path ≤ most_roads
-  pub listed : (r : Arrival) → a ≡ Arrived r → take (length path) roads ≡ path
+pub record Lists (a : Result Arrival Refusal) (path roads : List ℕ) : Type 0 where
+  pub counted : (r : Arrival) → a ≡ Ok r → r.count ≡ length path
+  pub few : (r : Arrival) → a ≡ Ok r → length path ≤ most_roads
+  pub listed : (r : Arrival) → a ≡ Ok r → take (length path) roads ≡ path
 
 module _ (path roads : List ℕ) where
-  same_bytes : (a : Answer) → Lists a path roads → trip_bytes a roads ≡ trip_bytes a path
-  same_bytes (Refused r) h = refl
-  same_bytes (Arrived r) h =
+  same_bytes : (a : Result Arrival Refusal) → Lists a path roads → trip_bytes a roads ≡ trip_bytes a path
+  same_bytes (Err r) h = refl
+  same_bytes (Ok r) h =
       let q = h.counted r refl in
       ap (λ (w : List ℕ). bytes 4 0 ++ bytes 4 r.tick ++ bytes 2 r.count ++ road_bytes w)
       (rw q (h.listed r refl ∙ sym (take-length path)))
 
-  room_for : (a : Answer) → Lists a path roads → length (trip_bytes a path) ≤ trip_size
-  room_for (Refused r) h = omega (arith, trip_long (Refused r) path)
-  room_for (Arrived r) h =
+  room_for : (a : Result Arrival Refusal) → Lists a path roads → length (trip_bytes a path) ≤ trip_size
+  room_for (Err r) h = omega (arith, trip_long (Err r) path)
+  room_for (Ok r) h =
       let q = h.counted r refl in
       let l : length (take r.count path) ≡ length path = rw (q, take-length path) in
-      omega (arith, trip_long (Arrived r) path, l, h.few r refl)
+      omega (arith, trip_long (Ok r) path, l, h.few r refl)
 
-  pub trip_written : (a call : Answer) (before after : List ℕ) (r : ℕ) → a ≡ call → Lists a path roads
+  pub trip_written : (a call : Result Arrival Refusal) (before after : List ℕ) (r : ℕ) → a ≡ call → Lists a path roads
       → trip_size ≤ length before → r ≡ (trip_says a).number → after ≡ sets before 0 (trip_bytes a roads)
       → TripReply call path before after r
   trip_written a call before after r q h l e f =
@@ -203,13 +201,13 @@ module _ (path roads : List ℕ) where
         bytes = kept_enough trip_size _ before l (f ∙ ap (sets before 0) (same_bytes a h) ∙ z);
       })
 
-pub trip_short : (a : Answer) (path before : List ℕ) (r : ℕ) → length before < trip_size → r ≡ 31
+pub trip_short : (a : Result Arrival Refusal) (path before : List ℕ) (r : ℕ) → length before < trip_size → r ≡ 31
     → TripReply a path before before r
 trip_short a path before r l e =
     record { code = room_short trip_size _ _ r l e; bytes = kept_short trip_size _ before _ l }
 
 -- a trip over permitted arcs with a fresh list of the most roads, which is `roads` after it
-module _ (b : Opening) (g : Graph) (p : Permit) (s t x : ℕ) (a : Answer) (arrivals₀ arrivals roads : List ℕ)
+module _ (b : Result Header Refusal) (g : Graph) (p : Permit) (s t x : ℕ) (a : Result Arrival Refusal) (arrivals₀ arrivals roads : List ℕ)
     (c : TripCall b g p s t x arrivals₀ arrivals (replicate most_roads 0) roads a) where
   pub trip_lists : Lists a (path_of g p s t x) roads
   trip_lists = record {
@@ -219,16 +217,16 @@ module _ (b : Opening) (g : Graph) (p : Permit) (s t x : ℕ) (a : Answer) (arri
   }
 
 -- a trip counts no more roads than the most
-few_roads : (a : Answer) → ((r : Arrival) → a ≡ Arrived r → r.count ≤ most_roads) → trip_count a ≤ most_roads
-few_roads (Arrived r) h = h r refl
-few_roads (Refused r) h = omega arith
+few_roads : (a : Result Arrival Refusal) → ((r : Arrival) → a ≡ Ok r → r.count ≤ most_roads) → trip_count a ≤ most_roads
+few_roads (Ok r) h = h r refl
+few_roads (Err r) h = omega arith
 
-pub plain_count : (network : List ℕ) (from to departure room free : ℕ) (a : Answer)
+pub plain_count : (network : List ℕ) (from to departure room free : ℕ) (a : Result Arrival Refusal)
     → a ≡ plain_answer network from to departure room free → trip_count a ≤ most_roads
 plain_count network from to departure room free a e =
     few_roads a (λ r q. (trip_arrived (plain_begins network from to departure room) all free e r q).few)
 
-pub flagged_count : (network plan : List ℕ) (from to departure room free : ℕ) (a : Answer)
+pub flagged_count : (network plan : List ℕ) (from to departure room free : ℕ) (a : Result Arrival Refusal)
     → a ≡ flagged_answer network plan from to departure room free → trip_count a ≤ most_roads
 flagged_count network plan from to departure room free a e =
     few_roads a

@@ -2,11 +2,9 @@
 -- and its list the arrivals that varnwalnut_plain_trip tells at each tick, and varnwalnut_flagged_trip under
 -- a plan that varnwalnut_check_plan accepts (`sheet_call`).
 use mathlib.Core.{Path.◌≡◌, Path.refl, Path.◌∙◌, Logic.inl, Logic.inr, List.List}
-use Rattle.std.specs.Prelude.{ℕ, ◌≤◌, ◌<◌, length, get_or}
+use Rattle.std.specs.Prelude.{ℕ, ◌≤◌, ◌<◌, length, get_or, Result, Ok}
 use Rattle.std.proofs.Common.{arith, le-ltb}
-use Rattle.file_refusals.specs.declared.listing.Listing.{Listing}
 use Rattle.network.specs.Decode.{decode}
-use Rattle.plan_check.specs.declared.answer.Checking.TheVariants.{Accepted}
 use Rattle.plan_check.specs.CheckPlan.{checking}
 use Rattle.trip.specs.Calls.{plain_call, flagged_call}
 use Rattle.day_arrivals.specs.{Sheet.listing, Sheet.DaySheet, Numbers.SheetNumber}
@@ -14,6 +12,7 @@ use Rattle.day_arrivals.proofs.Numbers.{sheet_numbers}
 use Rattle.day_arrivals.specs.Promise.{ArrivesAt, HoldsDay}
 use Rattle.day_arrivals.proofs.Promise.{sheet_listed, sheet_plain_call}
 use Rattle.day_arrivals.proofs.Promise.{sheet_flagged_call}
+use Rattle.file_refusals.specs.declared.Refusal.{Refusal}
 use Rattle.varnwalnut.specs.{Replies.SheetReply, Returned.returned_count, Room.kept}
 
 -- An answer and a list as the wish wants them.
@@ -22,7 +21,7 @@ pub record GoodSheet (network : List ℕ) (from to : ℕ) (list₀ list₁ answe
   pub holds : HoldsDay network from to list₀ list₁
   pub plain : (t : ℕ) → t < (decode network).period
       → ArrivesAt (plain_call network from to t) (get_or list₁ t 0)
-  pub flagged : (plan : List ℕ) → checking network plan ≡ Accepted → (t : ℕ) → t < (decode network).period
+  pub flagged : (plan : List ℕ) → checking network plan ≡ Ok tt → (t : ℕ) → t < (decode network).period
       → ArrivesAt (flagged_call network plan from to t) (get_or list₁ t 0)
 
 some_number : (n : ℕ) → SheetNumber n → 1 ≤ n
@@ -36,7 +35,7 @@ some_number n (inr r) = omega arith
 module _ (network : List ℕ) {from to : ℕ} {work₀ work₁ list₀ list₁ before after : List ℕ} {returned : ℕ}
     (room : 4 ≤ length before)
     (m : SheetReply network from to work₀ work₁ list₀ list₁ before after returned) (ok : returned ≡ 0) where
-  abbrev told : Listing
+  abbrev told : Result ℕ Refusal
   told = listing network from to (length work₀) (length list₀)
 
   call : DaySheet network from to work₀ work₁ list₀ list₁ told

@@ -2,24 +2,22 @@
 -- `before` and `after` are the lent answer at entry and at exit, and `returned` is the number that the call
 -- returns. Tables and lists at entry and at exit have a 0 and a 1.
 use mathlib.Core.{Path.◌≡◌, List.List}
-use Rattle.std.specs.Prelude.{ℕ, ◌≤◌, length}
+use Rattle.file_refusals.specs.Says.{number_says}
+use Rattle.std.specs.Prelude.{ℕ, ◌≤◌, length, Result}
 use Rattle.theory_loops.specs.Fill.{overwritten}
 use Rattle.theory_paths.specs.Graph.{Permit, all}
-use Rattle.file_refusals.specs.{Says.Says, Says.numbers_of, Writing.writing_says, Writing.bytes_after}
-use Rattle.network.specs.declared.answer.Opening.{Opening}
+use Rattle.file_refusals.specs.{Says.Says, Says.numbers_of, Writing.bytes_after}
 use Rattle.network.specs.declared.header.Header.{Header}
 use Rattle.network.specs.{Answer.opening_says, Network.Network, Decode.decode, Tables.Tables, Tables.network_of}
 use Rattle.network.specs.Town.{graph_of}
 use Rattle.network_open.specs.Open.{opening, tables_after}
 use Rattle.network_encode.specs.Encode.{encode}
-use Rattle.file_refusals.specs.declared.writing.Writing.{Writing}
-use Rattle.file_refusals.specs.Listing.{listing_says, list_after}
+use Rattle.file_refusals.specs.Listing.{list_after}
 use Rattle.network_pack.specs.Pack.{packing}
 use Rattle.dimacs_import.specs.Import.{importing, imported_file}
 use Rattle.plan_check.specs.{Answer.report_says, CheckPlan.checking, Finds.Finds}
 use Rattle.plan_made.specs.File.{made_file}
 use Rattle.plan_make.specs.Make.{making, work_after}
-use Rattle.search_path.specs.declared.answer.Answer.{Answer}
 use Rattle.search_path.specs.{Answer.searched, Says.trip_says}
 use Rattle.trip_call.specs.Trip.{trip_answer, trip_arrivals, trip_roads}
 use Rattle.trip_call.specs.Visit.{open_tick, visit_says}
@@ -28,10 +26,12 @@ use Rattle.trip.specs.Flagged.{flagged_begin, flagged_arcs}
 use Rattle.day_arrivals.specs.Sheet as sheet
 use Rattle.day_arrivals.specs.Sheet.{sheet_begin, listing, day_arrivals}
 use Rattle.c_trip.specs.Reply.{trip_size, trip_bytes}
+use Rattle.file_refusals.specs.declared.Refusal.{Refusal}
+use Rattle.search_path.specs.declared.answer.Arrival.{Arrival}
 use Rattle.varnwalnut.specs.Room.{roomed, kept}
 
 -- the tablet's answer to a trip whose chosen path this is
-pub record TripReply (trip : Answer) (path before after : List ℕ) (returned : ℕ) : Type 0 where
+pub record TripReply (trip : Result Arrival Refusal) (path before after : List ℕ) (returned : ℕ) : Type 0 where
   pub code : returned ≡ roomed trip_size (length before) (trip_says trip).number
   pub bytes : after ≡ kept trip_size (length before) before (overwritten (trip_bytes trip path) before)
 
@@ -55,8 +55,8 @@ pub record OpenReply (file : List ℕ) (tables₀ tables₁ : Tables) (before af
       ≡ kept 10 (length before) tables₀ (tables_after (opening file tables₀) (decode file) tables₀)
 
 -- An operation that writes a file and tells this: beside the reply, the bytes for it
-pub record WriteReply (told : Writing) (file out₀ out₁ before after : List ℕ) (returned : ℕ) : Type 0 where
-  pub reply : DeskReply 4 (writing_says told) before after returned
+pub record WriteReply (told : Result ℕ Refusal) (file out₀ out₁ before after : List ℕ) (returned : ℕ) : Type 0 where
+  pub reply : DeskReply 4 (number_says told) before after returned
   pub written : out₁ ≡ kept 4 (length before) out₀ (bytes_after told file out₀)
 
 -- Pack, of numbers and tables, and Import, of a text
@@ -71,7 +71,7 @@ ImportReply text number out₀ out₁ before after returned =
 
 -- Make plan: beside the reply, the work list, and the bytes for the plan's file
 pub record MakeReply (network work₀ work₁ out₀ out₁ before after : List ℕ) (returned : ℕ) : Type 0 where
-  pub reply : DeskReply 4 (writing_says (making network (length work₀) (length out₀))) before after returned
+  pub reply : DeskReply 4 (number_says (making network (length work₀) (length out₀))) before after returned
   pub work : work₁ ≡ kept 4 (length before) work₀ (work_after network work₀)
   pub written : out₁ ≡ kept 4 (length before) out₀
       (bytes_after (making network (length work₀) (length out₀)) (made_file (decode network)) out₀)
@@ -79,7 +79,7 @@ pub record MakeReply (network work₀ work₁ out₀ out₁ before after : List 
 -- The day sheet: beside the reply, the work list, and the list of the day's arrivals
 pub record SheetReply (network : List ℕ) (from to : ℕ) (work₀ work₁ list₀ list₁ before after : List ℕ)
     (returned : ℕ) : Type 0 where
-  pub reply : DeskReply 4 (listing_says (listing network from to (length work₀) (length list₀))) before after
+  pub reply : DeskReply 4 (number_says (listing network from to (length work₀) (length list₀))) before after
       returned
   pub work : work₁ ≡ kept 4 (length before) work₀
       (sheet.work_after (sheet_begin network from to (length work₀) (length list₀)) (decode network) work₀)
@@ -89,7 +89,7 @@ pub record SheetReply (network : List ℕ) (from to : ℕ) (work₀ work₁ list
 
 -- A trip: beside the reply, the lists of arrivals and of roads. b is what comes before the search, from s to
 -- t over the permitted arcs of the network n, leaving at tick x.
-pub record TripDesk (b : Opening) (n : Network) (p : Permit) (s t x : ℕ)
+pub record TripDesk (b : Result Header Refusal) (n : Network) (p : Permit) (s t x : ℕ)
     (arrivals₀ arrivals₁ roads₀ roads₁ : List ℕ)
     (before after : List ℕ) (returned : ℕ) : Type 0 where
   pub reply : DeskReply 6

@@ -6,12 +6,10 @@ ghost use Rattle.network_pack.specs.Pack.{numbers};
 ghost use Rattle.varnwalnut.specs.Replies.{CheckReply, OpenReply, PackReply, ImportReply, MakeReply};
 ghost use Rattle.varnwalnut.specs.Replies.{SheetReply, PlainDesk, FlaggedDesk};
 
-use c_replies::numbers::{
-    write_checking, write_listing, write_lists, write_opening, write_writing,
-};
+use crate::ANSWER_SHORT;
+use c_replies::numbers::{write_checking, write_lists, write_number, write_opening};
 use day_sheet::sheet::day_sheet;
 use dimacs_import::import::import_dimacs;
-use file_refusals::number::ANSWER_SHORT;
 use network_open::open::open_network;
 use network_pack::pack::pack_network;
 use plan_check::check::check_plan;
@@ -92,7 +90,7 @@ pub extern "C" fn varnwalnut_pack_network(
     if answer.len() < 4 {
         return ANSWER_SHORT;
     }
-    write_writing(
+    write_number(
         pack_network(
             number, period, nodes, arcs, cells, points, hours, cellof, opens, closes, tails, heads,
             counts, ticks, travels, out,
@@ -115,7 +113,7 @@ pub extern "C" fn varnwalnut_import_dimacs(
     if answer.len() < 4 {
         return ANSWER_SHORT;
     }
-    write_writing(import_dimacs(text, number, out), answer)
+    write_number(import_dimacs(text, number, out), answer)
 }
 
 // The file of the plan that is made of a network, and its length.
@@ -132,7 +130,7 @@ pub extern "C" fn varnwalnut_make_plan(
     if answer.len() < 4 {
         return ANSWER_SHORT;
     }
-    write_writing(make_plan(network, work, out), answer)
+    write_number(make_plan(network, work, out), answer)
 }
 
 // The arrivals of a whole day from one node to another, and how many there are.
@@ -151,7 +149,7 @@ pub extern "C" fn varnwalnut_day_sheet(
     if answer.len() < 4 {
         return ANSWER_SHORT;
     }
-    write_listing(day_sheet(network, from, to, work, list), answer)
+    write_number(day_sheet(network, from, to, work, list), answer)
 }
 
 // The plain trip with lent lists.

@@ -8,3 +8,8 @@
 
 pub mod desk;
 pub mod tablet;
+
+use file_refusals::reason::Reason;
+
+// What an entry answers where its own answer has too little room.
+const ANSWER_SHORT: u32 = Reason::AnswerShort as u32;

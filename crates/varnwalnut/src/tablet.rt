@@ -3,8 +3,8 @@
 ghost use Rattle.trip.specs.Calls.{plain_call, plain_path, flagged_call, flagged_path};
 ghost use Rattle.varnwalnut.specs.Replies.{TripReply};
 
+use crate::ANSWER_SHORT;
 use c_trip::trip::write_trip;
-use file_refusals::number::ANSWER_SHORT;
 use network::limits::{MOST_NODES, MOST_ROADS, NEVER};
 use trip::flagged::flagged_trip;
 use trip_plain::plain::plain_trip;

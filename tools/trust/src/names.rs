@@ -1,7 +1,7 @@
 //! The names that stand free in antt text: those that no binder, pattern or `where` block of it brings.
 
 use crate::antt::{operator_parts, Clause, Definition, Kind, Section, Spec};
-use crate::rattle::Function;
+use crate::rattle::{Function, Type};
 use crate::repository::{File, Scope};
 use crate::tree::{parts, Tree};
 use std::collections::BTreeSet;
@@ -20,6 +20,15 @@ pub fn in_contract(function: &Function, scope: &Scope) -> BTreeSet<Vec<String>> 
     let mut names = Names::new(&constructor);
     function.parameters.iter().for_each(|name| names.bind(name));
     function.clauses.iter().for_each(|clause| names.term(clause));
+    names.free
+}
+
+/// The free names of what a type's ghost fields say, or a trait's or an impl's ghost members.
+pub fn in_type(known: &Type, scope: &Scope) -> BTreeSet<Vec<String>> {
+    let constructor = |name: &str| scope.is_constructor(name);
+    let mut names = Names::new(&constructor);
+    known.bound.iter().chain([&"Self".to_string()]).for_each(|name| names.bind(name));
+    known.clauses.iter().for_each(|clause| names.term(clause));
     names.free
 }
 

@@ -30,11 +30,20 @@ pub struct Function {
     pub clauses: Vec<Vec<Tree>>,
 }
 
-/// A struct or an enum: its words, and the numbers of its lines.
+/// A struct, an enum or a trait; or, as `Trait for Type`, what an impl says of a trait's ghost members.
+#[derive(Default)]
 pub struct Type {
     pub name: String,
+    /// The type that it is an impl for.
+    pub of: Option<String>,
     pub words: Vec<String>,
+    /// The numbers of its lines, of an impl those of its head and its ghost members.
     pub lines: Vec<usize>,
+    /// What its ghost clauses may use besides: its fields, its ghost members and its type parameters.
+    pub bound: Vec<String>,
+    /// What its ghost fields or ghost members say, and of a trait the contracts of its functions, which each
+    /// impl keeps.
+    pub clauses: Vec<Vec<Tree>>,
 }
 
 /// Reads a file of Rattle, laid out by the formatter; an error begins with the number of the line.
@@ -51,8 +60,10 @@ pub fn read(text: &str) -> Result<Code, String> {
             let text = joined(&lines[i..i + balanced(&lines[i..])]);
             let used = &without_marks(&text)["use ".len()..];
             code.uses.extend(paths(used).map_err(|e| format!("{}: {e}", line.number))?);
-        } else if rest.starts_with("struct ") || rest.starts_with("enum ") {
+        } else if ["struct ", "enum ", "trait "].iter().any(|word| rest.starts_with(word)) {
             code.types.push(read_type(&lines[i..i + balanced(&lines[i..])])?);
+        } else if let Some(head) = rest.strip_prefix("impl") {
+            code.types.extend(read_impl(head, &lines[i..i + balanced(&lines[i..])])?);
         } else if rest.starts_with("fn ") {
             code.functions.push(read_function(&lines[i..])?);
         }
@@ -134,13 +145,104 @@ fn words(text: &str) -> Vec<String> {
     parts.filter(|word| !word.is_empty()).map(str::to_string).collect()
 }
 
-/// What a ghost field says would have to be followed as a contract is: no type of this repository has one.
 fn read_type(lines: &[Line]) -> Result<Type, String> {
-    if let Some(line) = lines.iter().find(|line| without_marks(&line.text).starts_with("ghost ")) {
-        return Err(format!("{}: a ghost field is not read", line.number));
+    let mut known = Type {
+        lines: lines.iter().map(|line| line.number).collect(),
+        bound: type_parameters(behind_name(without_marks(&lines[0].text))),
+        ..Type::default()
+    };
+    let mut plain = Vec::new();
+    let mut i = 0;
+    while i < lines.len() {
+        let rest = without_marks(&lines[i].text);
+        if rest.starts_with("ghost ") {
+            i += known.ghost(&lines[i..])?;
+            continue;
+        }
+        if rest.starts_with("fn ") {
+            let Function { parameters, clauses, .. } = read_function(&lines[i..])?;
+            known.bound.extend(parameters);
+            known.clauses.extend(clauses);
+        }
+        plain.push(lines[i].clone());
+        i += 1;
     }
-    let mut words = words(without_marks(&joined(lines))).split_off(1);
-    Ok(Type { name: words.remove(0), words, lines: lines.iter().map(|line| line.number).collect() })
+    let plain = joined(&plain);
+    let fields = plain.split(": ").filter_map(|part| words(part).pop());
+    known.bound.extend(fields);
+    known.words = words(without_marks(&plain)).split_off(1);
+    known.name = known.words.remove(0);
+    Ok(known)
+}
+
+/// An impl of a trait that says what its ghost members are, by what stands behind the word `impl`.
+fn read_impl(head: &str, lines: &[Line]) -> Result<Option<Type>, String> {
+    let (parameters, head) = at_parameters(head);
+    let Some((of_trait, of_type)) = head.split_once(" for ") else { return Ok(None) };
+    let (of_trait, of_type) = (words(of_trait), words(of_type));
+    let (Some(name), Some(of)) = (of_trait.first(), of_type.first()) else { return Ok(None) };
+    let mut known = Type {
+        name: format!("{name} for {of}"),
+        of: Some(of.clone()),
+        words: [&of_trait[..], &of_type[..]].concat(),
+        lines: vec![lines[0].number],
+        bound: type_parameters(parameters),
+        clauses: Vec::new(),
+    };
+    let mut i = 0;
+    while i < lines.len() {
+        if lines[i].text.starts_with("ghost ") {
+            let length = known.ghost(&lines[i..])?;
+            known.lines.extend(lines[i..i + length].iter().map(|line| line.number));
+            i += length;
+        } else {
+            i += 1;
+        }
+    }
+    Ok((!known.clauses.is_empty()).then_some(known))
+}
+
+impl Type {
+    /// `ghost name: { .. }` of a struct or a trait, or `ghost name = { .. }` of an impl. Answers how many
+    /// lines it takes.
+    fn ghost(&mut self, lines: &[Line]) -> Result<usize, String> {
+        let length = balanced(lines);
+        let text = joined(&lines[..length]);
+        let clause = text.split_once('{').and_then(|(head, rest)| Some((head, rest.rsplit_once('}')?.0)));
+        let (head, inner) = clause.ok_or_else(|| format!("{}: no ghost clause", lines[0].number))?;
+        self.bound.extend(words(head).pop());
+        self.clauses.push(tree::read(inner).map_err(|e| format!("{}: {e}", lines[0].number))?);
+        Ok(length)
+    }
+}
+
+/// The text that begins with `<`, divided behind the `>` that closes it.
+fn at_parameters(text: &str) -> (&str, &str) {
+    let mut open = 0;
+    for (i, c) in text.char_indices() {
+        match c {
+            '<' => open += 1,
+            '>' if !text[..i].ends_with('-') => open -= 1,
+            _ => (),
+        }
+        if open == 0 {
+            return text.split_at(if c == '>' { i + 1 } else { i });
+        }
+    }
+    (text, "")
+}
+
+/// The names of the types and constants in `<'a, T: Trait, const N: usize>`, where the text begins so.
+fn type_parameters(text: &str) -> Vec<String> {
+    let (inner, _) = at_parameters(text);
+    let is_lifetime = |part: &&str| part.trim_start_matches(['<', ' ']).starts_with('\'');
+    let name = |part: &str| words(part.split(':').next().unwrap_or(part)).pop();
+    inner.split(',').filter(|part| !is_lifetime(part)).filter_map(name).collect()
+}
+
+/// The text behind an item's word and name.
+fn behind_name(text: &str) -> &str {
+    text.trim_start_matches(|c: char| c.is_alphanumeric() || c == '_' || c == ' ')
 }
 
 /// A signature runs up to its first clause or to the body's brace, and each clause to its closing brace.
@@ -167,9 +269,13 @@ fn read_function(lines: &[Line]) -> Result<Function, String> {
     Ok(Function { name, public, exported, parameters: parameters(signature), words, clauses })
 }
 
-/// The names before the colons of `f(name: type, name: type)`, and those that each contract may use besides.
+/// The type parameters and the names before the colons of `f<T>(name: type, name: type)`, and those that each
+/// contract may use besides.
 fn parameters(signature: &str) -> Vec<String> {
-    let inner = signature.split_once('(').map_or("", |(_, rest)| rest);
+    let behind = signature.split_once("fn ").map_or("", |(_, rest)| behind_name(rest));
+    let (of_types, rest) = at_parameters(behind);
+    let inner = rest.split_once('(').map_or("", |(_, rest)| rest);
     let named = inner.split(',').filter_map(|part| part.split_once(": ")).map(|(name, _)| name);
-    named.chain(["self", "result"]).filter_map(|name| words(name).pop()).collect()
+    let named = named.chain(["self", "result"]).filter_map(|name| words(name).pop());
+    type_parameters(of_types).into_iter().chain(named).collect()
 }

@@ -1,7 +1,7 @@
 //! What the public contracts and the promises reach: definitions and laws of antt and types of the code.
 
 use crate::antt::Kind;
-use crate::names::{in_contract, in_definition, Extent};
+use crate::names::{in_contract, in_definition, in_type, Extent};
 use crate::promises;
 use crate::rattle::Function;
 use crate::repository::{Crate, File, Repository, Target};
@@ -81,8 +81,13 @@ fn reach(repository: &Repository, start: Vec<(Target, Extent)>) -> Result<Reache
         found.insert(target, extent);
         let cited = match target {
             Target::Kit => Vec::new(),
-            Target::Code(file, place) => {
-                repository.code_types(file, &repository.codes[file].text.types[place].words)
+            Target::Code(i, place) => {
+                let file = &repository.codes[i];
+                let known = &file.text.types[place];
+                let mut cited = targets(repository, file, &in_type(known, &file.scope))?;
+                cited.extend(repository.code_types(i, &known.words));
+                cited.extend(repository.impls(target));
+                cited
             }
             Target::Spec(file, place) => {
                 let file = &repository.specs[file];

@@ -34,8 +34,8 @@ impl<T> File<T> {
     }
 }
 
-/// What stands behind a name: a definition or law of antt or a type of the code, each by its file and its
-/// place there; or something of the kit, which is believed as a whole.
+/// What stands behind a name: a definition or law of antt, or a type, a trait or an impl of the code, each by
+/// its file and its place there; or something of the kit, which is believed as a whole.
 #[derive(Clone, Copy, PartialEq, Eq, PartialOrd, Ord, Hash, Debug)]
 pub enum Target {
     Code(usize, usize),
@@ -242,6 +242,20 @@ impl Repository {
                 let other = self.crates.iter().position(|known| known.name == used[0]);
                 let of = if used[0] == "crate" { Some(here.of) } else { other };
                 found.extend(of.and_then(|of| self.find_type(of, &module, word)));
+            }
+        }
+        found
+    }
+
+    /// The impls that say what ghost members are of a type of the code.
+    pub fn impls(&self, target: Target) -> Vec<Target> {
+        let mut found = Vec::new();
+        for (i, file) in self.codes.iter().enumerate() {
+            for (j, known) in file.text.types.iter().enumerate() {
+                let Some(of) = &known.of else { continue };
+                if self.code_types(i, std::slice::from_ref(of)).contains(&target) {
+                    found.push(Target::Code(i, j));
+                }
             }
         }
         found

@@ -2,11 +2,11 @@
 
 use crate::antt::{self, Brings, Spec};
 use crate::documents::difference;
-use crate::names::{Extent, Names};
+use crate::names::{in_contract, in_type, Extent, Names};
 use crate::promises;
 use crate::rattle;
 use crate::reach::{self, Reached};
-use crate::repository::{Crate, File, Repository, Target};
+use crate::repository::{Crate, File, Repository, Scope, Target};
 use crate::rooms::first_sentence;
 use crate::tables;
 
@@ -129,7 +129,94 @@ fn what_code_brings_and_cites() {
     assert_eq!(code.ghosts.len(), 2);
     assert_eq!(joined(&code.cited), "crate.specs.A.b d.specs.E.f");
     assert!(rattle::read("use a::{b, c::{d}};\n").is_err());
-    assert!(rattle::read("struct S {\n    n: u8,\n    pub ghost low: { n < 9 },\n}\n").is_err());
+}
+
+/// The free names of what the last ghost clauses of a text of code say, and the words of their type.
+fn ghosts(text: &str) -> (String, String) {
+    let code = rattle::read(text).expect("it can be read");
+    let known = code.types.last().expect("there is a type, a trait or an impl with ghosts");
+    let free = in_type(known, &Scope::default());
+    (free.iter().map(|path| path.join(".")).collect::<Vec<_>>().join(" "), known.words.join(" "))
+}
+
+#[test]
+fn a_ghost_field_is_read() {
+    let fields = "    n: u8,\n    of: &'a [V],\n    pub ghost low: { Low V of.now\n        n × (n < 9) },\n";
+    let (free, words) = ghosts(&format!("#[derive(Clone)]\npub struct S<'a, V: Copy> {{\n{fields}}}\n"));
+    assert_eq!((free.as_str(), words.as_str()), ("< Low ×", "a V Copy n u8 of a V"));
+    let one = rattle::read(&format!("pub struct S<'a, V: Copy> {{\n{fields}}}\n")).expect("it can be read");
+    assert_eq!((one.types[0].name.as_str(), &one.types[0].lines[..]), ("S", &[1, 2, 3, 4, 5, 6][..]));
+}
+
+#[test]
+fn ghost_members_of_a_trait_are_read() {
+    let members = "    ghost left: { Self → ℕ };\n\n";
+    let function = "    fn step(&mut self, by: U)\n        requires { Far by (left self.old) };\n";
+    let (free, words) = ghosts(&format!("pub trait P<T>: Drop {{\n{members}{function}}}\n"));
+    assert_eq!(free, "Far ℕ →");
+    assert!(words.starts_with("T Drop fn step mut self by U"), "{words}");
+}
+
+#[test]
+fn ghost_members_of_an_impl_are_read() {
+    let members = "    ghost left = { λ s. rest (size T s.n).most s };\n\n";
+    let function = "    fn step(&mut self, by: U) {\n        self.n += 1;\n    }\n";
+    let text = format!("impl<'a, T> P<T> for R<'a, T> {{\n{members}{function}}}\n");
+    assert_eq!(ghosts(&text), ("rest size".to_string(), "P T R a T".to_string()));
+    let code = rattle::read(&text).expect("it can be read");
+    let known = &code.types[0];
+    assert_eq!(
+        (known.name.as_str(), known.of.as_deref(), &known.lines[..]),
+        ("P for R", Some("R"), &[1, 2][..])
+    );
+    // an impl without ghost members says nothing
+    assert!(rattle::read(&format!("impl R {{\n{function}}}\n")).expect("it can be read").types.is_empty());
+    assert!(rattle::read(&format!("impl P for R {{\n{function}}}\n"))
+        .expect("it can be read")
+        .types
+        .is_empty());
+}
+
+#[test]
+fn type_parameters_are_bound_in_a_contract() {
+    let head = "pub fn fill<'a, P: Points<u8>, const N: usize>(mut points: P, count: usize) -> usize\n";
+    let clause = "    requires { day (P.ticks points) count N × (result ≤ a) }\n";
+    let code = rattle::read(&format!("{head}{clause}{{\n}}\n")).expect("it can be read");
+    let free = in_contract(&code.functions[0], &Scope::default());
+    let free: Vec<String> = free.iter().map(|path| path.join(".")).collect();
+    assert_eq!(free.join(" "), "a day × ≤");
+}
+
+/// The crate of `small` with other code, whose function C calls.
+fn small_with(code: &str) -> Repository {
+    let Repository { crates, specs, .. } = small();
+    let code = rattle::read(code).expect("it can be read");
+    let code = File::new(0, "crates/low/src", "crates/low/src/lib.rt", code);
+    Repository::of(crates, specs, vec![code]).expect("every name is found")
+}
+
+#[test]
+fn ghosts_count_where_a_contract_takes_their_type() {
+    let uses = "ghost use Rattle.low.specs.Graph.{Exact, unnamed};\n";
+    let taking = |of: &str| format!("pub extern \"C\" fn walk(of: {of})\n{{\n}}\n");
+    let list = |items: &str, of: &str| {
+        let repository = &small_with(&format!("{uses}{items}{}", taking(of)));
+        let reached = reach::from_contracts(repository, true).expect("every name is found");
+        tables::table(repository, &reached, &Reached::new())
+    };
+    let graph = "- low/specs/Graph.antt, 4 lines: `Graph`, `Exact`\n";
+    let field = "pub struct Held {\n    n: u8,\n    pub ghost exact: { Exact n },\n}\n";
+    let code = "- low/src/lib.rt, 4 lines: `Held`\n";
+    assert_eq!(list(field, "&Held"), format!("{code}{graph}\nTogether 8 lines.\n"));
+    let member = "pub trait Told {\n    ghost told: { Exact Self };\n}\n";
+    let code = "- low/src/lib.rt, 3 lines: `Told`\n";
+    assert_eq!(list(member, "&impl Told"), format!("{code}{graph}\nTogether 7 lines.\n"));
+    let given = "pub struct Held {\n    n: u8,\n}\n\nimpl Told for Held {\n    ghost told = { Exact };\n}\n";
+    let code = "- low/src/lib.rt, 5 lines: `Held`, `Told for Held`\n";
+    assert_eq!(list(given, "&Held"), format!("{code}{graph}\nTogether 9 lines.\n"));
+    // a name in a ghost field that no `use` line brings is told
+    let lost = small_with(&format!("{}{}", field.replace("Exact", "Exacter"), taking("&Held")));
+    assert!(reach::from_contracts(&lost, true).is_err());
 }
 
 /// A crate with a spec, with laws right in its `proofs/` that use it, and with code.

@@ -1,7 +1,7 @@
 //! The laws, definitions and rulesets of the specs, and of the files right in proofs/, that nothing cites.
 
 use crate::antt::Spec;
-use crate::names::{in_contract, in_definition, Extent};
+use crate::names::{in_contract, in_definition, in_type, Extent};
 use crate::promises;
 use crate::reach::Reached;
 use crate::repository::{File, Repository, Target};
@@ -21,6 +21,9 @@ pub fn list(repository: &Repository, contracts: &Reached) -> Result<String, Stri
     for file in &repository.codes {
         for function in &file.text.functions {
             cited.extend(meanings(repository, file, in_contract(function, &file.scope))?);
+        }
+        for known in &file.text.types {
+            cited.extend(meanings(repository, file, in_type(known, &file.scope))?);
         }
         cited.extend(file.text.cited.iter().filter_map(|path| repository.cited(file.of, path)));
     }

@@ -6,11 +6,14 @@ use Rattle.day_merge.proofs.merge.Given as goal
 
 abbrev pub invariant-loop-p : goal.invariant-loop-p
 invariant-loop-p l =
-    (l.p.t ≤ l.period) × (l.p.t < l.period → At l.so l.no l.p.i l.p.t) × (l.p.t < l.period → At l.sa l.na
-    l.k l.p.t)
-    × (l.p.j ≤ l.nh) × Walked l.so l.vo l.sa l.va l.sh l.vh l.no l.na l.nh l.period l.same l.p.since l.p.t
+    let s = l.sides in
+    (l.p.t ≤ s.own.period) × (l.p.t < s.own.period → At s.own.starts.now s.own.count l.p.i l.p.t)
+    × (l.p.t < s.own.period → At s.arc.starts.now s.arc.count l.k l.p.t)
+    × (l.p.j ≤ s.head.count)
+    × Walked s.own.starts.now s.own.values.now s.arc.starts.now s.arc.values.now s.head.starts.now
+    s.head.values.now s.own.count s.arc.count s.head.count s.own.period s.same l.p.since l.p.t
     l.p.held l.initial.marks l.marks
 
 abbrev pub decreases-loop-p : goal.decreases-loop-p
 decreases-loop-p l =
-    l.period - l.p.t
+    l.sides.own.period - l.p.t

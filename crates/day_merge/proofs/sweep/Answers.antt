@@ -8,173 +8,123 @@ use Rattle.day_merge.specs.Merged.{onward_none, onward_more, turned_order}
 use Rattle.day_merge.proofs.sweep.Goals as goal
 
 pub ends-e-requires : goal.ends-e-requires
-ends-e-requires c = (
-  c.requires.t_lt_period.0,
-  omega (arith, c.wide.ensures, c.requires.short.0.most _ c.requires.t_lt_period.2.below),
-  c.requires.short.1,
-)
+ends-e-requires c =
+    let s = c.args.sides.now in (
+      c.requires.at.0,
+      omega (arith, c.from.ensures, s.short.most _ c.requires.at.2.below),
+      s.some.1,
+    )
+
+pub seek-j-requires : goal.seek-j-requires
+seek-j-requires c = (c.requires.at.3, omega (arith, c.ends-e.ensures.1, c.args.sides.now.one_day))
 
 pub loop-t-init : goal.loop-t-init
 loop-t-init c =
     let y : c.ends-e.result + (c.args.p.t - c.args.p.t) ≡ c.ends-e.result = omega arith in (
       omega arith,
-      omega (arith, c.lesser-stop.ensures, c.start.ensures, c.requires.t_lt_period.2.to, c.ends-e.ensures.1),
-      λ _. c.requires.t_lt_period.1,
+      omega (arith, c.min-stop.ensures, c.start.ensures, c.requires.at.2.to, c.ends-e.ensures.1),
+      λ _. c.requires.at.1,
       λ _. rw y c.seek-j.ensures,
       omega (arith, c.seek-j.ensures.below),
-      c.requires.t_lt_period.4,
+      c.requires.at.4,
       refl,
       onward_none _ _ _ _ _ _ _ _ _ _ _ _ _ _ _,
     )
 
-pub until-to-requires-clause-listed : goal.until-to-requires-clause-listed
-until-to-requires-clause-listed c = let m = at_end c.requires.listed.1.grid _ _ c.requires.t_lt_period.2 in
-    let o : c.loop-t.t < c.args.period = omega (
-      arith,
-      c.loop-t-test.true,
-      c.lesser-stop.ensures,
-      c.start.ensures,
-      m,
-    ) in
-    (c.requires.listed.0, c.requires.listed.2)
+pub until-to-requires-clause-one_day : goal.until-to-requires-clause-one_day
+until-to-requires-clause-one_day c = (c.args.sides.now.one_day.1, c.args.sides.now.some.1)
 
 pub until-to-requires-clause-at : goal.until-to-requires-clause-at
-until-to-requires-clause-at c = let m = at_end c.requires.listed.1.grid _ _ c.requires.t_lt_period.2 in
-    let o : c.loop-t.t < c.args.period = omega (
-      arith,
-      c.loop-t-test.true,
-      c.lesser-stop.ensures,
-      c.start.ensures,
-      m,
-    ) in
-    (c.loop-t.invariant.2 o, c.loop-t.invariant.3 c.loop-t-test.true, c.loop-t-test.true, c.requires.short.1)
+until-to-requires-clause-at c =
+    let s = c.args.sides.now in
+    let m = at_end s.arc.listed.grid _ _ c.requires.at.2 in
+    let o : c.loop-t.t < s.own.period =
+    omega (arith, c.loop-t-test.true, c.min-stop.ensures, c.start.ensures, m, s.one_day) in
+    (c.loop-t.invariant.2 o, c.loop-t.invariant.3 c.loop-t-test.true, c.loop-t-test.true)
 
 pub judge-more-requires : goal.judge-more-requires
 judge-more-requires c =
-    let m = at_end c.requires.listed.1.grid _ _ c.requires.t_lt_period.2 in
-    let o : c.loop-t.t < c.args.period = omega (
-      arith,
-      c.loop-t-test.true,
-      c.lesser-stop.ensures,
-      c.start.ensures,
-      m,
-    ) in (
-      omega (arith, (c.loop-t.invariant.2 o).below, c.requires.no_in_bounds.0),
-      omega
-          (arith, (c.loop-t.invariant.3 c.loop-t-test.true).below, c.requires.no_in_bounds.2),
-    )
+    let s = c.args.sides.now in
+    let m = at_end s.arc.listed.grid _ _ c.requires.at.2 in
+    let o : c.loop-t.t < s.own.period =
+    omega (arith, c.loop-t-test.true, c.min-stop.ensures, c.start.ensures, m, s.one_day) in
+    ((c.loop-t.invariant.2 o).below, (c.loop-t.invariant.3 c.loop-t-test.true).below)
 
 pub turn-since-requires : goal.turn-since-requires
 turn-since-requires c =
-    let m = at_end c.requires.listed.1.grid _ _ c.requires.t_lt_period.2 in (
-      c.loop-t.invariant.5,
-      omega (
-        arith,
-        c.loop-t.invariant.6,
-        c.loop-t-test.true,
-        c.lesser-stop.ensures,
-        c.start.ensures,
-        m,
-        c.requires.short.2,
-      ),
-    )
-
-pub next-i-requires-clause-listed : goal.next-i-requires-clause-listed
-next-i-requires-clause-listed c = let m = at_end c.requires.listed.1.grid _ _ c.requires.t_lt_period.2 in
-    let o : c.loop-t.t < c.args.period = omega (
-      arith,
-      c.loop-t-test.true,
-      c.lesser-stop.ensures,
-      c.start.ensures,
-      m,
-    ) in
-    c.requires.listed.0
+    let s = c.args.sides.now in
+    let m = at_end s.arc.listed.grid _ _ c.requires.at.2 in
+    let o : c.loop-t.t < s.own.period =
+    omega (arith, c.loop-t-test.true, c.min-stop.ensures, c.start.ensures, m, s.one_day) in
+    (c.loop-t.invariant.5, omega (arith, c.loop-t.invariant.6, o, c.requires.bytes))
 
 pub next-i-requires-clause-at : goal.next-i-requires-clause-at
-next-i-requires-clause-at c = let m = at_end c.requires.listed.1.grid _ _ c.requires.t_lt_period.2 in
-    let o : c.loop-t.t < c.args.period = omega (
-      arith,
-      c.loop-t-test.true,
-      c.lesser-stop.ensures,
-      c.start.ensures,
-      m,
-    ) in
+next-i-requires-clause-at c =
+    let s = c.args.sides.now in
+    let m = at_end s.arc.listed.grid _ _ c.requires.at.2 in
+    let o : c.loop-t.t < s.own.period =
+    omega (arith, c.loop-t-test.true, c.min-stop.ensures, c.start.ensures, m, s.one_day) in
     c.loop-t.invariant.2 o
 
 pub next-i-requires-clause-t_le_to : goal.next-i-requires-clause-t_le_to
-next-i-requires-clause-t_le_to c = let m = at_end c.requires.listed.1.grid _ _ c.requires.t_lt_period.2 in
-    let o : c.loop-t.t < c.args.period = omega (
-      arith,
-      c.loop-t-test.true,
-      c.lesser-stop.ensures,
-      c.start.ensures,
-      m,
-    ) in
-    (omega (arith, c.until-to.ensures.some), c.until-to.ensures.own)
+next-i-requires-clause-t_le_to c = (omega (arith, c.until-to.ensures.some), c.until-to.ensures.own)
 
 pub overflow_add-end-in-loop-t : goal.overflow_add-end-in-loop-t
 overflow_add-end-in-loop-t c =
-    let n = at_end c.requires.listed.2.grid _ _ (c.loop-t.invariant.3 c.loop-t-test.true) in
+    let s = c.args.sides.now in
+    let n = at_end s.head.listed.grid _ _ (c.loop-t.invariant.3 c.loop-t-test.true) in
     omega (
       arith,
       c.until-to.ensures.some,
       c.until-to.ensures.head,
       (c.loop-t.invariant.3 c.loop-t-test.true).to,
       n,
-      c.requires.short.1,
+      s.one_day,
+      s.some,
     )
-
-pub next-j-requires-clause-listed : goal.next-j-requires-clause-listed
-next-j-requires-clause-listed c = c.requires.listed.2
 
 pub next-j-requires-clause-at : goal.next-j-requires-clause-at
 next-j-requires-clause-at c = c.loop-t.invariant.3 c.loop-t-test.true
 
 pub next-j-requires-clause-t_le_to : goal.next-j-requires-clause-t_le_to
-next-j-requires-clause-t_le_to
-    c = (
-      omega arith,
-      omega (
-        arith,
-        c.until-to.ensures.some,
-        c.until-to.ensures.head,
-        (c.loop-t.invariant.3 c.loop-t-test.true).to,
-      ),
-    )
+next-j-requires-clause-t_le_to c = (
+  omega arith,
+  omega (
+    arith,
+    c.until-to.ensures.some,
+    c.until-to.ensures.head,
+    (c.loop-t.invariant.3 c.loop-t-test.true).to,
+  ),
+)
 
 pub loop-t-preserved : goal.loop-t-preserved
 loop-t-preserved c =
-    let m = at_end c.requires.listed.1.grid _ _ c.requires.t_lt_period.2 in
-    let o : c.loop-t.t < c.args.period = omega (
-      arith,
-      c.loop-t-test.true,
-      c.lesser-stop.ensures,
-      c.start.ensures,
-      m,
-    ) in
-    let f : c.ends-e.result + (c.loop-t.t - c.args.p.t) < c.args.period = omega
-    (arith, c.loop-t-test.true, c.lesser-stop.ensures, c.ends-e.ensures.1) in
+    let s = c.args.sides.now in
+    let m = at_end s.arc.listed.grid _ _ c.requires.at.2 in
+    let o : c.loop-t.t < s.own.period =
+    omega (arith, c.loop-t-test.true, c.min-stop.ensures, c.start.ensures, m, s.one_day) in
+    let f : c.ends-e.result + (c.loop-t.t - c.args.p.t) < s.own.period =
+    omega (arith, c.loop-t-test.true, c.min-stop.ensures, c.ends-e.ensures.1) in
     let is =
-    c.ends-e.ensures.0 ∙ ap (λ (y : ℕ). (c.args.p.t + y) % c.args.period) c.wide.ensures in
-    let v : c.ends-e.result + (c.loop-t.t - c.args.p.t) + (c.until-to.result - c.loop-t.t) ≡
-    c.ends-e.result + (c.until-to.result - c.args.p.t)
-    = omega (arith, c.loop-t.invariant.0, c.until-to.ensures.some) in (
+    c.ends-e.ensures.0 ∙ ap (λ (y : ℕ). (c.args.p.t + y) % s.own.period) c.from.ensures in
+    let v : c.ends-e.result + (c.loop-t.t - c.args.p.t) + (c.until-to.result - c.loop-t.t)
+    ≡ c.ends-e.result + (c.until-to.result - c.args.p.t) =
+    omega (arith, c.loop-t.invariant.0, c.until-to.ensures.some) in (
       omega (arith, c.loop-t.invariant.0, c.until-to.ensures.some),
       c.until-to.ensures.arc,
       c.next-i.ensures.1,
-      λ k. subst (λ (x : ℕ). At c.args.sh.now c.args.nh c.next-j.result x) v
-          (c.next-j.ensures.1 (omega (arith, v, k, c.lesser-stop.ensures, c.ends-e.ensures.1))),
+      λ k. subst (λ (x : ℕ). At s.head.starts.now s.head.count c.next-j.result x) v
+          (c.next-j.ensures.1 (omega (arith, v, k, c.min-stop.ensures, c.ends-e.ensures.1, s.one_day))),
       c.next-j.ensures.0,
       omega (arith, turned_order c.turn-since.ensures c.loop-t.invariant.5, c.until-to.ensures.some),
       c.turn-since.ensures.painting.long ∙ c.loop-t.invariant.6,
       onward_more _ _ _ _ _ _ _ _ _ _ _ _ _ _ _ _ _ c.loop-t.i _ c.loop-t.j _ _ _ _ _ _ _ _
-          c.loop-t.invariant.7 (c.loop-t.invariant.2
-          o)
-          (at_still c.requires.listed.1.grid _ _ _ c.requires.t_lt_period.2 c.loop-t.invariant.0
-          (omega (arith, c.loop-t-test.true, c.lesser-stop.ensures, c.start.ensures)))
+          c.loop-t.invariant.7 (c.loop-t.invariant.2 o)
+          (at_still s.arc.listed.grid _ _ _ c.requires.at.2 c.loop-t.invariant.0
+          (omega (arith, c.loop-t-test.true, c.min-stop.ensures, c.start.ensures)))
           (c.loop-t.invariant.3 c.loop-t-test.true)
           (sym (later c.args.p.t _ _ c.ends-e.result c.loop-t.t (omega (arith, o)) is c.loop-t.invariant.0 f))
-          c.until-to.ensures (omega (arith, c.lesser-stop.ensures, c.start.ensures)) c.judge-more.ensures
+          c.until-to.ensures (omega (arith, c.min-stop.ensures, c.start.ensures)) c.judge-more.ensures
           c.turn-since.ensures,
     )
 
@@ -182,19 +132,17 @@ pub shape_of-marks : goal.shape_of-marks
 shape_of-marks c = c.loop-t.invariant.6
 
 pub returns : goal.returns
-returns c =
-    let m = at_end c.requires.listed.1.grid _ _ c.requires.t_lt_period.2 in
-    record {
-      ahead = omega (
-        arith,
-        c.loop-t-test.false,
-        c.lesser-stop.ensures,
-        c.start.ensures,
-        c.requires.t_lt_period.2.to,
-        c.ends-e.ensures.1,
-      );
-      arc = omega (arith, c.loop-t.invariant.1, c.lesser-stop.ensures, c.start.ensures);
-      own = c.loop-t.invariant.2;
-      head = c.loop-t.invariant.4;
-      onward = c.loop-t.invariant.7;
-    }
+returns c = record {
+  ahead = omega (
+    arith,
+    c.loop-t-test.false,
+    c.min-stop.ensures,
+    c.start.ensures,
+    c.requires.at.2.to,
+    c.ends-e.ensures.1,
+  );
+  arc = omega (arith, c.loop-t.invariant.1, c.min-stop.ensures, c.start.ensures);
+  own = c.loop-t.invariant.2;
+  head = c.loop-t.invariant.4;
+  onward = c.loop-t.invariant.7;
+}

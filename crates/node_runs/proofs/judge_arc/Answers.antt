@@ -67,32 +67,33 @@ fill_profile-nh-requires-clause-u_bound c =
     let k = c.look-to.ensures.met c.if-to-eq0.false in
     head_fits c.requires.prepared _ _ _ k.head c.fill_runs-na.ensures.3 c.requires.arc_bound
 
-pub merge-requires-clause-listed : goal.merge-requires-clause-listed
-merge-requires-clause-listed c =
-    let h = grid_here c.requires.prepared.check c.fill_profile-nh.ensures.0.grid in (
-      listed c.requires.arc_lt_arcs.1.runs.grid refl c.requires.arc_lt_arcs.1.in_s,
-      listed c.fill_runs-na.ensures.0.grid c.fill_runs-na.auto.starts c.requires.rooms.arc_s,
-      listed h c.fill_profile-nh.auto.starts c.requires.rooms.head_s,
-    )
+pub invariant_of-node : goal.invariant_of-node
+invariant_of-node c = let own = c.requires.arc_lt_arcs.1 in
+    record { listed = listed own.runs.grid refl own.in_s; valued = few own.runs.grid refl own.in_v }
 
-pub merge-requires-clause-no_in_bounds : goal.merge-requires-clause-no_in_bounds
-merge-requires-clause-no_in_bounds c =
-    let h = grid_here c.requires.prepared.check c.fill_profile-nh.ensures.0.grid in (
-      few c.requires.arc_lt_arcs.1.runs.grid refl c.requires.arc_lt_arcs.1.in_v,
-      few c.fill_runs-na.ensures.0.grid c.fill_runs-na.auto.travels c.requires.rooms.arc_v,
-      few h (c.fill_profile-nh.auto.values ∙ c.fill_runs-na.auto.values) c.requires.rooms.head_v,
-    )
+pub invariant_of-arc : goal.invariant_of-arc
+invariant_of-arc c = let grid = c.fill_runs-na.ensures.0.grid in
+    record {
+      listed = listed grid c.fill_runs-na.auto.starts c.requires.rooms.arc_s;
+      valued = few grid c.fill_runs-na.auto.travels c.requires.rooms.arc_v;
+    }
 
-pub merge-requires-clause-short : goal.merge-requires-clause-short
-merge-requires-clause-short c = c.fill_runs-na.ensures.1
+pub invariant_of-head : goal.invariant_of-head
+invariant_of-head c = let grid = grid_here c.requires.prepared.check c.fill_profile-nh.ensures.0.grid in
+    record {
+      listed = listed grid c.fill_profile-nh.auto.starts c.requires.rooms.head_s;
+      valued = few grid (c.fill_profile-nh.auto.values ∙ c.fill_runs-na.auto.values) c.requires.rooms.head_v;
+    }
 
-pub merge-requires-clause-period_nonzero : goal.merge-requires-clause-period_nonzero
-merge-requires-clause-period_nonzero c = (
-  c.requires.prepared.check.town.small.period_some,
-  period_fits
-      c.requires.prepared.check,
-  c.requires.rooms.bytes,
-)
+pub invariant_of-sides : goal.invariant_of-sides
+invariant_of-sides c = record {
+  one_day = (refl, refl);
+  some = (c.requires.prepared.check.town.small.period_some, period_fits c.requires.prepared.check);
+  short = c.fill_runs-na.ensures.1;
+}
+
+pub merge-requires : goal.merge-requires
+merge-requires c = c.requires.rooms.bytes
 
 pub shape_of-sa : goal.shape_of-sa
 shape_of-sa c = c.fill_runs-na.auto.starts

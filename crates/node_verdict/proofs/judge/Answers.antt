@@ -46,9 +46,9 @@ pub returns-then-node-target : goal.returns-then-node-target
 returns-then-node-target c = told_home c.requires.at_border.prepared _ _ c.requires.limit_bound.0 _
     c.if-node-target.true c.mark_home.ensures.0 c.mark_home.ensures.1 c.judge_marks.ensures
 
-pub returns-then-limit-le-CHECK_LESS : goal.returns-then-limit-le-CHECK_LESS
-returns-then-limit-le-CHECK_LESS c = told_skipped c.requires.at_border.prepared _ _ c.requires.limit_bound.0
-    _ c.if-node-target.false c.if-limit-le-CHECK_LESS.true
+pub returns-then-limit-le-LESS : goal.returns-then-limit-le-LESS
+returns-then-limit-le-LESS c = told_skipped c.requires.at_border.prepared _ _ c.requires.limit_bound.0
+    _ c.if-node-target.false c.if-limit-le-LESS.true
 
 pub overflow_mul-target : goal.overflow_mul-target
 overflow_mul-target c = product_fits c.requires.at_border.prepared.check.formed

@@ -10,7 +10,11 @@ pub returns-then-is_set : goal.returns-then-is_set
 returns-then-is_set c = (flag_stands _ _ c.is_set.ensures _ c.if-is_set.true, refl)
 
 pub bounds-low-v : goal.bounds-low-v
-bounds-low-v c = omega (arith, head_node c.requires.primed.0.town _ _ c.requires.a_lt_arcs.0 c.head-v.ensures.0, c.requires.primed.0.town.small.nodes_most)
+bounds-low-v c = omega (
+  arith,
+  head_node c.requires.primed.0.town _ _ c.requires.a_lt_arcs.0 c.head-v.ensures.0,
+  c.requires.primed.0.town.small.nodes_most,
+)
 
 pub bounds-room-u : goal.bounds-room-u
 bounds-room-u c = omega (
@@ -19,19 +23,13 @@ bounds-room-u c = omega (
   c.requires.primed.0.town.small.nodes_most,
 )
 
-pub returns-then-size-wide : goal.returns-then-size-wide
-returns-then-size-wide c =
+pub returns-then-ruled_out : goal.returns-then-ruled_out
+returns-then-ruled_out c =
     let none = ruled_out c.requires.primed.0 c.requires.worked.0 c.requires.worked.1 c.requires.a_lt_arcs.0
     c.tail-u.ensures.0
     c.head-v.ensures.0
     (c.requires.primed.1.arc _ c.requires.a_lt_arcs.0)
-    (omega (
-      arith,
-      c.if-size-wide.true,
-      c.wide.ensures,
-      c.size-2.ensures,
-      c.size.ensures,
-    )) in (
+    (omega (arith, c.if-ruled_out.true, c.from.ensures, c.from-2.ensures, c.from-3.ensures)) in (
       flag_left _ _ c.is_set.ensures none c.if-is_set.false refl,
       refl,
     )
@@ -53,5 +51,7 @@ returns-then-is_start c = (
 )
 
 pub returns : goal.returns
-returns c =
-    (flag_left _ _ c.is_set.ensures c.is_start.ensures.0 c.if-is_set.false c.if-is_start.false, c.is_start.ensures.1)
+returns c = (
+  flag_left _ _ c.is_set.ensures c.is_start.ensures.0 c.if-is_set.false c.if-is_start.false,
+  c.is_start.ensures.1,
+)

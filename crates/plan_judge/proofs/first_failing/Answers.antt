@@ -264,43 +264,43 @@ returns-after-borders c =
     ) in
     (rw e at c.borders.invariant.3, rw e at c.borders.invariant.4)
 
-pub shape_of-so-then-best-le-CHECK_BORDER : goal.shape_of-so-then-best-le-CHECK_BORDER
-shape_of-so-then-best-le-CHECK_BORDER c =
+pub shape_of-so-then-best-le-BORDER : goal.shape_of-so-then-best-le-BORDER
+shape_of-so-then-best-le-BORDER c =
     omega (arith, c.places.invariant.1.own_s, c.requires.lent.own_s)
 
-pub shape_of-vo-then-best-le-CHECK_BORDER : goal.shape_of-vo-then-best-le-CHECK_BORDER
-shape_of-vo-then-best-le-CHECK_BORDER c =
+pub shape_of-vo-then-best-le-BORDER : goal.shape_of-vo-then-best-le-BORDER
+shape_of-vo-then-best-le-BORDER c =
     omega (arith, c.places.invariant.1.own_v, c.requires.lent.own_v)
 
-pub shape_of-sa-then-best-le-CHECK_BORDER : goal.shape_of-sa-then-best-le-CHECK_BORDER
-shape_of-sa-then-best-le-CHECK_BORDER c =
+pub shape_of-sa-then-best-le-BORDER : goal.shape_of-sa-then-best-le-BORDER
+shape_of-sa-then-best-le-BORDER c =
     omega (arith, c.places.invariant.1.arc_s, c.requires.lent.arc_s)
 
-pub shape_of-va-then-best-le-CHECK_BORDER : goal.shape_of-va-then-best-le-CHECK_BORDER
-shape_of-va-then-best-le-CHECK_BORDER c =
+pub shape_of-va-then-best-le-BORDER : goal.shape_of-va-then-best-le-BORDER
+shape_of-va-then-best-le-BORDER c =
     omega (arith, c.places.invariant.1.arc_v, c.requires.lent.arc_v)
 
-pub shape_of-sh-then-best-le-CHECK_BORDER : goal.shape_of-sh-then-best-le-CHECK_BORDER
-shape_of-sh-then-best-le-CHECK_BORDER c =
+pub shape_of-sh-then-best-le-BORDER : goal.shape_of-sh-then-best-le-BORDER
+shape_of-sh-then-best-le-BORDER c =
     omega (arith, c.places.invariant.1.head_s, c.requires.lent.head_s)
 
-pub shape_of-vh-then-best-le-CHECK_BORDER : goal.shape_of-vh-then-best-le-CHECK_BORDER
-shape_of-vh-then-best-le-CHECK_BORDER c =
+pub shape_of-vh-then-best-le-BORDER : goal.shape_of-vh-then-best-le-BORDER
+shape_of-vh-then-best-le-BORDER c =
     omega (arith, c.places.invariant.1.head_v, c.requires.lent.head_v)
 
-pub shape_of-marks-then-best-le-CHECK_BORDER : goal.shape_of-marks-then-best-le-CHECK_BORDER
-shape_of-marks-then-best-le-CHECK_BORDER c =
+pub shape_of-marks-then-best-le-BORDER : goal.shape_of-marks-then-best-le-BORDER
+shape_of-marks-then-best-le-BORDER c =
     omega (arith, c.places.invariant.1.bytes, c.requires.lent.bytes)
 
-pub returns-then-best-le-CHECK_BORDER : goal.returns-then-best-le-CHECK_BORDER
-returns-then-best-le-CHECK_BORDER c = let e : c.places.node ≡ nodes (decode c.args.network.now) =
+pub returns-then-best-le-BORDER : goal.returns-then-best-le-BORDER
+returns-then-best-le-BORDER c = let e : c.places.node ≡ nodes (decode c.args.network.now) =
     omega (arith, c.places-test.false, c.places.invariant.0, c.requires.equipped.check.town.sizes.nodes) in
     let tally = tally_more _ _ (λ a m. (c.requires.equipped.check.town.sound.arc a m).tail_node)
     c.borders.invariant.4 (rw e at c.places.invariant.4) c.places.invariant.3
     c.borders.invariant.3.high in (
-      stands_least c.places.invariant.2 c.if-best-le-CHECK_BORDER.true _,
+      stands_least c.places.invariant.2 c.if-best-le-BORDER.true _,
       tally_least _ _ (λ a m. (c.requires.equipped.check.town.sound.arc a m).tail_node) tally
-          (omega (arith, c.if-best-le-CHECK_BORDER.true))
+          (omega (arith, c.if-best-le-BORDER.true))
           (omega (
             arith,
             c.borders-test.true,

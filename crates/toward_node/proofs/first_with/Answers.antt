@@ -1,17 +1,16 @@
--- `first_with` meets its contract: of the nodes passed none has the most, and one has.
-use Rattle.toward_node.specs.Nearest.{unmet_none, unmet_more, unmet_end}
-use borrow.Author.Rules.{rules}
+-- `first_with` meets its contract: the first that has the most, and one has.
+use mathlib.Core.{Path.◌≡◌, Logic.◌≢◌}
+use native.Mathlib.Omega.{arith}
+use Rattle.std.proofs.Common.{take}
+use Rattle.std.proofs.lemmas.Iterator.{YieldsList-from_slice, IsFirst-from_position}
+use borrow.Author.{Rules.rules, Tests.tests}
+use Rattle.toward_node.specs.Nearest.{first_met}
 use Rattle.toward_node.proofs.first_with.Goals as goal
-
-pub loop-v-init : goal.loop-v-init
-loop-v-init c = (search rules, search unmet_none)
-
-pub returns-then-near-v : goal.returns-then-near-v
-returns-then-near-v c = (c.loop-v-test.true, c.if-near-v.true)
-
-pub loop-v-preserved : goal.loop-v-preserved
-loop-v-preserved c = (search rules, unmet_more _ _ _ c.loop-v.invariant.1 c.if-near-v.false)
 
 pub returns : goal.returns
 returns c =
-    unmet_end _ _ _ _ c.requires.1 c.loop-v.invariant.1 c.loop-v-test.false c.requires.2
+    first_met _ _ _ _ _ (omega arith) c.requires.1 c.requires.2
+    (IsFirst-from_position _ _ _ (λ x. x ≡ c.args.most) (λ x. x ≢ c.args.most) c.position.ensures.ran
+    (YieldsList-from_slice (take c.args.nodes c.args.near.now) cc) (λ x q k. search (rules, tests))
+    (λ x q k. search (rules, tests)))
+    c.unwrap_or.ensures

@@ -1,14 +1,19 @@
 -- `most_near` meets its contract: of the nodes passed none has more.
+use native.Mathlib.Omega.{arith}
+use Rattle.std.proofs.lemmas.List.{length-take-le, get_or-take}
 use Rattle.toward_node.specs.Nearest.{most_none, most_more, most_end}
-use borrow.Author.Rules.{rules}
 use Rattle.toward_node.proofs.most_near.Goals as goal
 
-pub loop-v-init : goal.loop-v-init
-loop-v-init c = (search rules, search most_none)
+pub loop-entry-init : goal.loop-entry-init
+loop-entry-init c = most_none _
 
-pub loop-v-preserved : goal.loop-v-preserved
-loop-v-preserved c =
-    (search rules, most_more _ _ _ _ c.loop-v.invariant.1 c.greater-most.ensures)
+pub loop-entry-preserved : goal.loop-entry-preserved
+loop-entry-preserved c =
+    let long = length-take-le c.args.nodes c.args.near.now (omega arith) in
+    let entry = get_or-take c.args.nodes c.args.near.now c.loop-entry.entry-index 0 (omega arith) in
+    most_more _ _ _ _ c.loop-entry.invariant (rw entry at c.max-most.ensures)
 
 pub returns : goal.returns
-returns c = most_end _ _ _ _ c.loop-v.invariant.1 c.loop-v.invariant.0 c.loop-v-test.false
+returns c =
+    let long = length-take-le c.args.nodes c.args.near.now (omega arith) in
+    most_end _ _ _ _ c.loop-entry.invariant (omega arith) (omega arith)

@@ -21,7 +21,7 @@ pub loop-a-init : goal.loop-a-init
 loop-a-init c =
     walking_start c.requires.ready.0 _ c.requires.v_lt_nodes.0 c.requires.v_lt_nodes.1
     c.requires.v_lt_nodes.3 c.requires.v_lt_nodes.4
-    c.copy_row.ensures c.wide-a.ensures.0
+    c.copy_row.ensures c.from-a.ensures
 
 pub lower_tail-requires-clause-primed : goal.lower_tail-requires-clause-primed
 lower_tail-requires-clause-primed c = (c.requires.ready.0.primed, c.requires.ready.1)
@@ -50,12 +50,12 @@ bounds-next-a c =
 
 pub loop-a-smaller : goal.loop-a-smaller
 loop-a-smaller c =
-    walking_less c.requires.ready.0 c.loop-a.invariant c.loop-a-test.true c.wide-a-in-loop-a.ensures.0
+    walking_less c.requires.ready.0 c.loop-a.invariant c.loop-a-test.true c.from-a-in-loop-a.ensures
 
 pub loop-a-preserved : goal.loop-a-preserved
 loop-a-preserved c =
     walking_next c.requires.ready.0 c.loop-a.invariant c.loop-a-test.true
-    c.lower_tail.ensures c.wide-a-in-loop-a.ensures.0
+    c.lower_tail.ensures c.from-a-in-loop-a.ensures
 
 pub shape_of-work : goal.shape_of-work
 shape_of-work c =

@@ -1,8 +1,5 @@
-use Rattle.toward_points.specs.Row.{turning}
+use Rattle.toward_points.specs.Row.{differ_told}
 use Rattle.toward_points.proofs.turn.Goals as goal
 
-pub returns-then-before-after : goal.returns-then-before-after
-returns-then-before-after c = search turning
-
 pub returns : goal.returns
-returns c = search turning
+returns c = differ_told _ _ _ c.from.ensures

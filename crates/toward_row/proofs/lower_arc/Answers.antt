@@ -7,7 +7,7 @@ lower_points-requires-clause-laid c = c.requires.primed.town.laid
 
 pub lower_points-requires-clause-arc : goal.lower_points-requires-clause-arc
 lower_points-requires-clause-arc c = arc_of_lem c.requires.primed c.requires.arc_lt_arcs.0 _ _
-    c.wide-from.ensures.0
+    c.from-from.ensures
     c.count-count.ensures.0
 
 pub lower_points-requires-clause-period_in_bounds : goal.lower_points-requires-clause-period_in_bounds
@@ -19,6 +19,6 @@ lower_points-requires-clause-period_in_bounds c = (
 
 pub returns : goal.returns
 returns c =
-    arc_lowered c.requires.primed c.requires.arc_lt_arcs.0 _ _ c.wide-from.ensures.0
+    arc_lowered c.requires.primed c.requires.arc_lt_arcs.0 _ _ c.from-from.ensures
     c.count-count.ensures.0 _ _ _ _
     c.lower_points.ensures

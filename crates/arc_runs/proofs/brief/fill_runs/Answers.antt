@@ -43,9 +43,9 @@ returns c = let h : 128 ≤ c.args.brief = omega arith in
     let in_v : 0 < length c.args.travels.now = omega
     (arith, c.requires.space.1, c.requires.town.small.period_some) in (
       steady_runs c.requires.brief h c.requires.town.small.period_some c.args.starts.now c.args.travels.now
-          in_s in_v c.put_steady.ensures.0 c.put_steady.ensures.1,
+          in_s in_v c.put_steady.ensures.0 (rw c.from.ensures at c.put_steady.ensures.1),
       steady_short c.requires.brief h c.requires.town.small.period_some c.args.starts.now c.args.travels.now
-          in_s in_v c.put_steady.ensures.1
+          in_s in_v (rw c.from.ensures at c.put_steady.ensures.1)
           (most_travel c.requires.town c.requires.arc_lt_arcs.0),
       none-fewer _,
       none_more _ _,

@@ -6,14 +6,14 @@ use Rattle.c_trip.proofs.trip.write_trip.Goals as goal
 pub write_arrived-requires : goal.write_arrived-requires
 write_arrived-requires c = (search replies, search replies, search rules)
 
-pub returns-in-Arrived-clause-code : goal.returns-in-Arrived-clause-code
-returns-in-Arrived-clause-code c = search replies
+pub returns-in-Ok-clause-code : goal.returns-in-Ok-clause-code
+returns-in-Ok-clause-code c = search replies
 
-pub returns-in-Arrived-clause-bytes : goal.returns-in-Arrived-clause-bytes
-returns-in-Arrived-clause-bytes c = search replies
+pub returns-in-Ok-clause-bytes : goal.returns-in-Ok-clause-bytes
+returns-in-Ok-clause-bytes c = search replies
 
-pub returns-in-Refused-clause-code : goal.returns-in-Refused-clause-code
-returns-in-Refused-clause-code c = search replies
+pub returns-in-Err-clause-code : goal.returns-in-Err-clause-code
+returns-in-Err-clause-code c = search replies
 
-pub returns-in-Refused-clause-bytes : goal.returns-in-Refused-clause-bytes
-returns-in-Refused-clause-bytes c = search replies
+pub returns-in-Err-clause-bytes : goal.returns-in-Err-clause-bytes
+returns-in-Err-clause-bytes c = search replies

@@ -7,7 +7,7 @@ use Rattle.day_sheet.proofs.sheet.list_day.Goals as goal
 pub returns-then-never : goal.returns-then-never
 returns-then-never c =
     row_none c.requires.town c.requires.from_lt_nodes.0 c.travels_to.ensures c.row_place-p.ensures.0
-    c.if-never.true c.unlisted.ensures
+    c.if-never.true c.refused.ensures
 
 pub put_arrivals-requires : goal.put_arrivals-requires
 put_arrivals-requires c = (

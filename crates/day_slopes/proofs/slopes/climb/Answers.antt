@@ -1,4 +1,4 @@
--- `day_runs::slopes::climb` meets its contract.
+-- `day_slopes::slopes::climb` meets its contract.
 use native.Mathlib.{Nat.le_of_lt, Omega.arith}
 use mathlib.Core.Path.{◌≡◌, refl}
 use Prim.Native.Nat.{◌+◌, ◌-◌, ◌*◌, ◌<◌}
@@ -13,7 +13,7 @@ loop-x-init c = (
   search rules,
   search rules,
   search walks,
-  steep_start c.requires.room _ _ (c.args.v * 4294967296 + 4294967295) 0 refl,
+  steep_start c.requires.room _ _ (c.args.p.v * 4294967296 + 4294967295) 0 refl,
 )
 
 pub put-requires : goal.put-requires
@@ -24,22 +24,25 @@ put-requires c =
 pub overflow_add-parts : goal.overflow_add-parts
 overflow_add-parts c =
     let m =
-    climb_may c.args.a c.args.v c.args.b c.args.w _ _ c.requires.room.apart
-    (omega (arith, c.requires.room.last)) refl (le_of_lt c.requires.v_lt_w)
+    climb_may c.args.p.a c.args.p.v c.args.p.b c.args.p.w (c.from.result * 4294967296 + 4294967295) _
+    c.requires.room.apart
+    (omega (arith, c.requires.room.last)) (rw c.from.ensures) (le_of_lt c.requires.v_lt_w)
     c.step_down-step.ensures
     (omega arith) (omega arith) in
-    climb_fits _ _ c.args.a _ c.loop-x.x c.args.b c.loop-x.invariant.0 (omega (arith, c.loop-x-test.true)) m c.loop-x.invariant.2
+    climb_fits _ _ c.args.p.a _ c.loop-x.x c.args.p.b c.loop-x.invariant.0 (omega (arith, c.loop-x-test.true))
+    m c.loop-x.invariant.2
 
 pub loop-x-preserved : goal.loop-x-preserved
 loop-x-preserved c =
-    let h : c.loop-x.x < c.args.b = omega arith in (
+    let h : c.loop-x.x < c.args.p.b = omega arith in (
       search rules,
       search rules,
-      climb_next _ _ c.args.a _ c.loop-x.x c.args.b c.loop-x.invariant.0 h c.loop-x.invariant.2,
-      climb_more c.requires.room _ _ _ _ refl _ _ _ _ c.loop-x.x _ c.loop-x.invariant.3 c.loop-x.invariant.0 h (le_of_lt c.requires.v_lt_w)
+      climb_next _ _ c.args.p.a _ c.loop-x.x c.args.p.b c.loop-x.invariant.0 h c.loop-x.invariant.2,
+      climb_more c.requires.room _ _ _ _ (rw c.from.ensures) _ _ _ _ c.loop-x.x _
+          c.loop-x.invariant.3 c.loop-x.invariant.0 h (le_of_lt c.requires.v_lt_w)
           c.step_down-step.ensures
-          (climb_entry _ _ c.args.a _ c.loop-x.x c.args.b c.loop-x.invariant.0 h _
-          c.whole_value.ensures c.loop-x.invariant.2)
+          (climb_entry _ _ c.args.p.a _ c.loop-x.x c.args.p.b c.loop-x.invariant.0 h _
+          c.wholes.ensures c.loop-x.invariant.2)
           c.put.ensures.0
           c.put.ensures.1,
     )
@@ -51,12 +54,13 @@ put-requires-2 c =
 
 pub returns : goal.returns
 returns c =
-    let h : c.loop-x.x < c.args.b = omega (arith, c.requires.room.apart) in
-    let z : c.args.b ≡ c.loop-x.x + 1 = omega (arith, c.requires.room.apart) in
-    let q : c.args.b - 1 ≡ c.loop-x.x = omega arith in
-    climb_last c.requires.room _ _ _ _ refl _ _ _ _ c.loop-x.x _ c.loop-x.invariant.3 c.loop-x.invariant.0 h (le_of_lt c.requires.v_lt_w)
+    let h : c.loop-x.x < c.args.p.b = omega (arith, c.requires.room.apart) in
+    let z : c.args.p.b ≡ c.loop-x.x + 1 = omega (arith, c.requires.room.apart) in
+    let q : c.args.p.b - 1 ≡ c.loop-x.x = omega arith in
+    climb_last c.requires.room _ _ _ _ (rw c.from.ensures) _ _ _ _ c.loop-x.x _
+    c.loop-x.invariant.3 c.loop-x.invariant.0 h (le_of_lt c.requires.v_lt_w)
     c.step_down-step.ensures
-    (climb_entry _ _ c.args.a _ c.loop-x.x c.args.b c.loop-x.invariant.0 h _
-    c.whole_value-2.ensures c.loop-x.invariant.2) z
+    (climb_entry _ _ c.args.p.a _ c.loop-x.x c.args.p.b c.loop-x.invariant.0 h _
+    c.wholes-2.ensures c.loop-x.invariant.2) z
     (rw q at c.put-2.ensures.0)
     (rw q at c.put-2.ensures.1)

@@ -1,4 +1,4 @@
--- `day_runs::slopes::falling` meets its contract.
+-- `day_slopes::slopes::falling` meets its contract.
 use Prim.Native.Nat.{◌+◌}
 use native.Mathlib.Omega.{arith}
 use Rattle.day_slopes.specs.{Held.held_room, Falling.fall_end}
@@ -16,8 +16,8 @@ loop-j-init c = (
 
 pub overflow_add-parts : goal.overflow_add-parts
 overflow_add-parts c =
-    fall_fits c.requires.room _ _ _ c.requires.w_lt_v.0 c.requires.w_lt_v.1 c.step_down-step.ensures c.loop-j.j
-    _ c.loop-j.invariant.1 (omega (arith, c.loop-j-test.true))
+    fall_fits c.requires.room _ _ _ c.requires.w_lt_v.0 c.requires.w_lt_v.1
+    c.step_down-step.ensures c.loop-j.j _ c.loop-j.invariant.1 (omega (arith, c.loop-j-test.true))
 
 pub overflow_add-e : goal.overflow_add-e
 overflow_add-e c =

@@ -1,4 +1,4 @@
--- `day_runs::slopes::rising` meets its contract.
+-- `day_slopes::slopes::rising` meets its contract.
 use native.Mathlib.Omega.{arith}
 use Rattle.day_slopes.specs.{Held.held_room, Rising.rise_end}
 use Rattle.day_slopes.specs.Rising.{rise_start, rise_fits, rise_below, rise_within, rise_more}
@@ -60,5 +60,6 @@ loop-j-preserved c = (
 
 pub returns : goal.returns
 returns c =
-    rise_end c.requires.room _ _ _ c.requires.v_lt_w.0 c.requires.v_lt_w.1 c.step_up-step.ensures _ _ c.loop-j.j
+    rise_end c.requires.room _ _ _ c.requires.v_lt_w.0 c.requires.v_lt_w.1
+    c.step_up-step.ensures _ _ c.loop-j.j
     c.loop-j.invariant.2 c.loop-j.invariant.0 c.loop-j-test.false

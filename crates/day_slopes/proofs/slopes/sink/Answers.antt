@@ -1,4 +1,4 @@
--- `day_runs::slopes::sink` meets its contract.
+-- `day_slopes::slopes::sink` meets its contract.
 use native.Mathlib.{Nat.le_of_lt, Omega.arith}
 use mathlib.Core.Path.{◌≡◌, refl}
 use Prim.Native.Nat.{◌+◌, ◌-◌, ◌*◌, ◌<◌}
@@ -13,7 +13,7 @@ loop-x-init c = (
   search rules,
   search rules,
   search walks,
-  steep_start c.requires.room _ _ (c.args.v * 4294967296 + 4294967295) 0 refl,
+  steep_start c.requires.room _ _ (c.args.p.v * 4294967296 + 4294967295) 0 refl,
 )
 
 pub put-requires : goal.put-requires
@@ -24,27 +24,31 @@ put-requires c =
 pub overflow_sub-parts : goal.overflow_sub-parts
 overflow_sub-parts c =
     let m =
-    sink_may c.args.a c.args.v c.args.b c.args.w _ _ c.requires.room.apart
-    (omega (arith, c.requires.room.last)) refl c.requires.w_lt_v
+    sink_may c.args.p.a c.args.p.v c.args.p.b c.args.p.w (c.from.result * 4294967296 + 4294967295) _
+    c.requires.room.apart
+    (omega (arith, c.requires.room.last)) (rw c.from.ensures) c.requires.w_lt_v
     c.step_up-step.ensures
     (omega arith) (omega arith) in
-    sink_fits _ _ c.args.a _ c.loop-x.x c.args.b c.loop-x.invariant.0 (omega (arith, c.loop-x-test.true)) m c.loop-x.invariant.2
+    sink_fits _ _ c.args.p.a _ c.loop-x.x c.args.p.b c.loop-x.invariant.0 (omega (arith, c.loop-x-test.true))
+    m c.loop-x.invariant.2
 
 pub loop-x-preserved : goal.loop-x-preserved
 loop-x-preserved c =
-    let h : c.loop-x.x < c.args.b = omega arith in
+    let h : c.loop-x.x < c.args.p.b = omega arith in
     let m =
-    sink_may c.args.a c.args.v c.args.b c.args.w _ _ c.requires.room.apart
-    (omega (arith, c.requires.room.last)) refl c.requires.w_lt_v
+    sink_may c.args.p.a c.args.p.v c.args.p.b c.args.p.w (c.from.result * 4294967296 + 4294967295) _
+    c.requires.room.apart
+    (omega (arith, c.requires.room.last)) (rw c.from.ensures) c.requires.w_lt_v
     c.step_up-step.ensures
     (omega arith) (omega arith) in (
       search rules,
       search rules,
-      sink_next _ _ c.args.a _ c.loop-x.x c.args.b c.loop-x.invariant.0 h m c.loop-x.invariant.2,
-      sink_more c.requires.room _ _ _ _ refl _ _ _ _ c.loop-x.x _ c.loop-x.invariant.3 c.loop-x.invariant.0 h (le_of_lt c.requires.w_lt_v)
+      sink_next _ _ c.args.p.a _ c.loop-x.x c.args.p.b c.loop-x.invariant.0 h m c.loop-x.invariant.2,
+      sink_more c.requires.room _ _ _ _ (rw c.from.ensures) _ _ _ _ c.loop-x.x _
+          c.loop-x.invariant.3 c.loop-x.invariant.0 h (le_of_lt c.requires.w_lt_v)
           c.step_up-step.ensures
-          (sink_entry _ _ c.args.a _ c.loop-x.x c.args.b c.loop-x.invariant.0 h _
-          c.whole_value.ensures c.loop-x.invariant.2)
+          (sink_entry _ _ c.args.p.a _ c.loop-x.x c.args.p.b c.loop-x.invariant.0 h _
+          c.wholes.ensures c.loop-x.invariant.2)
           c.put.ensures.0
           c.put.ensures.1,
     )
@@ -56,12 +60,13 @@ put-requires-2 c =
 
 pub returns : goal.returns
 returns c =
-    let h : c.loop-x.x < c.args.b = omega (arith, c.requires.room.apart) in
-    let z : c.args.b ≡ c.loop-x.x + 1 = omega (arith, c.requires.room.apart) in
-    let q : c.args.b - 1 ≡ c.loop-x.x = omega arith in
-    sink_last c.requires.room _ _ _ _ refl _ _ _ _ c.loop-x.x _ c.loop-x.invariant.3 c.loop-x.invariant.0 h (le_of_lt c.requires.w_lt_v)
+    let h : c.loop-x.x < c.args.p.b = omega (arith, c.requires.room.apart) in
+    let z : c.args.p.b ≡ c.loop-x.x + 1 = omega (arith, c.requires.room.apart) in
+    let q : c.args.p.b - 1 ≡ c.loop-x.x = omega arith in
+    sink_last c.requires.room _ _ _ _ (rw c.from.ensures) _ _ _ _ c.loop-x.x _
+    c.loop-x.invariant.3 c.loop-x.invariant.0 h (le_of_lt c.requires.w_lt_v)
     c.step_up-step.ensures
-    (sink_entry _ _ c.args.a _ c.loop-x.x c.args.b c.loop-x.invariant.0 h _
-    c.whole_value-2.ensures c.loop-x.invariant.2) z
+    (sink_entry _ _ c.args.p.a _ c.loop-x.x c.args.p.b c.loop-x.invariant.0 h _
+    c.wholes-2.ensures c.loop-x.invariant.2) z
     (rw q at c.put-2.ensures.0)
     (rw q at c.put-2.ensures.1)

@@ -1,4 +1,4 @@
--- `day_merge::walk::ends` meets its contract.
+-- `day_walk::walk::ends` meets its contract.
 use mathlib.Core.Path.{refl}
 use native.Mathlib.Omega.{arith}
 use Rattle.day_walk.specs.Walk.{turned}

@@ -4,10 +4,10 @@ use Rattle.dimacs_import.proofs.import.import_dimacs.Goals as goal
 
 pub import_sized-requires : goal.import_sized-requires
 import_sized-requires c =
-    accepted_within _ _ _ _ _ _ c.judge.ensures c.in-Accepted.is
+    accepted_within _ _ _ _ c.judge.ensures c.in-Ok.is
 
-pub returns-in-Refused : goal.returns-in-Refused
-returns-in-Refused c = search import_refused
+pub returns-in-Err : goal.returns-in-Err
+returns-in-Err c = search import_refused
 
-pub returns-in-Accepted : goal.returns-in-Accepted
-returns-in-Accepted c = search roads_imported
+pub returns-in-Ok : goal.returns-in-Ok
+returns-in-Ok c = search roads_imported

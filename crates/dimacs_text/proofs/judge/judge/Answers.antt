@@ -3,4 +3,4 @@ use Rattle.dimacs_text.specs.Noting.{judged_into}
 use Rattle.dimacs_text.proofs.judge.judge.Goals as goal
 
 pub returns : goal.returns
-returns c = search judged_into
+returns c = judged_into _ _ _ _ c.read.ensures.0 c.read.ensures.1 c.judged.ensures

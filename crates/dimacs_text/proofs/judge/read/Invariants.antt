@@ -7,7 +7,7 @@ use Rattle.dimacs_text.proofs.judge.read.Given as goal
 
 abbrev pub invariant-loop-at : goal.invariant-loop-at
 invariant-loop-at l =
-    ReadTo l.text l.at l.r × NotedTo l.text l.at l.r l.tails l.heads l.travels
+    ReadTo l.text l.at l.r × NotedTo l.text l.at l.r l.roads
 
 abbrev pub decreases-loop-at : goal.decreases-loop-at
 decreases-loop-at l = length l.text + 1 - l.at

@@ -18,30 +18,30 @@ loop-j-init c = (zero-le, search whole_none, search whole_none)
 
 pub entries_in-m-requires : goal.entries_in-m-requires
 entries_in-m-requires c =
-    let below : c.loop-j.j < blocks c.args.per c.args.n =
+    let below : c.loop-j.j < blocks c.args.run.kind.per c.args.run.count =
     omega arith in
-    let starts : c.args.per * c.loop-j.j ≤ c.args.n =
+    let starts : c.args.run.kind.per * c.loop-j.j ≤ c.args.run.count =
     block_starts _ _ _ _ _ c.requires.run_in_file _ below in
     starts
 
-pub overflow_mul-per : goal.overflow_mul-per
-overflow_mul-per c =
-    let below : c.loop-j.j < blocks c.args.per c.args.n =
+pub overflow_mul-run : goal.overflow_mul-run
+overflow_mul-run c =
+    let below : c.loop-j.j < blocks c.args.run.kind.per c.args.run.count =
     omega arith in
-    let starts : c.args.per * c.loop-j.j ≤ c.args.n =
+    let starts : c.args.run.kind.per * c.loop-j.j ≤ c.args.run.count =
     block_starts _ _ _ _ _ c.requires.run_in_file _ below in
     omega (arith, starts)
 
 pub decode_part_pairs-requires : goal.decode_part_pairs-requires
 decode_part_pairs-requires c =
-    let below : c.loop-j.j < blocks c.args.per c.args.n =
+    let below : c.loop-j.j < blocks c.args.run.kind.per c.args.run.count =
     omega arith in
-    let starts : c.args.per * c.loop-j.j ≤ c.args.n =
+    let starts : c.args.run.kind.per * c.loop-j.j ≤ c.args.run.count =
     block_starts _ _ _ _ _ c.requires.run_in_file _ below in
-    let inside : block_size * (c.args.from + c.loop-j.j) + block_size ≤ length c.args.file.now =
+    let inside : block_size * (c.args.run.from + c.loop-j.j) + block_size ≤ length c.args.file.now =
     block_in _ _ _ _ _ c.requires.run_in_file _ below in
     let fits : (m : ℕ)
-    → m ≡ entries_in c.args.per c.args.n c.loop-j.j → pair_size * m ≤ entries_size =
+    → m ≡ entries_in c.args.run.kind.per c.args.run.count c.loop-j.j → pair_size * m ≤ entries_size =
     λ m e. block_fits _ _ _ _ _ c.requires.run_in_file _ below m e in (
       omega (arith, inside, fits c.entries_in-m.result c.entries_in-m.ensures),
       omega (arith, starts, c.loop-j.invariant.1.long),
@@ -50,11 +50,13 @@ decode_part_pairs-requires c =
 
 pub loop-j-preserved : goal.loop-j-preserved
 loop-j-preserved c =
-    let below : c.loop-j.j < blocks c.args.per c.args.n =
+    let below : c.loop-j.j < blocks c.args.run.kind.per c.args.run.count =
     omega arith in (
       omega (arith, below),
-      whole_more _ _ _ _ _ _ c.requires.run_in_file _ _ _ _ _ c.loop-j.invariant.1 below c.entries_in-m.ensures c.decode_part_pairs.ensures.0,
-      whole_more _ _ _ _ _ _ c.requires.run_in_file _ _ _ _ _ c.loop-j.invariant.2 below c.entries_in-m.ensures c.decode_part_pairs.ensures.1,
+      whole_more _ _ _ _ _ _ c.requires.run_in_file _ _ _ _ _
+          c.loop-j.invariant.1 below c.entries_in-m.ensures c.decode_part_pairs.ensures.0,
+      whole_more _ _ _ _ _ _ c.requires.run_in_file _ _ _ _ _
+          c.loop-j.invariant.2 below c.entries_in-m.ensures c.decode_part_pairs.ensures.1,
     )
 
 pub returns : goal.returns

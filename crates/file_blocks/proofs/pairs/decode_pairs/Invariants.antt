@@ -8,5 +8,8 @@ use Rattle.file_blocks.proofs.pairs.decode_pairs.Given as goal
 
 abbrev pub invariant-loop-j : goal.invariant-loop-j
 invariant-loop-j l =
-    (l.j ≤ blocks l.per l.n) × Filled 0 (min l.n (l.per * l.j)) (entry16 l.file l.from l.per pair_size 0) l.initial.lows l.lows
-    × Filled 0 (min l.n (l.per * l.j)) (entry16 l.file l.from l.per pair_size 2) l.initial.highs l.highs
+    (l.j ≤ blocks l.run.kind.per l.run.count)
+    × Filled 0 (min l.run.count (l.run.kind.per * l.j))
+    (entry16 l.file l.run.from l.run.kind.per pair_size 0) l.initial.lows l.lows
+    × Filled 0 (min l.run.count (l.run.kind.per * l.j))
+    (entry16 l.file l.run.from l.run.kind.per pair_size 2) l.initial.highs l.highs

@@ -6,5 +6,6 @@ use Rattle.file_blocks.proofs.pairs.decode_part_pairs.Given as goal
 
 abbrev pub invariant-loop-e : goal.invariant-loop-e
 invariant-loop-e l =
-    (l.e ≤ l.m) × Filled l.first (l.first + l.e) (part16 l.file l.base pair_size 0 l.first) l.initial.lows l.lows
+    (l.e ≤ l.m)
+    × Filled l.first (l.first + l.e) (part16 l.file l.base pair_size 0 l.first) l.initial.lows l.lows
     × Filled l.first (l.first + l.e) (part16 l.file l.base pair_size 2 l.first) l.initial.highs l.highs

@@ -6,4 +6,5 @@ use Rattle.file_blocks.proofs.place.decode_part16.Given as goal
 
 abbrev pub invariant-loop-e : goal.invariant-loop-e
 invariant-loop-e l =
-    (l.e ≤ l.m) × Filled l.first (l.first + l.e) (part16 l.file l.base l.size l.at l.first) l.initial.out l.out
+    (l.e ≤ l.m)
+    × Filled l.first (l.first + l.e) (part16 l.file l.base l.size l.at l.first) l.initial.out l.out

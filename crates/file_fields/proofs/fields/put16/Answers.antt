@@ -1,12 +1,10 @@
--- `file_fields::fields::put16` meets its contract: two stores, the low byte first.
-use Rattle.file_fields.specs.Put.{put_two}
+-- `file_fields::fields::put16` meets its contract.
 use native.Mathlib.Omega.{arith}
-use lib.ListN.{length-set}
-use borrow.Author.Rules.{rules}
+use mathlib.Core.Path.{◌∙◌}
+use Rattle.file_fields.specs.Put.{put_part, two_bytes}
 use Rattle.file_fields.proofs.fields.put16.Goals as goal
 
-pub bounds-out-o-2 : goal.bounds-out-o-2
-bounds-out-o-2 c = simp length-set (omega arith)
-
 pub returns : goal.returns
-returns c = put_two _ _ _ (search rules)
+returns c =
+    let bytes = c.copy_from_slice.ensures.after ∙ c.to_le_bytes.ensures ∙ two_bytes _ in
+    put_part 2 _ _ _ _ _ (omega arith) (omega arith) bytes

@@ -1,6 +1,10 @@
--- `file_fields::fields::put64` meets its contract: two fields of four bytes, the low one first.
-use Rattle.file_fields.specs.Put.{put_eight}
+-- `file_fields::fields::put64` meets its contract.
+use native.Mathlib.Omega.{arith}
+use mathlib.Core.Path.{◌∙◌}
+use Rattle.file_fields.specs.Put.{put_part, eight_bytes}
 use Rattle.file_fields.proofs.fields.put64.Goals as goal
 
 pub returns : goal.returns
-returns c = search put_eight
+returns c =
+    let bytes = c.copy_from_slice.ensures.after ∙ c.to_le_bytes.ensures ∙ eight_bytes _ in
+    put_part 8 _ _ _ _ _ (omega arith) (omega arith) bytes

@@ -17,7 +17,7 @@ is_unformed-requires-clause-j_bound c = omega arith
 
 pub returns-then-is_unformed : goal.returns-then-is_unformed
 returns-then-is_unformed c =
-    ap (λ j. c.args.from + j)
+    ap (λ j. c.args.run.from + j)
     (stop _ _ _ c.loop-j.invariant.1 (omega arith) (search firsts))
 
 pub loop-j-preserved : goal.loop-j-preserved
@@ -25,5 +25,5 @@ loop-j-preserved c = (search rules, search firsts)
 
 pub returns : goal.returns
 returns c =
-    ap (λ j. c.args.from + j)
+    ap (λ j. c.args.run.from + j)
     (c.blocks-m.ensures ∙ end _ _ _ c.loop-j.invariant.1 (omega arith) (omega arith))

@@ -6,4 +6,6 @@ use mathlib.Core.Path.{◌≡◌}
 use Rattle.file_forms.proofs.form.first_unformed.Given as goal
 
 abbrev pub invariant-loop-j : goal.invariant-loop-j
-invariant-loop-j l = (l.j ≤ l.m) × (first l.j (unformed l.file l.from l.kind l.per l.size l.n) ≡ l.j)
+invariant-loop-j l =
+    (l.j ≤ l.m) × (first l.j (unformed l.file l.run.from l.run.kind.number l.run.kind.per l.run.kind.size
+    l.run.count) ≡ l.j)

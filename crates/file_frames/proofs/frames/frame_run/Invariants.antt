@@ -7,4 +7,5 @@ use Rattle.file_frames.proofs.frames.frame_run.Given as goal
 
 abbrev pub invariant-loop-j : goal.invariant-loop-j
 invariant-loop-j l =
-    (l.j ≤ l.j-end) × (l.j-end ≡ blocks l.per l.n) × Framed l.kind l.per l.n l.from l.j l.initial.out l.out
+    (l.j ≤ l.j-end) × (l.j-end ≡ blocks l.run.kind.per l.run.count)
+    × Framed l.run.kind.number l.run.kind.per l.run.count l.run.from l.j l.initial.out l.out

@@ -7,7 +7,7 @@ pub returns-then-l-eq0 : goal.returns-then-l-eq0
 returns-then-l-eq0 c = (search reads, search rules)
 
 pub field16-requires-clause-entry_in_file : goal.field16-requires-clause-entry_in_file
-field16-requires-clause-entry_in_file c = search reads
+field16-requires-clause-entry_in_file c = rw c.hours_run.ensures (search reads)
 
 pub returns : goal.returns
-returns c = (search reads, search rules)
+returns c = let e = rw c.hours_run.ensures at c.field16.ensures in (search reads, e.1)

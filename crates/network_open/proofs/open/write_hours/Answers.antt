@@ -12,10 +12,13 @@ pub returns-then-l-eq0 : goal.returns-then-l-eq0
 returns-then-l-eq0 c = (search table_writes, search table_writes)
 
 pub decode16-requires-clause-run_in_file : goal.decode16-requires-clause-run_in_file
-decode16-requires-clause-run_in_file c = search hours_stored
+decode16-requires-clause-run_in_file c = rw c.hours_run-run.ensures (search hours_stored)
 
 pub decode16-requires-2-clause-run_in_file : goal.decode16-requires-2-clause-run_in_file
-decode16-requires-2-clause-run_in_file c = search hours_stored
+decode16-requires-2-clause-run_in_file c = rw c.hours_run-run.ensures (search hours_stored)
 
 pub returns : goal.returns
-returns c = (search table_writes, search table_writes)
+returns c =
+    let f = rw c.hours_run-run.ensures at c.decode16.ensures in
+    let g = rw c.hours_run-run.ensures at c.decode16-2.ensures in
+    (search table_writes, search table_writes)

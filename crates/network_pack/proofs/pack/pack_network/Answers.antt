@@ -5,8 +5,8 @@ use Rattle.network_pack.proofs.pack.pack_network.Goals as goal
 pub pack_within-requires : goal.pack_within-requires
 pack_within-requires c = (search inside_within, search inside_number)
 
-pub returns-in-Inside : goal.returns-in-Inside
-returns-in-Inside c = search numbers_inside
+pub returns-in-Some : goal.returns-in-Some
+returns-in-Some c = search numbers_inside
 
-pub returns-in-Outside : goal.returns-in-Outside
-returns-in-Outside c = search numbers_outside
+pub returns-in-None : goal.returns-in-None
+returns-in-None c = search numbers_outside

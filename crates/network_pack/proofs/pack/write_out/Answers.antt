@@ -10,7 +10,7 @@ overflow_mul-long c =
 
 pub returns-then-out-long : goal.returns-then-out-long
 returns-then-out-long c =
-    room_short _ c.requires _ _ c.if-out-long.true c.unwritten.ensures
+    room_short _ c.requires _ _ c.if-out-long.true c.refused.ensures
 
 pub overflow_cast-result : goal.overflow_cast-result
 overflow_cast-result c =

@@ -1,20 +1,13 @@
 -- `network_rules::rules::first_bad_hours` meets its contract.
-use Rattle.theory_loops.specs.First.{firsts}
+use mathlib.Core.Path.{refl}
+use Rattle.std.proofs.Common.{rules}
+use Rattle.theory_loops.specs.Position.{position_first}
 use Rattle.network_rules.specs.Hours.{hours_none}
-use borrow.Author.Rules.{rules}
 use Rattle.network_rules.proofs.rules.first_bad_hours.Goals as goal
 
 pub returns-then-l-eq0 : goal.returns-then-l-eq0
 returns-then-l-eq0 c = search hours_none
 
-pub loop-v-init : goal.loop-v-init
-loop-v-init c = (search rules, search firsts)
-
-pub returns-then-is_bad_hours : goal.returns-then-is_bad_hours
-returns-then-is_bad_hours c = search firsts
-
-pub loop-v-preserved : goal.loop-v-preserved
-loop-v-preserved c = (search rules, search firsts)
-
 pub returns : goal.returns
-returns c = search firsts
+returns c =
+    position_first _ _ c.position-bad.ensures.ran refl c.unwrap_or.ensures (λ k b q h. search rules)

@@ -21,7 +21,7 @@ returns-then-found-l c =
     c.if-a-l.false
     (sum_taken (laid_sizes c.requires) _ _
     (c.scan_arcs-found.ensures.1
-    c.if-a-l.false) c.if-found-l.true c.faulty-then-found-l.ensures)
+    c.if-a-l.false) c.if-found-l.true c.refused-then-found-l.ensures)
 
 pub judge_points-requires-clause-counted : goal.judge_points-requires-clause-counted
 judge_points-requires-clause-counted c = counted (laid_sizes c.requires) _ _

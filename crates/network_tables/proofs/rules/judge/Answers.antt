@@ -11,14 +11,14 @@ pub returns-then-v-l : goal.returns-then-v-l
 returns-then-v-l c =
     let p = c.requires in
     cell_taken p.sizes _ _ (cell_found p c.first_bad_cell-v.ensures)
-    c.if-v-l.true c.faulty.ensures
+    c.if-v-l.true c.refused.ensures
 
 pub returns-then-u-l : goal.returns-then-u-l
 returns-then-u-l c =
     let p = c.requires in
     cells_passed p.sizes _ _ (cell_found p c.first_bad_cell-v.ensures) c.if-v-l.false
     (hours_taken p.sizes _ _ (hours_found p c.first_bad_hours-u.ensures) c.if-u-l.true
-    c.faulty-then-u-l.ensures)
+    c.refused-then-u-l.ensures)
 
 pub overflow_cast-a : goal.overflow_cast-a
 overflow_cast-a c =
@@ -30,7 +30,7 @@ returns-then-a-l c =
     cells_passed p.sizes _ _ (cell_found p c.first_bad_cell-v.ensures) c.if-v-l.false
     (hours_passed p.sizes _ _ (hours_found p c.first_bad_hours-u.ensures) c.if-u-l.false
     (arc_taken p.sizes _ _ (arc_found p c.scan_arcs-found.ensures.0) c.if-a-l.true
-    c.faulty-then-a-l.ensures))
+    c.refused-then-a-l.ensures))
 
 pub overflow_cast-l : goal.overflow_cast-l
 overflow_cast-l c =
@@ -43,7 +43,7 @@ returns-then-found-l c =
     (hours_passed p.sizes _ _ (hours_found p c.first_bad_hours-u.ensures) c.if-u-l.false
     (arcs_passed_lem p.sizes _ _ (arc_found p c.scan_arcs-found.ensures.0) c.if-a-l.false
     (sum_taken p.sizes _ _ (sum_found p (c.scan_arcs-found.ensures.1 (omega (arith, p.sizes.arcs)))) c.if-found-l.true
-    c.faulty-then-found-l.ensures)))
+    c.refused-then-found-l.ensures)))
 
 pub judge_points-requires-clause-counted : goal.judge_points-requires-clause-counted
 judge_points-requires-clause-counted c =

@@ -9,12 +9,12 @@ returns-then-is_steady c = sym (c.is_steady.ensures c.if-is_steady.true)
 pub returns-then-bad-ticks : goal.returns-then-bad-ticks
 returns-then-bad-ticks c =
     point_taken refl _ _ c.scan_points-scan.ensures c.if-bad-ticks.true
-    c.faulty.ensures
+    c.refused.ensures
 
 pub returns-then-late-ticks : goal.returns-then-late-ticks
 returns-then-late-ticks c =
     late_taken refl _ _ c.scan_points-scan.ensures c.if-bad-ticks.false
-    c.if-late-ticks.true c.faulty-then-late-ticks.ensures
+    c.if-late-ticks.true c.refused-then-late-ticks.ensures
 
 pub returns : goal.returns
 returns c =

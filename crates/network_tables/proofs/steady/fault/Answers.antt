@@ -1,14 +1,10 @@
 -- `network_tables::steady::fault` meets its contract.
-use mathlib.Core.Path.{sym, ◌∙◌}
-use Rattle.network_tables.specs.Pairs.{both_none, ordered_by}
+use Rattle.network_tables.specs.Pairs.{ordered_by}
 use Rattle.network_tables.proofs.steady.fault.Goals as goal
 
 pub returns : goal.returns
-returns c = λ z.
-    let (late, far) = both_none c.plus-3.ensures z in
-    let (early, over) = both_none c.plus-late.ensures late in
-    let ends = rw (c.plus.ensures, c.plus-2.ensures) at
-    c.minus-2.ensures in
-    ordered_by _ _ _ _ _ _ _ c.less_one-low.ensures c.less_one-over.ensures
-    c.requires (sym c.minus-3.ensures ∙ far)
-    (sym c.minus.ensures ∙ early) (sym ends ∙ over)
+returns c =
+    ordered_by _ _ _ _ _ c.ranges.v.fits c.ranges.u.fits c.requires c.saturating_sub-early.ensures
+    c.saturating_add.ensures c.saturating_add-2.ensures c.saturating_sub-late.ensures
+    c.saturating_add-3.ensures
+    c.saturating_sub.ensures c.saturating_add-4.ensures

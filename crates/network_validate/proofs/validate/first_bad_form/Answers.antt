@@ -9,26 +9,29 @@ pub returns-then-i-l : goal.returns-then-i-l
 returns-then-i-l c = search forms
 
 pub first_unformed-j-requires-clause-run_in_file : goal.first_unformed-j-requires-clause-run_in_file
-first_unformed-j-requires-clause-run_in_file c = search forms
+first_unformed-j-requires-clause-run_in_file c = rw c.arcs_run.ensures (search forms)
 
 pub first_unformed-j-requires-clause-per_bound : goal.first_unformed-j-requires-clause-per_bound
-first_unformed-j-requires-clause-per_bound c = omega (arith, laid_small c.requires)
+first_unformed-j-requires-clause-per_bound c = rw c.arcs_run.ensures (omega (arith, laid_small c.requires))
 
 pub returns-then-j-l : goal.returns-then-j-l
 returns-then-j-l c =
+    let f = rw c.arcs_run.ensures at c.first_unformed-j.ensures in
     unformed_told c.requires _
     (run_passed _ _ _ _ _ _ _ _ c.first_bad_nodes-i.ensures (nodes_end c.requires) _ _ c.if-i-l.false
-    (run_taken _ _ _ _ _ _ _ _ c.first_unformed-j.ensures (arcs_end c.requires) _ c.if-j-l.true))
+    (run_taken _ _ _ _ _ _ _ _ f (arcs_end c.requires) _ c.if-j-l.true))
 
 pub first_unformed-requires-clause-run_in_file : goal.first_unformed-requires-clause-run_in_file
-first_unformed-requires-clause-run_in_file c = search forms
+first_unformed-requires-clause-run_in_file c = rw c.points_run.ensures (search forms)
 
 pub first_unformed-requires-clause-per_bound : goal.first_unformed-requires-clause-per_bound
-first_unformed-requires-clause-per_bound c = omega (arith, laid_small c.requires)
+first_unformed-requires-clause-per_bound c = rw c.points_run.ensures (omega (arith, laid_small c.requires))
 
 pub returns : goal.returns
 returns c =
+    let f = rw c.arcs_run.ensures at c.first_unformed-j.ensures in
+    let g = rw c.points_run.ensures at c.first_unformed.ensures in
     unformed_told c.requires _
     (run_passed _ _ _ _ _ _ _ _ c.first_bad_nodes-i.ensures (nodes_end c.requires) _ _ c.if-i-l.false
-    (run_passed _ _ _ _ _ _ _ _ c.first_unformed-j.ensures (arcs_end c.requires) _ _
-    c.if-j-l.false (run_last _ _ _ _ _ _ _ _ c.first_unformed.ensures (points_end c.requires))))
+    (run_passed _ _ _ _ _ _ _ _ f (arcs_end c.requires) _ _
+    c.if-j-l.false (run_last _ _ _ _ _ _ _ _ g (points_end c.requires))))

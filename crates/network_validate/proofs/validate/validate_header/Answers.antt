@@ -8,8 +8,8 @@ validate_length-requires-clause-within_limits c = search header_within
 pub validate_length-requires-clause-h_value : goal.validate_length-requires-clause-h_value
 validate_length-requires-clause-h_value c = search header_is
 
-pub returns-in-Inside : goal.returns-in-Inside
-returns-in-Inside c = search header_inside
+pub returns-in-Some : goal.returns-in-Some
+returns-in-Some c = search header_inside
 
-pub returns-in-Outside : goal.returns-in-Outside
-returns-in-Outside c = search header_outside
+pub returns-in-None : goal.returns-in-None
+returns-in-None c = search header_outside

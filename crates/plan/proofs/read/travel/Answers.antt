@@ -3,17 +3,21 @@ use native.Mathlib.Omega.{arith}
 use Rattle.plan.specs.PlanDecode.{point_in, travel_is}
 use Rattle.plan.proofs.read.travel.Goals as goal
 
-pub offset-at-requires : goal.offset-at-requires
-offset-at-requires c = let e = point_in c.requires.plan_laid c.requires.q_lt_points in
-    (e.pos, e.fit, e.near)
+pub offset-requires : goal.offset-requires
+offset-requires c = let e = point_in c.requires.plan_laid c.requires.q_lt_points in
+    rw c.points_run.ensures (e.pos, e.fit, e.near)
 
-pub overflow_add-at : goal.overflow_add-at
-overflow_add-at c = omega (arith, point_in c.requires.plan_laid c.requires.q_lt_points)
+pub overflow_add-offset : goal.overflow_add-offset
+overflow_add-offset c =
+    let o = rw c.points_run.ensures at c.offset.ensures in
+    omega (arith, point_in c.requires.plan_laid c.requires.q_lt_points, o)
 
 pub le32-requires : goal.le32-requires
-le32-requires c = omega (arith, point_in c.requires.plan_laid c.requires.q_lt_points)
+le32-requires c =
+    let o = rw c.points_run.ensures at c.offset.ensures in
+    omega (arith, point_in c.requires.plan_laid c.requires.q_lt_points, o)
 
 pub returns : goal.returns
 returns c =
-    travel_is c.requires.plan_laid c.requires.q_lt_points
-    (rw c.offset-at.ensures at c.le32.ensures)
+    let o = rw c.points_run.ensures at c.offset.ensures in
+    travel_is c.requires.plan_laid c.requires.q_lt_points (rw o at c.le32.ensures)

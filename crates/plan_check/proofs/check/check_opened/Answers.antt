@@ -6,9 +6,9 @@ use Rattle.plan_check.proofs.check.check_opened.Goals as goal
 pub check_formed-requires-clause-valid_plan : goal.check_formed-requires-clause-valid_plan
 check_formed-requires-clause-valid_plan c = search checks
 
-pub returns-in-Refused : goal.returns-in-Refused
-returns-in-Refused c =
-    (c.refused.ensures.0 ∙ search checks, finds_none _ _ _ c.refused.ensures.0 c.refused.ensures.1)
+pub returns-in-Err : goal.returns-in-Err
+returns-in-Err c =
+    (c.before_finds.ensures.0 ∙ search checks, finds_none _ _ _ c.before_finds.ensures.0 c.before_finds.ensures.1)
 
-pub returns-in-WellFormed : goal.returns-in-WellFormed
-returns-in-WellFormed c = search checks
+pub returns-in-Ok : goal.returns-in-Ok
+returns-in-Ok c = search checks

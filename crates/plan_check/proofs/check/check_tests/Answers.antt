@@ -7,7 +7,8 @@ use Rattle.plan_check.proofs.check.check_tests.Goals as goal
 
 pub returns-then-arc-l : goal.returns-then-arc-l
 returns-then-arc-l c =
-    (c.refused.ensures.0 ∙ search checks, finds_none _ _ _ c.refused.ensures.0 c.refused.ensures.1)
+    let told = c.before_finds.ensures.0 ∙ c.refused.ensures in
+    (c.before_finds.ensures.0 ∙ search checks, finds_none _ _ _ told c.before_finds.ensures.1)
 
 pub chain-requires-clause-unchained : goal.chain-requires-clause-unchained
 chain-requires-clause-unchained c = search fresh_tables

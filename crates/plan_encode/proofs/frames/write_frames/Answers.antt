@@ -9,15 +9,15 @@ frame_run-requires c = header_room c.requires (omega arith)
 
 pub frame_run-requires-2 : goal.frame_run-requires-2
 frame_run-requires-2 c =
-    flags_room c.requires (omega arith)
+    rw c.flags_run.ensures (flags_room c.requires (omega arith))
 
 pub frame_run-requires-3 : goal.frame_run-requires-3
 frame_run-requires-3 c =
-    counts_room c.requires (omega arith)
+    rw c.counts_run.ensures (counts_room c.requires (omega arith))
 
 pub frame_run-requires-4 : goal.frame_run-requires-4
 frame_run-requires-4 c =
-    points_room c.requires (omega arith)
+    rw c.points_run.ensures (points_room c.requires (omega arith))
 
 pub put_header-requires-clause-plan_within : goal.put_header-requires-clause-plan_within
 put_header-requires-clause-plan_within c = c.requires.within
@@ -26,4 +26,8 @@ pub put_header-requires-clause-number_bound : goal.put_header-requires-clause-nu
 put_header-requires-clause-number_bound c = (c.requires.number_fits, omega (arith, laid_by c.requires))
 
 pub returns : goal.returns
-returns c = search framed
+returns c =
+    let f = rw c.flags_run.ensures at c.frame_run-2.ensures in
+    let g = rw c.counts_run.ensures at c.frame_run-3.ensures in
+    let h = rw c.points_run.ensures at c.frame_run-4.ensures in
+    search framed

@@ -35,7 +35,7 @@ returns-then-out-long c =
     c.requires.count_value.2 in
     made_short n c.args.out.now _ (points_few c.requires.valid_file.0 c.requires.count_value.0
     c.requires.count_value.1 c.requires.count_value.2)
-    (file_long n c.layout-k.ensures h) c.if-out-long.true c.unwritten.ensures
+    (file_long n c.layout-k.ensures h) c.if-out-long.true c.refused.ensures
 
 pub write_plan-requires-clause-tables : goal.write_plan-requires-clause-tables
 write_plan-requires-clause-tables c = c.requires.tables

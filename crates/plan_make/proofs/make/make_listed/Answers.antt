@@ -60,7 +60,7 @@ pub returns-then-points-gt-MOST_POINTS : goal.returns-then-points-gt-MOST_POINTS
 returns-then-points-gt-MOST_POINTS c =
     into_many (decode c.args.file.now) c.args.out.now _
     (counted_over (decode c.args.file.now) c.count_points-points.ensures
-    c.if-points-gt-MOST_POINTS.true) c.unwritten.ensures
+    c.if-points-gt-MOST_POINTS.true) c.refused.ensures
 
 pub make_counted-requires-clause-valid_file : goal.make_counted-requires-clause-valid_file
 make_counted-requires-clause-valid_file c = (c.requires.valid_file.0, c.requires.valid_file.1)

@@ -14,7 +14,7 @@ overflow_mul-size c =
 pub returns-then-work-size : goal.returns-then-work-size
 returns-then-work-size c =
     work_short (size_is c.requires.0 c.layout-l.ensures) c.if-work-size.true
-    c.unwritten.ensures
+    c.refused.ensures
 
 pub slice_bounds-make_listed-end-2 : goal.slice_bounds-make_listed-end-2
 slice_bounds-make_listed-end-2 c = simp length-take (omega arith)

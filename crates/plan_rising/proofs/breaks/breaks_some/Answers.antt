@@ -8,10 +8,10 @@ loop-e-init c = (search rules, search besides)
 
 pub overflow_add-breaks : goal.overflow_add-breaks
 overflow_add-breaks c =
-    omega (arith, beside_few _ _ _ _ _ c.loop-e.invariant.1 c.break_at.ensures.1)
+    omega (arith, c.from-breaks.ensures, beside_few _ _ _ _ _ c.loop-e.invariant.1 c.break_at.ensures.1)
 
 pub loop-e-preserved : goal.loop-e-preserved
-loop-e-preserved c = (search rules, search besides)
+loop-e-preserved c = (search rules, rw c.from-breaks.ensures (search besides))
 
 pub returns : goal.returns
 returns c = search besides

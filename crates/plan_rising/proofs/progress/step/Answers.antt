@@ -1,6 +1,6 @@
 -- `plan_rising::progress::step` meets its contract: the block stands in the file, and its breaks come to
 -- those counted.
-use Rattle.std.proofs.Common.{refl, arith, rules}
+use Rattle.std.proofs.Common.{refl, ◌∙◌, arith, rules}
 use Rattle.plan_rising.specs.Progress.{BlockAt, block_begins, block_at, walked_few, walked_more}
 use Rattle.plan_rising.proofs.progress.step.Goals as goal
 
@@ -68,7 +68,7 @@ pub overflow_add-result-2 : goal.overflow_add-result-2
 overflow_add-result-2 c = omega (
   arith,
   walked_few c.requires.plan_laid _ c.requires.walked c.requires.done_bound _ c.entries_in-m.ensures _ _
-      c.is_break-behind.ensures.1 c.breaks_beside-beside.ensures,
+      (rw (← c.from-behind.ensures) at c.is_break.ensures.1) c.breaks_beside-beside.ensures,
 )
 
 -- the breaks of the block and those before it are small
@@ -76,14 +76,14 @@ pub overflow_add-result-3 : goal.overflow_add-result-3
 overflow_add-result-3 c = omega (
   arith,
   walked_few c.requires.plan_laid _ c.requires.walked c.requires.done_bound _ c.entries_in-m.ensures _ _
-      c.is_break-behind.ensures.1 c.breaks_beside-beside.ensures,
+      (rw (← c.from-behind.ensures) at c.is_break.ensures.1) c.breaks_beside-beside.ensures,
 )
 
 pub returns : goal.returns
 returns c = (
   walked_more c.requires.plan_laid _ c.requires.walked c.requires.done_bound _ c.entries_in-m.ensures _ _ _ _
       c.requires.done_value c.le16.ensures
-      c.is_break-behind.ensures.0 c.breaks_beside-beside.ensures
-      c.le16-2.ensures (search rules),
+      (c.from-behind.ensures ∙ c.is_break.ensures.0) c.breaks_beside-beside.ensures
+      (c.from.ensures ∙ c.le16-2.ensures) (search rules),
   refl,
 )

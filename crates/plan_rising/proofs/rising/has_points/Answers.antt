@@ -1,9 +1,12 @@
 -- `plan_rising::rising::has_points` meets its contract.
-use borrow.Author.{Rules.rules, Tests.lt-ltb, Tests.le-ltb}
+use mathlib.Core.Path.{◌∙◌}
+use native.Mathlib.Omega.{arith}
+use Rattle.std.specs.Prelude.{nat_lt}
+use Rattle.theory_breaks.specs.Tally.{flag_of, flag_few}
 use Rattle.plan_rising.proofs.rising.has_points.Goals as goal
 
-pub returns-then-count-gt0 : goal.returns-then-count-gt0
-returns-then-count-gt0 c = (rw (lt-ltb _ _ c.if-count-gt0.true), search rules)
-
-pub returns-else-count-gt0 : goal.returns-else-count-gt0
-returns-else-count-gt0 c = (rw (le-ltb _ _ c.if-count-gt0.false), search rules)
+pub returns : goal.returns
+returns c = (
+  c.from.ensures ∙ flag_of _,
+  omega (arith, c.from.ensures ∙ flag_of (nat_lt 0 c.args.count), flag_few (nat_lt 0 c.args.count)),
+)

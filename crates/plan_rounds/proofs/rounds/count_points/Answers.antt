@@ -27,6 +27,9 @@ travels_to-requires-clause-i_bound c = (
   c.loop-i.invariant.4,
 )
 
+pub travels_to-requires-clause-zeros : goal.travels_to-requires-clause-zeros
+travels_to-requires-clause-zeros c = (refl, refl)
+
 pub count_rows-seen-requires-clause-small : goal.count_rows-seen-requires-clause-small
 count_rows-seen-requires-clause-small c = let i : c.loop-i.i < border_count (partition_of
     (decode c.args.file.now)) = omega arith in
@@ -63,7 +66,7 @@ loop-i-preserved c =
           c.loop-i.invariant.2
           c.count_rows-seen.ensures,
       c.if-seen-gt-MOST_POINTS.false,
-      omega (arith, c.travels_to.ensures.2, c.loop-i.invariant.4),
+      omega (arith, c.travels_to.ensures.3, c.loop-i.invariant.4),
     )
 
 pub returns : goal.returns

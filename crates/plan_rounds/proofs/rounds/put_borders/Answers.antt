@@ -1,8 +1,8 @@
-use mathlib.Core.Path.{refl, ◌∙◌}
+use mathlib.Core.Path.{refl, sym, ◌∙◌}
 use native.Mathlib.Omega.{arith}
 use Rattle.plan_rounds.specs.Rounds.{counted_none, put_none, put_more, rows_low}
 use Rattle.plan_rounds.specs.Rounds.{profiles_few, profiles_room, points_room, listed, put_kept}
-use Rattle.plan_rounds.specs.{Rounds.put_end, Rounds.border_index_lem}
+use Rattle.plan_rounds.specs.{Rounds.put_end, Rounds.border_index_lem, Rounds.aimed_node}
 use borrow.Author.Rules.{rules}
 use Rattle.plan_rounds.proofs.rounds.put_borders.Goals as goal
 
@@ -15,16 +15,35 @@ loop-i-init c = (
   c.requires.tables.ready.primed.town.small.period_most,
 )
 
-pub flags_to-requires-clause-tables : goal.flags_to-requires-clause-tables
-flags_to-requires-clause-tables c = c.requires.tables
+pub travels_to-b-requires-clause-tables : goal.travels_to-b-requires-clause-tables
+travels_to-b-requires-clause-tables c = c.requires.tables
 
-pub flags_to-requires-clause-i_bound : goal.flags_to-requires-clause-i_bound
-flags_to-requires-clause-i_bound c = (
+pub travels_to-b-requires-clause-i_bound : goal.travels_to-b-requires-clause-i_bound
+travels_to-b-requires-clause-i_bound c = (
   listed c.requires.tables.ready.primed.town c.requires.held.0 c.loop-i-test.true,
   c.loop-i.invariant.1 ∙ c.requires.work_len.0,
   c.loop-i.invariant.4,
+)
+
+pub travels_to-b-requires-clause-zeros : goal.travels_to-b-requires-clause-zeros
+travels_to-b-requires-clause-zeros c = (refl, refl)
+
+pub flag_border-requires-clause-primed : goal.flag_border-requires-clause-primed
+flag_border-requires-clause-primed c = (c.requires.tables.ready.primed, c.requires.tables.leasts)
+
+pub flag_border-requires-clause-b_lt_nodes : goal.flag_border-requires-clause-b_lt_nodes
+flag_border-requires-clause-b_lt_nodes c = (
+  aimed_node c.requires.tables
+      (listed c.requires.tables.ready.primed.town c.requires.held.0 c.loop-i-test.true)
+      c.travels_to-b.ensures.0,
+  c.travels_to-b.ensures.2 ∙ c.loop-i.invariant.1 ∙ c.requires.work_len.0,
+  omega (arith, c.travels_to-b.ensures.3, c.loop-i.invariant.4),
   omega (arith, c.loop-i.invariant.3.flags.long, c.requires.tables.ready.primed.town.sizes.arcs),
 )
+
+pub flag_border-requires-clause-worked : goal.flag_border-requires-clause-worked
+flag_border-requires-clause-worked c =
+    (rw (sym c.travels_to-b.ensures.0.border) at c.travels_to-b.ensures.0.worked, c.travels_to-b.ensures.1)
 
 pub overflow_mul-i : goal.overflow_mul-i
 overflow_mul-i c =
@@ -40,9 +59,9 @@ put_rows-q-requires-clause-small c = (
 pub put_rows-q-requires-clause-work_len : goal.put_rows-q-requires-clause-work_len
 put_rows-q-requires-clause-work_len c =
     let h = listed c.requires.tables.ready.primed.town c.requires.held.0 c.loop-i-test.true in (
-      c.flags_to.ensures.2 ∙ c.loop-i.invariant.1 ∙ c.requires.work_len.0,
+      c.travels_to-b.ensures.2 ∙ c.loop-i.invariant.1 ∙ c.requires.work_len.0,
       rows_low
-          c.requires.tables.ready.primed.town h c.flags_to.ensures.0.worked,
+          c.requires.tables.ready.primed.town h c.travels_to-b.ensures.0.worked,
     )
 
 pub put_rows-q-requires-clause-nodes_bound : goal.put_rows-q-requires-clause-nodes_bound
@@ -50,7 +69,7 @@ put_rows-q-requires-clause-nodes_bound c = (
   profiles_room c.requires.tables.ready.primed.town
       c.requires.held.0 c.loop-i-test.true refl,
   points_room c.requires.tables.ready.primed.town
-      c.requires.held.0 c.loop-i-test.true c.flags_to.ensures.0.worked c.loop-i.invariant.2,
+      c.requires.held.0 c.loop-i-test.true c.travels_to-b.ensures.0.worked c.loop-i.invariant.2,
 )
 
 pub overflow_step-i : goal.overflow_step-i
@@ -63,17 +82,18 @@ overflow_step-i c =
 
 pub loop-i-preserved : goal.loop-i-preserved
 loop-i-preserved c =
-    let flags = rw c.flags_to.ensures.0.border at c.flags_to.ensures.1 in
+    let flags = rw c.travels_to-b.ensures.0.border at c.flag_border.ensures.0 in
     let m = put_more c.requires.tables.ready.primed.town c.requires.held.0 c.loop-i-test.true
-    c.flags_to.ensures.0.worked c.loop-i.invariant.3 flags refl
+    c.travels_to-b.ensures.0.worked c.loop-i.invariant.3 flags refl
     c.loop-i.invariant.2 c.put_rows-q.ensures in (
       omega arith,
-      c.flags_to.ensures.2 ∙ c.loop-i.invariant.1,
+      c.travels_to-b.ensures.2 ∙ c.loop-i.invariant.1,
       m.0,
       m.1,
       omega (
         arith,
-        c.flags_to.ensures.3,
+        c.travels_to-b.ensures.3,
+        c.flag_border.ensures.1,
         c.loop-i.invariant.4,
       ),
     )

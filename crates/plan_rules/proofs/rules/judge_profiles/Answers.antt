@@ -41,7 +41,7 @@ returns-then-l-count c =
     count_read c.requires c.loop-k-test.true
     c.loop-k.invariant.counts_at c.field16-count.ensures.0 in
     count_taken _ _ _ _ _ _ _ c.loop-k.invariant c.loop-k-test.true
-    read _ c.if-l-count.true c.faulty.ensures
+    read _ c.if-l-count.true c.refused.ensures
 
 pub scan_on-scan-requires-clause-plan_laid : goal.scan_on-scan-requires-clause-plan_laid
 scan_on-scan-requires-clause-plan_laid c = search rules
@@ -81,7 +81,7 @@ overflow_cast-profiles c = omega (arith, plan_small c.requires)
 pub returns-then-from-l : goal.returns-then-from-l
 returns-then-from-l c =
     sum_taken _ _ _ _ _ _ c.loop-k.invariant
-    c.loop-k-test.false _ c.if-from-l.true c.faulty-then-from-l.ensures
+    c.loop-k-test.false _ c.if-from-l.true c.refused-then-from-l.ensures
 
 pub overflow_cast-bad : goal.overflow_cast-bad
 overflow_cast-bad c =
@@ -91,7 +91,7 @@ pub returns-then-bad-l : goal.returns-then-bad-l
 returns-then-bad-l c =
     tick_taken _ _ _ _ _ _ c.loop-k.invariant
     c.loop-k-test.false _ c.if-from-l.false
-    c.if-bad-l.true c.faulty-then-bad-l.ensures
+    c.if-bad-l.true c.refused-then-bad-l.ensures
 
 pub returns : goal.returns
 returns c =

@@ -76,11 +76,8 @@ bounds-labels-v-2 c = search ready_reads
 pub bounds-notes-v-2 : goal.bounds-notes-v-2
 bounds-notes-v-2 c = search (node_place, ready_reads)
 
-pub bounds-places-v : goal.bounds-places-v
-bounds-places-v c = search (node_place, ready_reads)
-
-pub put-requires : goal.put-requires
-put-requires c =
+pub lower-requires : goal.lower-requires
+lower-requires c =
     (search (pushes, ready_reads), search (node_place, ready_reads), search (end_small, eq-eqb))
 
 pub returns-then-old-lt-NEVER : goal.returns-then-old-lt-NEVER
@@ -91,8 +88,8 @@ returns-then-old-lt-NEVER c = record {
   front = search (pushes, ready_reads);
 }
 
-pub put-requires-2 : goal.put-requires-2
-put-requires-2 c =
+pub add-requires : goal.add-requires
+add-requires c =
     (search (pushes, ready_reads), search (node_place, ready_reads), search (end_small, eq-eqb))
 
 pub returns : goal.returns

@@ -17,8 +17,9 @@ bounds-first-u c = search walks
 
 pub loop-a-init : goal.loop-a-init
 loop-a-init c =
-    walking_start c.requires.ready c.requires.frontier.0 c.requires.labels_len.0 c.requires.frontier.1 _ _ c.take.ensures c.requires.frontier.2 c.requires.chained c.requires.labels_len.1
-    c.wide-a.ensures.0 c.longer-base.ensures c.requires.u_bound.0 c.requires.u_bound.1
+    walking_start c.requires.ready c.requires.frontier.0 c.requires.labels_len.0 c.requires.frontier.1 _ _
+    c.take.ensures c.requires.frontier.2 c.requires.chained c.requires.labels_len.1
+    c.from-a.ensures c.longer-base.ensures c.requires.u_bound.0 c.requires.u_bound.1
 
 pub offset_bounds-next-a : goal.offset_bounds-next-a
 offset_bounds-next-a c = search walks
@@ -37,4 +38,5 @@ shape_of-labels c = c.loop-a.invariant.walked.done.size
 
 pub returns : goal.returns
 returns c =
-    walking_end c.requires.frontier.0 c.requires.frontier.1 c.take.ensures c.loop-a.invariant c.loop-a-test.false
+    walking_end c.requires.frontier.0 c.requires.frontier.1 c.take.ensures c.loop-a.invariant
+    c.loop-a-test.false

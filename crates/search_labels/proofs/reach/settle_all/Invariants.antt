@@ -6,9 +6,10 @@ use Rattle.search_frontier.specs.Frontier.{unknown}
 use Rattle.search_labels.specs.{Reach.Searching, Ready.permit_of}
 use Rattle.search_labels.proofs.reach.settle_all.Given as goal
 
-abbrev pub invariant-loop-size : goal.invariant-loop-size
-invariant-loop-size l =
-    Searching (graph_of (decode l.file)) (permit_of l.mask) l.q.source l.q.departure l.labels l.notes l.keys l.places l.size
+abbrev pub invariant-loop-frontier : goal.invariant-loop-frontier
+invariant-loop-frontier l =
+    Searching (graph_of (decode l.file)) (permit_of l.mask) l.q.source l.q.departure l.labels l.notes
+    l.frontier.keys l.frontier.places l.frontier.size
 
-abbrev pub decreases-loop-size : goal.decreases-loop-size
-decreases-loop-size l = l.size + unknown l.labels
+abbrev pub decreases-loop-frontier : goal.decreases-loop-frontier
+decreases-loop-frontier l = l.frontier.size + unknown l.labels

@@ -8,11 +8,11 @@ use Rattle.sheet_text.proofs.answer.put_answer.Goals as goal
 
 pub put_arrival-requires : goal.put_arrival-requires
 put_arrival-requires c =
-    let k : c.in-Arrived.a.count ≤ most_roads = search count_arrived in
+    let k : c.in-Ok.a.count ≤ most_roads = search count_arrived in
     (search rules, search rules, k, omega arith)
 
-pub returns-in-Arrived-clause-text : goal.returns-in-Arrived-clause-text
-returns-in-Arrived-clause-text c = search answer_arrived
+pub returns-in-Ok-clause-text : goal.returns-in-Ok-clause-text
+returns-in-Ok-clause-text c = search answer_arrived
 
-pub returns-in-Refused-clause-text : goal.returns-in-Refused-clause-text
-returns-in-Refused-clause-text c = search answer_refused
+pub returns-in-Err-clause-text : goal.returns-in-Err-clause-text
+returns-in-Err-clause-text c = search answer_refused

@@ -2,8 +2,8 @@
 use Rattle.sheet_text.specs.TripStored.{line_asks, line_other}
 use Rattle.sheet_text.proofs.answer.put_line.Goals as goal
 
-pub returns-in-Asks-clause-text : goal.returns-in-Asks-clause-text
-returns-in-Asks-clause-text c = search line_asks
+pub returns-in-Some-clause-text : goal.returns-in-Some-clause-text
+returns-in-Some-clause-text c = search line_asks
 
-pub returns-in-Other-clause-text : goal.returns-in-Other-clause-text
-returns-in-Other-clause-text c = search line_other
+pub returns-in-None-clause-text : goal.returns-in-None-clause-text
+returns-in-None-clause-text c = search line_other

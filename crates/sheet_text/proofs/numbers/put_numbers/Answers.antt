@@ -4,11 +4,11 @@ use Rattle.sheet_text.specs.Numbers.{spaced_few, numbers}
 use borrow.Author.Rules.{rules}
 use Rattle.sheet_text.proofs.numbers.put_numbers.Goals as goal
 
-pub loop-i-init : goal.loop-i-init
-loop-i-init c = (search rules, search rules, search rules, search numbers)
+pub loop-n-init : goal.loop-n-init
+loop-n-init c = (search rules, search rules, search rules, search numbers)
 
-pub loop-i-preserved : goal.loop-i-preserved
-loop-i-preserved c = (
+pub loop-n-preserved : goal.loop-n-preserved
+loop-n-preserved c = (
   search rules,
   search rules,
   omega (arith, spaced_few _ _ _ _ _ c.put_spaced-next.ensures),

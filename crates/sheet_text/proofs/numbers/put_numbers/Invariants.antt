@@ -6,7 +6,7 @@ use Rattle.text_numbers.specs.Text.{Stored}
 use Rattle.sheet_text.specs.Numbers.{spaced}
 use Rattle.sheet_text.proofs.numbers.put_numbers.Given as goal
 
-abbrev pub invariant-loop-i : goal.invariant-loop-i
-invariant-loop-i l =
-    (l.i ≤ length l.numbers) × (length l.out ≡ length l.initial.out) × (l.next ≤ l.at + 11 * l.i)
-    × Stored l.initial.out l.out l.at l.next (spaced (take l.i l.numbers))
+abbrev pub invariant-loop-n : goal.invariant-loop-n
+invariant-loop-n l =
+    (l.n-index ≤ length l.numbers) × (length l.out ≡ length l.initial.out) × (l.next ≤ l.at + 11 * l.n-index)
+    × Stored l.initial.out l.out l.at l.next (spaced (take l.n-index l.numbers))

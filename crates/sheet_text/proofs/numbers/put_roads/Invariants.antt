@@ -6,7 +6,7 @@ use Rattle.text_numbers.specs.Text.{Stored}
 use Rattle.sheet_text.specs.Numbers.{spaced}
 use Rattle.sheet_text.proofs.numbers.put_roads.Given as goal
 
-abbrev pub invariant-loop-i : goal.invariant-loop-i
-invariant-loop-i l =
-    (l.i ≤ l.count) × (length l.out ≡ length l.initial.out) × (l.next ≤ l.at + 6 * l.i)
-    × Stored l.initial.out l.out l.at l.next (spaced (take l.i l.roads))
+abbrev pub invariant-loop-road : goal.invariant-loop-road
+invariant-loop-road l =
+    (l.road-index ≤ l.count) × (length l.out ≡ length l.initial.out) × (l.next ≤ l.at + 6 * l.road-index)
+    × Stored l.initial.out l.out l.at l.next (spaced (take l.road-index (take l.count l.roads)))

@@ -7,9 +7,11 @@ pub least_of_points-requires-clause-laid : goal.least_of_points-requires-clause-
 least_of_points-requires-clause-laid c = c.requires.primed.town.laid
 
 pub least_of_points-requires-clause-count_bound : goal.least_of_points-requires-clause-count_bound
-least_of_points-requires-clause-count_bound c = (arc_of_lem c.requires.primed c.requires.arc_lt_arcs _ _ c.wide-from.ensures.0 c.count-count.ensures.0).within
+least_of_points-requires-clause-count_bound c =
+    let points = arc_of_lem c.requires.primed c.requires.arc_lt_arcs _ _ c.from-from.ensures
+    c.count-count.ensures.0 in points.within
 
 pub returns : goal.returns
 returns c =
-    least_arc c.requires.primed c.requires.arc_lt_arcs _ _ _ c.wide-from.ensures.0
+    least_arc c.requires.primed c.requires.arc_lt_arcs _ _ _ c.from-from.ensures
     c.count-count.ensures.0 c.least_of_points.ensures.0

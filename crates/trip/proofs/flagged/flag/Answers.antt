@@ -1,9 +1,7 @@
 -- `trip::flagged::flag` meets its contract.
-use Rattle.theory_loops.specs.Pick.{picks}
+use mathlib.Core.Path.{ap, ◌∙◌}
+use Rattle.theory_breaks.specs.Tally.{flag, flag_of}
 use Rattle.trip.proofs.flagged.flag.Goals as goal
 
-pub returns-then-is_set : goal.returns-then-is_set
-returns-then-is_set c = search picks
-
-pub returns-else-is_set : goal.returns-else-is_set
-returns-else-is_set c = search picks
+pub returns : goal.returns
+returns c = c.from.ensures ∙ (flag_of _ ∙ ap flag c.is_set.ensures)

@@ -6,11 +6,11 @@ use Rattle.trip.proofs.flagged.flagged_planned.Goals as goal
 pub flagged_asked-requires-clause-valid_plan : goal.flagged_asked-requires-clause-valid_plan
 flagged_asked-requires-clause-valid_plan c = search plan_stages
 
-pub returns-in-Refused-clause-trip : goal.returns-in-Refused-clause-trip
-returns-in-Refused-clause-trip c = search plan_stages
+pub returns-in-Err-clause-trip : goal.returns-in-Err-clause-trip
+returns-in-Err-clause-trip c = search plan_stages
 
-pub returns-in-Refused-clause-opens : goal.returns-in-Refused-clause-opens
-returns-in-Refused-clause-opens c = search visits
+pub returns-in-Err-clause-opens : goal.returns-in-Err-clause-opens
+returns-in-Err-clause-opens c = search visits
 
-pub returns-in-WellFormed-clause-trip : goal.returns-in-WellFormed-clause-trip
-returns-in-WellFormed-clause-trip c = search plan_stages
+pub returns-in-Ok-clause-trip : goal.returns-in-Ok-clause-trip
+returns-in-Ok-clause-trip c = search plan_stages

@@ -11,5 +11,5 @@ pub open_after-requires-clause-v_lt_nodes : goal.open_after-requires-clause-v_lt
 open_after-requires-clause-v_lt_nodes c = let z = drive_sizes _ _ c.layout.ensures in
     (omega (arith, z), search visits)
 
-pub returns-in-Arrived : goal.returns-in-Arrived
-returns-in-Arrived c = search visits
+pub returns-in-Ok : goal.returns-in-Ok
+returns-in-Ok c = search visits

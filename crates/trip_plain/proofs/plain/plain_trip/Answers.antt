@@ -12,11 +12,11 @@ visit_over-requires-clause-asked c = search plains
 pub visit_over-requires-clause-arcs_in_bounds : goal.visit_over-requires-clause-arcs_in_bounds
 visit_over-requires-clause-arcs_in_bounds c = search plains
 
-pub returns-in-Refused-clause-trip : goal.returns-in-Refused-clause-trip
-returns-in-Refused-clause-trip c = search stages
+pub returns-in-Err-clause-trip : goal.returns-in-Err-clause-trip
+returns-in-Err-clause-trip c = search stages
 
-pub returns-in-Refused-clause-opens : goal.returns-in-Refused-clause-opens
-returns-in-Refused-clause-opens c = search visits
+pub returns-in-Err-clause-opens : goal.returns-in-Err-clause-opens
+returns-in-Err-clause-opens c = search visits
 
-pub returns-in-Opened-clause-trip : goal.returns-in-Opened-clause-trip
-returns-in-Opened-clause-trip c = search plains
+pub returns-in-Ok-clause-trip : goal.returns-in-Ok-clause-trip
+returns-in-Ok-clause-trip c = search plains

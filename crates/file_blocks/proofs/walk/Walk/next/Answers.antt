@@ -5,17 +5,17 @@ use Rattle.file_blocks.specs.Walk.{stepped}
 use Rattle.file_blocks.proofs.walk.Walk.next.Goals as goal
 
 pub overflow_add-result : goal.overflow_add-result
-overflow_add-result c = omega (arith, mul-le-mul_left c.args.size c.requires.0)
+overflow_add-result c = omega (arith, mul-le-mul_left c.args.kind.size c.requires.0)
 
 pub returns-then-self-gt1 : goal.returns-then-self-gt1
 unfolding stepped
 returns-then-self-gt1 c = search picks
 
 pub overflow_add-result-2 : goal.overflow_add-result-2
-overflow_add-result-2 c = omega (arith, mul-le-mul_left c.args.size c.requires.0)
+overflow_add-result-2 c = omega (arith, mul-le-mul_left c.args.kind.size c.requires.0)
 
 pub overflow_add-result-3 : goal.overflow_add-result-3
-overflow_add-result-3 c = omega (arith, mul-le-mul_left c.args.size c.requires.0)
+overflow_add-result-3 c = omega (arith, mul-le-mul_left c.args.kind.size c.requires.0)
 
 pub returns : goal.returns
 unfolding stepped

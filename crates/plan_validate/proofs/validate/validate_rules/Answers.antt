@@ -1,9 +1,0 @@
--- `plan_validate::validate::validate_rules` meets its contract: case by case of what the rules say.
-use Rattle.plan.specs.PlanValidate.{rules_sound, rules_faulty}
-use Rattle.plan_validate.proofs.validate.validate_rules.Goals as goal
-
-pub returns-in-Sound : goal.returns-in-Sound
-returns-in-Sound c = search rules_sound
-
-pub returns-in-Faulty : goal.returns-in-Faulty
-returns-in-Faulty c = search rules_faulty

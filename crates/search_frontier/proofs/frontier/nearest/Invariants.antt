@@ -1,8 +1,0 @@
--- `search_labels::frontier::nearest` meets its contract: the invariant is the contract itself at the keys
--- passed.
-use Prim.Native.Nat.{◌≤◌}
-use Rattle.search_frontier.specs.Nearest.{Least}
-use Rattle.search_frontier.proofs.frontier.nearest.Given as goal
-
-abbrev pub invariant-loop-i : goal.invariant-loop-i
-invariant-loop-i l = (l.i ≤ l.size) × Least l.keys l.i l.least

@@ -1,6 +1,0 @@
--- `search_labels::frontier::take` meets its contract: its two writes are the two equations of `Taken`.
-use Rattle.search_frontier.specs.Take.{taken}
-use Rattle.search_frontier.proofs.frontier.take.Goals as goal
-
-pub returns : goal.returns
-returns c = search taken

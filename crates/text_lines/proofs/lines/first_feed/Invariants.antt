@@ -1,9 +1,0 @@
--- `text_numbers::lines::first_feed` meets its contract.
-use Prim.Native.Nat.{◌≤◌}
-use lib.ListN.{length}
-use Rattle.text_lines.specs.Lines.{Unended}
-use Rattle.text_lines.proofs.lines.first_feed.Given as goal
-
-abbrev pub invariant-loop-i : goal.invariant-loop-i
-invariant-loop-i l =
-    (l.at ≤ l.i) × (l.i ≤ length l.text) × Unended l.text l.at l.i
