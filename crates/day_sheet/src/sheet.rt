@@ -21,6 +21,7 @@ use toward_list::leasts::least_of_arcs;
 use toward_list::rows::row_place;
 use toward_list::work::zero;
 use toward_node::least_travels_from;
+use toward_node::roads::Roads;
 
 // The least travels from a node to another, at every tick, in the row of the first.
 fn travels_to(file: &[u8], l: Layout, from: usize, to: usize, work: &mut [u32])
@@ -36,9 +37,15 @@ fn travels_to(file: &[u8], l: Layout, from: usize, to: usize, work: &mut [u32])
     let mut least = [0u16; MOST_ARCS];
     least_of_arcs(file, l, &starts, &mut least);
     let mut row = [0u32; MOST_PERIOD];
-    least_travels_from(
-        file, l, &starts, &into, &next, &least, to, from, work, &mut row,
-    );
+    let roads = Roads {
+        file,
+        layout: l,
+        starts: &starts,
+        into: &into,
+        next: &next,
+        least: &least,
+    };
+    least_travels_from(&roads, to, from, work, &mut row);
 }
 
 // The arrivals at the ticks of a day, by a row of travels that starts at place p.

@@ -25,7 +25,7 @@ pub fn reached(a: usize, b: usize) -> usize
 impl<V> DayRuns<'_, V> {
     // Where run i begins.
     pub fn start(&self, i: usize) -> usize
-        requires { i ≤ self.now.count }
+        requires { i < length self.now.starts.now }
         ensures { result ≡ get_or self.now.starts.now i 0 }
     {
         usize::from(self.starts[i])

@@ -19,6 +19,7 @@ use file_refusals::reason::Reason;
 use file_refusals::{Refusal, refused};
 use network::header::{Header, Layout};
 use network::limits::{MOST_ARCS, MOST_NODES, MOST_PERIOD};
+use network::tables::LentTables;
 use network_encode::encode::encode_network;
 
 // The day of an imported network.
@@ -34,19 +35,17 @@ fn write_network(h: Header, l: Layout, roads: &Roads, out: &mut [u8])
     let zeros = [0u16; MOST_ARCS];
     let ones = [1u16; MOST_ARCS];
     let closes = [PERIOD; MOST_NODES];
-    encode_network(
-        out,
-        h,
-        l,
-        &zeros,
-        &zeros,
-        &closes,
-        &roads.tails,
-        &roads.heads,
-        &ones,
-        &zeros,
-        &roads.travels,
-    );
+    let tables = LentTables {
+        cells: &zeros,
+        opens: &zeros,
+        closes: &closes,
+        tails: &roads.tails,
+        heads: &roads.heads,
+        counts: &ones,
+        ticks: &zeros,
+        travels: &roads.travels,
+    };
+    encode_network(out, h, l, &tables);
 }
 
 // Refusal 31, or the network of these sizes and arcs written.

@@ -12,6 +12,8 @@ ghost use Rattle.std.specs.Prelude.{◌≡◌};
 ghost use Rattle.example_program.specs.Road.{road_travel};
 
 use network::limits::{MOST_NODES, MOST_ROADS, NEVER};
+use network::tables::LentTablesMut;
+use network_open::open::open_network;
 use print::{Checked, Opened, Packed, Trip};
 use std::fmt::Display;
 use std::rt::Files;
@@ -56,25 +58,17 @@ fn print_road(rt: &impl Print, file: &[u8; LONG]) {
 
 // A file's opening, with tables that are long enough.
 fn open(file: &[u8; LONG]) -> Opened {
-    let mut cells = [0u16; 4];
-    let mut opens = [0u16; 4];
-    let mut closes = [0u16; 4];
-    let mut tails = [0u16; 4];
-    let mut heads = [0u16; 4];
-    let mut counts = [0u16; 4];
-    let mut ticks = [0u16; 5];
-    let mut travels = [0u16; 5];
-    Opened(network_open::open::open_network(
-        file,
-        &mut cells,
-        &mut opens,
-        &mut closes,
-        &mut tails,
-        &mut heads,
-        &mut counts,
-        &mut ticks,
-        &mut travels,
-    ))
+    let mut tables = LentTablesMut {
+        cells: &mut [0; 4],
+        opens: &mut [0; 4],
+        closes: &mut [0; 4],
+        tails: &mut [0; 4],
+        heads: &mut [0; 4],
+        counts: &mut [0; 4],
+        ticks: &mut [0; 5],
+        travels: &mut [0; 5],
+    };
+    Opened(open_network(file, &mut tables))
 }
 
 // The network with another travel at road 1's second point.

@@ -1,5 +1,7 @@
 // The town's files: the network, packed from its tables, and plans, read from files.
 use file_refusals::Refusal;
+use network::header::HeaderNumbers;
+use network::tables::LentTables;
 use network_pack::pack::pack_network;
 use std::fs;
 use std::io::Read;
@@ -10,18 +12,26 @@ pub const LONG: usize = 2048;
 
 // Writes the network, with this travel at road 1's second point.
 pub fn pack(travel: u16, out: &mut [u8; LONG]) -> Result<u32, Refusal> {
-    let cells = [0u16, 0, 1, 1];
-    let opens = [0u16; 4];
-    let closes = [10u16; 4];
-    let tails = [0u16, 1, 0, 2];
-    let heads = [1u16, 2, 2, 3];
-    let counts = [1u16, 2, 1, 1];
-    let ticks = [0u16, 0, 5, 0, 0];
-    let travels = [2u16, 3, travel, 6, 1];
-    pack_network(
-        9, 10, 4, 4, 2, 5, 0, &cells, &opens, &closes, &tails, &heads, &counts, &ticks, &travels,
-        out,
-    )
+    let numbers = HeaderNumbers {
+        number: 9,
+        period: 10,
+        nodes: 4,
+        arcs: 4,
+        cells: 2,
+        points: 5,
+        hours: 0,
+    };
+    let tables = LentTables {
+        cells: &[0, 0, 1, 1],
+        opens: &[0; 4],
+        closes: &[10; 4],
+        tails: &[0, 1, 0, 2],
+        heads: &[1, 2, 2, 3],
+        counts: &[1, 2, 1, 1],
+        ticks: &[0, 0, 5, 0, 0],
+        travels: &[2, 3, travel, 6, 1],
+    };
+    pack_network(numbers, &tables, out)
 }
 
 // Reads a file of the folder, as far as it goes and there is room; a missing one counts as empty.

@@ -3,6 +3,7 @@
 use mathlib.Core.{Path.◌≡◌, List.List}
 use Rattle.std.specs.Prelude.{ℕ, take}
 use Rattle.network.specs.declared.header.Header.{Header}
+use Rattle.network.specs.declared.tables.{LentTables.LentTables, LentTablesMut.LentTablesMut}
 use Rattle.network.specs.Network.{Network}
 
 pub record Tables : Type 0 where
@@ -30,6 +31,25 @@ tables cells opens closes tails heads counts ticks travels = record {
   travels = travels;
 }
 
+-- the lists that are lent to be read, and to be written
+abbrev pub tables_of : LentTables → Tables
+tables_of t =
+    tables t.cells.now t.opens.now t.closes.now t.tails.now t.heads.now t.counts.now
+    t.ticks.now t.travels.now
+
+abbrev pub tables_in : LentTablesMut → Tables
+tables_in t =
+    tables t.cells.now t.opens.now t.closes.now t.tails.now t.heads.now t.counts.now
+    t.ticks.now t.travels.now
+
+-- a call leaves the references where they were, so that what it wrote is in the caller's tables
+abbrev pub SameTables : LentTablesMut → LentTablesMut → Type 0
+SameTables s t =
+    (t.cells.ghost_name ≡ s.cells.ghost_name) × (t.opens.ghost_name ≡ s.opens.ghost_name)
+    × (t.closes.ghost_name ≡ s.closes.ghost_name) × (t.tails.ghost_name ≡ s.tails.ghost_name)
+    × (t.heads.ghost_name ≡ s.heads.ghost_name) × (t.counts.ghost_name ≡ s.counts.ghost_name)
+    × (t.ticks.ghost_name ≡ s.ticks.ghost_name) × (t.travels.ghost_name ≡ s.travels.ghost_name)
+
 -- each table made anew, of the network's and the lent one
 abbrev pub each : (List ℕ → List ℕ → List ℕ) → Network → Tables → Tables
 each f n t =
@@ -53,9 +73,3 @@ network_of h t = record {
   ticks = take h.points t.ticks;
   travels = take h.points t.travels;
 }
-
--- tables are the same where each is
-pub tables_same : {a b c d e f g h : List ℕ} {t : Tables} → a ≡ t.cells → b ≡ t.opens → c ≡ t.closes
-    → d ≡ t.tails → e ≡ t.heads → f ≡ t.counts → g ≡ t.ticks → h ≡ t.travels
-    → tables a b c d e f g h ≡ t
-tables_same p q r s u v x y = λ i. tables (p i) (q i) (r i) (s i) (u i) (v i) (x i) (y i)

@@ -19,6 +19,18 @@ pub struct Header {
     pub hours: u16,
 }
 
+// The numbers of a header, within the limits or not.
+#[derive(Clone, Copy)]
+pub struct HeaderNumbers {
+    pub number: u32,
+    pub period: u32,
+    pub nodes: u32,
+    pub arcs: u32,
+    pub cells: u32,
+    pub points: u32,
+    pub hours: u32,
+}
+
 // The counts of a network as sizes, whether it holds hours (1) or not (0), and the first block of its arcs,
 // of its points, and after its last.
 #[derive(Clone, Copy)]
@@ -48,42 +60,30 @@ impl Header {
     pub const MOST_HOURS: u32 = limits::MOST_HOURS as u32;
 
     // The header of numbers within the limits, or none.
-    pub fn new(
-        number: u32,
-        period: u32,
-        nodes: u32,
-        arcs: u32,
-        cells: u32,
-        points: u32,
-        hours: u32,
-    ) -> Option<Header>
-        ensures { result ≡ made number period nodes arcs cells points hours }
+    #[tactic(auto, unfolding(crate::specs::Limits::made))]
+    pub fn new(numbers: HeaderNumbers) -> Option<Header>
+        ensures { result ≡ made numbers.number numbers.period numbers.nodes numbers.arcs
+            numbers.cells numbers.points numbers.hours }
     {
-        if period < 1 {
-            return None;
-        }
-        if Header::MOST_TICKS < period {
-            return None;
-        }
-        if nodes < 1 {
-            return None;
-        }
-        if Header::MOST_NODES < nodes {
-            return None;
-        }
-        if Header::MOST_ARCS < arcs {
-            return None;
-        }
-        if cells < 1 {
-            return None;
-        }
-        if Header::MOST_CELLS < cells {
-            return None;
-        }
-        if Header::MOST_POINTS < points {
-            return None;
-        }
-        if Header::MOST_HOURS < hours {
+        let HeaderNumbers {
+            number,
+            period,
+            nodes,
+            arcs,
+            cells,
+            points,
+            hours,
+        } = numbers;
+        if period < 1
+            || Header::MOST_TICKS < period
+            || nodes < 1
+            || Header::MOST_NODES < nodes
+            || Header::MOST_ARCS < arcs
+            || cells < 1
+            || Header::MOST_CELLS < cells
+            || Header::MOST_POINTS < points
+            || Header::MOST_HOURS < hours
+        {
             return None;
         }
         Some(Header {

@@ -3,6 +3,7 @@
 // every file that opens.
 //   limits    the limits of a network's numbers
 //   header    the header's numbers with their limits, and where the tables stand
+//   tables    the tables of a network, as a caller lends them
 //   node      the kind of a node's entries
 //   arcs      an arc by its block, and its place there
 //   points    the points that stand side by side, by bytes
@@ -17,3 +18,4 @@ pub mod limits;
 pub mod node;
 pub mod points;
 pub mod read;
+pub mod tables;

@@ -9,7 +9,7 @@ ghost use Rattle.file_write.specs.Bytes.{file_byte};
 ghost use Rattle.file_fields.specs.Put.{put};
 ghost use Rattle.file_write.specs.Run.{run_body, header_body};
 ghost use Rattle.network.specs.Limits.{WithinLimits};
-ghost use Rattle.network.specs.Tables.{tables, network_of};
+ghost use Rattle.network.specs.Tables.{tables_of, network_of};
 ghost use Rattle.network_encode.specs.Encode.{header_number, header_byte, cell_byte, triple_byte};
 ghost use Rattle.network_encode.specs.Encode.{point_byte, node_byte, body_by, encode};
 ghost use Rattle.network.specs.Node.{node_kind, node_size, node_per};
@@ -21,6 +21,7 @@ use file_fields::fields::{put8, put16, put32};
 use file_fields::{BLOCK, ENTRIES, HEAD, SUMMED};
 use file_write::write::{write_check, write_head, write_zeros};
 use network::header::{Header, Layout};
+use network::tables::LentTables;
 
 // The bytes of block 0 that its head and its one entry take.
 const USED: usize = HEAD + kind::NETWORK.size;
@@ -163,85 +164,63 @@ fn triples_block(
 }
 
 // Block b, one of the nodes' run.
-fn nodes_block(
-    out: &mut [u8],
-    b: usize,
-    hours: usize,
-    nodes: usize,
-    cells: &[u16],
-    opens: &[u16],
-    closes: &[u16],
-)
-    requires in_run { InRun 1 (node_per hours) nodes b (length out.old) }
-    requires nodes_in_bounds { (nodes ≤ length cells.now) × (nodes ≤ length opens.now)
-        × (nodes ≤ length closes.now) }
+fn nodes_block(out: &mut [u8], b: usize, l: Layout, tables: &LentTables<'_>)
+    requires in_run { InRun 1 (node_per l.hours) l.nodes b (length out.old) }
+    requires nodes_in_bounds { (l.nodes ≤ length tables.now.cells.now)
+        × (l.nodes ≤ length tables.now.opens.now) × (l.nodes ≤ length tables.now.closes.now) }
     ensures { Filled (block_size * b) (block_size * (b + 1))
-        (file_byte (run_body (node_kind hours) (node_per hours) (node_size hours) nodes
-        (node_byte hours cells.now opens.now closes.now) 1))
+        (file_byte (run_body (node_kind l.hours) (node_per l.hours) (node_size l.hours) l.nodes
+        (node_byte l.hours tables.now.cells.now tables.now.opens.now tables.now.closes.now) 1))
         out.old out.new }
 {
-    if hours == 0 {
-        cells_block(out, b, nodes, cells);
+    if l.hours == 0 {
+        cells_block(out, b, l.nodes, tables.cells);
         return;
     }
-    triples_block(out, b, kind::HOURS.number, 1, nodes, cells, opens, closes);
+    triples_block(
+        out,
+        b,
+        kind::HOURS.number,
+        1,
+        l.nodes,
+        tables.cells,
+        tables.opens,
+        tables.closes,
+    );
 }
 
-// Block b, one of the points' run, which starts at block `from`.
-fn points_block(
-    out: &mut [u8],
-    b: usize,
-    from: usize,
-    points: usize,
-    ticks: &[u16],
-    travels: &[u16],
-)
-    requires in_run { InRun from point_per points b (length out.old) }
-    requires points_in_bounds { (points ≤ length ticks.now) × (points ≤ length travels.now) }
+// Block b, one of the points' run.
+fn points_block(out: &mut [u8], b: usize, l: Layout, tables: &LentTables<'_>)
+    requires in_run { InRun l.pointblock point_per l.points b (length out.old) }
+    requires points_in_bounds { (l.points ≤ length tables.now.ticks.now)
+        × (l.points ≤ length tables.now.travels.now) }
     ensures { Filled (block_size * b) (block_size * (b + 1))
-        (file_byte (run_body point_kind point_per point_size points
-        (point_byte ticks.now travels.now) from)) out.old
-        out.new }
+        (file_byte (run_body point_kind point_per point_size l.points
+        (point_byte tables.now.ticks.now tables.now.travels.now) l.pointblock))
+        out.old out.new }
 {
     let at = BLOCK * b + HEAD;
-    let m = kind::POINT.entries_in(points, b - from);
+    let m = kind::POINT.entries_in(l.points, b - l.pointblock);
+    let first = kind::POINT.per * (b - l.pointblock);
     write_head(out, b, kind::POINT.number, m);
-    put_points(out, at, kind::POINT.per * (b - from), m, ticks, travels);
+    put_points(out, at, first, m, tables.ticks, tables.travels);
     write_zeros(out, at + kind::POINT.size * m, at + ENTRIES);
     write_check(out, b);
 }
 
 // Block b of the network's file.
-fn write_block(
-    out: &mut [u8],
-    h: Header,
-    l: Layout,
-    b: usize,
-    cells: &[u16],
-    opens: &[u16],
-    closes: &[u16],
-    tails: &[u16],
-    heads: &[u16],
-    counts: &[u16],
-    ticks: &[u16],
-    travels: &[u16],
-)
-    requires packable { Packable h l
-        (tables cells.now opens.now closes.now tails.now heads.now counts.now ticks.now
-        travels.now) }
+fn write_block(out: &mut [u8], h: Header, l: Layout, b: usize, tables: &LentTables<'_>)
+    requires packable { Packable h l (tables_of tables.now) }
     requires b_lt_blocks { (b < l.blocks) × (block_size * l.blocks ≤ length out.old) }
     ensures { Filled (block_size * b) (block_size * (b + 1))
-        (file_byte (body_by h (network_of h
-        (tables cells.now opens.now closes.now tails.now
-        heads.now counts.now ticks.now travels.now))))
-        out.old out.new }
+        (file_byte (body_by h (network_of h (tables_of tables.now)))) out.old out.new }
 {
     if b < 1 {
         header_block(out, h);
         return;
     }
     if b < l.arcblock {
-        nodes_block(out, b, l.hours, l.nodes, cells, opens, closes);
+        nodes_block(out, b, l, tables);
         return;
     }
     if b < l.pointblock {
@@ -251,42 +230,22 @@ fn write_block(
             kind::ARC.number,
             l.arcblock,
             l.arcs,
-            tails,
-            heads,
-            counts,
+            tables.tails,
+            tables.heads,
+            tables.counts,
         );
         return;
     }
-    points_block(out, b, l.pointblock, l.points, ticks, travels);
+    points_block(out, b, l, tables);
 }
 
 // The network's file, into the first bytes of a list that has room for it.
-pub fn encode_network(
-    out: &mut [u8],
-    h: Header,
-    l: Layout,
-    cells: &[u16],
-    opens: &[u16],
-    closes: &[u16],
-    tails: &[u16],
-    heads: &[u16],
-    counts: &[u16],
-    ticks: &[u16],
-    travels: &[u16],
-)
-    requires packable { Packable h l
-        (tables cells.now opens.now closes.now tails.now heads.now counts.now ticks.now
-        travels.now) }
+pub fn encode_network(out: &mut [u8], h: Header, l: Layout, tables: &LentTables<'_>)
+    requires packable { Packable h l (tables_of tables.now) }
     requires blocks_in_bounds { block_size * l.blocks ≤ length out.old }
-    ensures { out.new ≡ overwritten
-        (encode (network_of h
-        (tables cells.now opens.now closes.now tails.now
-        heads.now counts.now ticks.now travels.now)))
-        out.old }
+    ensures { out.new ≡ overwritten (encode (network_of h (tables_of tables.now))) out.old }
 {
     for b in 0..l.blocks {
-        write_block(
-            out, h, l, b, cells, opens, closes, tails, heads, counts, ticks, travels,
-        );
+        write_block(out, h, l, b, tables);
     }
 }

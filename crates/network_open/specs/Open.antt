@@ -1,8 +1,8 @@
 -- Opening a network: the answer, what becomes of the eight lent tables, and the call (`OpenCall`). The tables
 -- are written only where the file opens, and then in their first entries alone, which become the network's.
-use mathlib.Core.{Path.◌≡◌, Path.refl, Path.sym, Path.◌∙◌, List.List}
+use mathlib.Core.{Path.◌≡◌, Path.sym, Path.◌∙◌, List.List}
 use Rattle.file_refusals.specs.Refusal.{refused}
-use Rattle.std.specs.Prelude.{Bool, true, false, cond, ◌||◌, ℕ, ◌≤◌, Result, Ok, Err}
+use Rattle.std.specs.Prelude.{Bool, false, cond, ◌||◌, ℕ, ◌≤◌, Result, Ok, Err}
 use lib.{ListN.length, Dec.ltb}
 use Rattle.std.proofs.Common.{ltb-false}
 use Rattle.theory_loops.specs.Pick.{or_passed}
@@ -183,24 +183,13 @@ pub ruleset table_writes = (
 )
 
 -- FOR OPEN ITSELF, which has validated the file
-module _ (file : List ℕ) (v : Result Header Refusal) (e : v ≡ validated file) where
-  pub open_refused : (t : Tables) (r : Refusal) → v ≡ Err r → OpenCall file t t (Err r)
-  open_refused t r f = record { answer = rw (← e, f); written = refl }
+module _ (file : List ℕ) (v : Result Header Refusal) (e : v ≡ validated file) (h : Header)
+    (f : v ≡ Ok h) where
+  open_valid : ValidFile file h
+  open_valid = (valid_exactly file h).0 (sym e ∙ f)
 
-  module _ (h : Header) (f : v ≡ Ok h) where
-    open_valid : ValidFile file h
-    open_valid = (valid_exactly file h).0 (sym e ∙ f)
+  pub open_within : WithinLimits h
+  open_within = open_valid.within
 
-    pub open_within : WithinLimits h
-    open_within = open_valid.within
-
-    pub open_laid : (l : Layout) → l ≡ layout_of h → Laid file l
-    open_laid l g = rw g (valid_laid open_valid)
-
-    module _ (before : Tables) (y : Bool) (g : y ≡ too_short h before) where
-      pub open_short : (r : Result Header Refusal) → y ≡ true → r ≡ refused 30 0 → OpenCall file before before r
-      open_short r k q = record { answer = rw (← e, f, ← g, k) q; written = rw q }
-
-      pub open_opened : (after : Tables) → y ≡ false → after ≡ each overwritten (decode file) before
-          → OpenCall file before after (Ok h)
-      open_opened after k w = record { answer = rw (← e, f, ← g, k); written = w }
+  pub open_laid : (l : Layout) → l ≡ layout_of h → Laid file l
+  open_laid l g = rw g (valid_laid open_valid)

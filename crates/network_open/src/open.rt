@@ -1,55 +1,33 @@
 // Open: the tables of a network file, written into lent tables once nothing is refused.
 ghost use Rattle.std.specs.Prelude.{◌≡◌, ◌≤◌, length};
-ghost use Rattle.network.specs.Tables.{tables, each};
+ghost use Rattle.network.specs.Tables.{tables_of, tables_in, each, SameTables};
 ghost use Rattle.network.specs.Decode.{decode, Laid};
 ghost use Rattle.theory_loops.specs.Fill.{Filled, overwritten};
-ghost use Rattle.network_open.specs.Open.{too_short_by, Room, OpenCall};
+ghost use Rattle.network_open.specs.Open.{too_short, Room, OpenCall};
 
 use file_blocks::pairs::decode_pairs;
 use file_refusals::reason::Reason;
 use file_refusals::{Refusal, refused};
 use network::header::{Header, Layout};
+use network::tables::{LentTables, LentTablesMut};
 use network_validate::validate::validate;
 
-// Refusal 30: has a table of these lengths no room for the header's counts?
-pub fn is_short(
-    h: Header,
-    cells: usize,
-    opens: usize,
-    closes: usize,
-    tails: usize,
-    heads: usize,
-    counts: usize,
-    ticks: usize,
-    travels: usize,
-) -> bool
-    ensures { result ≡ too_short_by h cells opens closes tails heads counts ticks travels }
+// Refusal 30: has one of these tables no room for the header's counts?
+#[tactic(auto, unfolding(crate::specs::Open::too_short_by))]
+pub fn is_short(h: Header, tables: &LentTables<'_>) -> bool
+    ensures { result ≡ too_short h (tables_of tables.now) }
 {
-    let nodes = h.nodes as usize;
-    let arcs = h.arcs as usize;
+    let nodes = usize::from(h.nodes);
+    let arcs = usize::from(h.arcs);
     let points = h.points as usize;
-    if cells < nodes {
-        return true;
-    }
-    if opens < nodes {
-        return true;
-    }
-    if closes < nodes {
-        return true;
-    }
-    if tails < arcs {
-        return true;
-    }
-    if heads < arcs {
-        return true;
-    }
-    if counts < arcs {
-        return true;
-    }
-    if ticks < points {
-        return true;
-    }
-    travels < points
+    tables.cells.len() < nodes
+        || tables.opens.len() < nodes
+        || tables.closes.len() < nodes
+        || tables.tails.len() < arcs
+        || tables.heads.len() < arcs
+        || tables.counts.len() < arcs
+        || tables.ticks.len() < points
+        || tables.travels.len() < points
 }
 
 // The cells of the nodes, into a table with room for them.
@@ -117,79 +95,29 @@ fn write_points(file: &[u8], l: Layout, ticks: &mut [u16], travels: &mut [u16])
 }
 
 // All eight tables.
-fn write_tables(
-    file: &[u8],
-    l: Layout,
-    cells: &mut [u16],
-    opens: &mut [u16],
-    closes: &mut [u16],
-    tails: &mut [u16],
-    heads: &mut [u16],
-    counts: &mut [u16],
-    ticks: &mut [u16],
-    travels: &mut [u16],
-)
+fn write_tables(file: &[u8], l: Layout, tables: &mut LentTablesMut<'_>)
     requires laid { Laid file.now l }
-    requires room { Room l
-        (tables cells.old opens.old closes.old tails.old heads.old counts.old ticks.old
-        travels.old) }
-    ensures { tables cells.new opens.new closes.new tails.new
-        heads.new counts.new ticks.new travels.new
-        ≡ each overwritten (decode file.now)
-        (tables cells.old opens.old closes.old tails.old
-        heads.old counts.old ticks.old travels.old) }
+    requires room { Room l (tables_in tables.old) }
+    ensures same { SameTables tables.old tables.new }
+    ensures written { tables_in tables.new
+        ≡ each overwritten (decode file.now) (tables_in tables.old) }
 {
-    write_cells(file, l, cells);
-    write_hours(file, l, opens, closes);
-    write_arcs(file, l, tails, heads, counts);
-    write_points(file, l, ticks, travels);
+    write_cells(file, l, tables.cells);
+    write_hours(file, l, tables.opens, tables.closes);
+    write_arcs(file, l, tables.tails, tables.heads, tables.counts);
+    write_points(file, l, tables.ticks, tables.travels);
 }
 
 // The header's numbers, with the tables' first entries the network's; or a refusal, with every table as it
 // was.
-pub fn open_network(
-    file: &[u8],
-    cells: &mut [u16],
-    opens: &mut [u16],
-    closes: &mut [u16],
-    tails: &mut [u16],
-    heads: &mut [u16],
-    counts: &mut [u16],
-    ticks: &mut [u16],
-    travels: &mut [u16],
-) -> Result<Header, Refusal>
-    ensures { OpenCall file.now
-        (tables cells.old opens.old closes.old tails.old
-        heads.old counts.old ticks.old travels.old)
-        (tables cells.new opens.new closes.new tails.new
-        heads.new counts.new ticks.new travels.new)
-        result }
+pub fn open_network(file: &[u8], tables: &mut LentTablesMut<'_>) -> Result<Header, Refusal>
+    ensures same { SameTables tables.old tables.new }
+    ensures call { OpenCall file.now (tables_in tables.old) (tables_in tables.new) result }
 {
     let h = validate(file)?;
-    if is_short(
-        h,
-        cells.len(),
-        opens.len(),
-        closes.len(),
-        tails.len(),
-        heads.len(),
-        counts.len(),
-        ticks.len(),
-        travels.len(),
-    ) {
+    if is_short(h, &tables.lent()) {
         return refused(Reason::TableShort, 0);
     }
-    write_tables(
-        file,
-        h.layout(),
-        cells,
-        opens,
-        closes,
-        tails,
-        heads,
-        counts,
-        ticks,
-        travels,
-    );
+    write_tables(file, h.layout(), tables);
     Ok(h)
 }

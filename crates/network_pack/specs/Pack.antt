@@ -2,12 +2,13 @@
 -- are written become the network's file.
 use mathlib.Core.{Path.◌≡◌, Path.refl, Path.sym, Path.◌∙◌, Path.ap, Path.subst, List.List}
 use Rattle.file_refusals.specs.Refusal.{refused}
-use Rattle.std.specs.Prelude.{Bool, true, false, cond, ℕ, ◌^◌, ◌<◌, length, Result, Ok, Err, Option, Some, None, ⊤}
+use Rattle.std.specs.Prelude.{Bool, true, false, cond, ℕ, ◌^◌, ◌<◌, length, Result, Ok, Err, ⊤}
+use Rattle.std.specs.Prelude.{Option, Some, None}
 use Rattle.std.proofs.Common.{arith}
 use Rattle.file_refusals.specs.declared.{Refusal.Refusal}
-use Rattle.network.specs.declared.header.{Header.Header, Layout.Layout}
-use Rattle.network.specs.{Limits.made, Limits.WithinLimits, Limits.made_within, Layout.layout_of, Rules.judged}
-use Rattle.network.specs.{Network.Network, Tables.Tables, Tables.network_of}
+use Rattle.network.specs.declared.header.{Header.Header, Layout.Layout, HeaderNumbers.HeaderNumbers}
+use Rattle.network.specs.{Limits.made, Limits.WithinLimits, Limits.made_within, Layout.layout_of}
+use Rattle.network.specs.{Network.Network, Rules.judged, Tables.Tables, Tables.network_of}
 use Rattle.network_open.specs.Open.{too_short, open_room}
 use Rattle.network_encode.specs.{Encode.encode, Packable.Packable}
 use Rattle.file_refusals.specs.Writing.{written_into, bytes_after, Writes, writes_refused}
@@ -23,6 +24,9 @@ numbers number period nodes arcs cells points hours = record {
   points = points;
   hours = hours;
 }
+
+abbrev pub numbers_of : HeaderNumbers → Header
+numbers_of n = numbers n.number n.period n.nodes n.arcs n.cells n.points n.hours
 
 abbrev pub made_of : Header → Option Header
 made_of h = made h.number h.period h.nodes h.arcs h.cells h.points h.hours
@@ -77,7 +81,8 @@ module _ (file before after : List ℕ) (long room : ℕ) (j k : Result ⊤ Refu
   rules_faulty q f = record { answer = rw (← e, f); written = refl }
 
 -- 30
-module _ (h : Header) (t : Tables) (before : List ℕ) (y : Bool) (e : y ≡ too_short h t) (r : Result ℕ Refusal) where
+module _ (h : Header) (t : Tables) (before : List ℕ) (y : Bool) (e : y ≡ too_short h t)
+    (r : Result ℕ Refusal) where
   pub tables_short : y ≡ true → r ≡ refused 30 0
       → PacksTables h t before before r
   unfolding packed_tables

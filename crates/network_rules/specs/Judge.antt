@@ -1,13 +1,12 @@
 -- The ladder of the rules 7, 37, 8, 9 and 10 as code climbs it that knows a network's sizes, on a file in
 -- place or on tables: each rung is taken, or passed.
 use Rattle.file_refusals.specs.Refusal.{refused}
-use Rattle.std.specs.Prelude.{◌≡◌, ℕ, ◌≤◌, ◌<◌, Result, Ok, ⊤}
+use Rattle.std.specs.Prelude.{◌≡◌, ℕ, ◌≤◌, ◌<◌, Result, Ok, Err, ⊤}
 use Rattle.std.proofs.Math.Path.{sym}
 use Rattle.std.proofs.Common.{◌∙◌, arith}
 use borrow.Author.Tests.{lt-ltb, le-ltb, eq-eqb, ne_eqb}
 use Rattle.theory_loops.specs.{First.first, First.first_le, First.clear, Pick.at_first, Pick.past_first}
 use Rattle.network.specs.declared.header.Layout.{Layout}
-use Rattle.network_scan.specs.declared.scan.Scan.{Scan}
 use Rattle.network.specs.Network.{Network, nodes, arcs, points, start}
 use Rattle.network.specs.{Decode.Sizes, Rules.judged_hours, Rules.judged, FirstPoint.Counted}
 use Rattle.network.proofs.Sound.{arc_sound}
@@ -86,36 +85,34 @@ module _ {n : Network} {l : Layout} (s : Sizes n l) where
         sum = sym (rw q at e) ∙ h ∙ s.points;
       }
 
--- 9 and 10, of Q points
-module _ {n : Network} {Q : ℕ} (q : Q ≡ points n) (t : Scan) (r : Result ⊤ Refusal) (e : ScannedAll n t) where
-  pub point_taken : t.bad < Q → r ≡ refused 9 t.bad → r ≡ judged_points n
+-- 9
+pub point_taken : (n : Network) (r : Result ⊤ Refusal) (bad : ℕ) → ScannedAll n (Err bad) → r ≡ refused 9 bad
+    → r ≡ judged_points n
+unfolding judged_points
+point_taken n r bad (inside, is) f = rw (← is, lt-ltb bad (points n) inside) f
+
+-- 10, of Q points: where rule 9 holds everywhere, what is left is rule 10
+module _ (n : Network) {Q : ℕ} (q : Q ≡ points n) (r : Result ⊤ Refusal) (late : ℕ)
+    (e : ScannedAll n (Ok late)) where
+  pub late_taken : late < Q → r ≡ refused 10 late → r ≡ judged_points n
   unfolding judged_points
-  point_taken h f = rw (← e.bad, lt-ltb t.bad (points n) (rw q at h)) f
+  late_taken h f =
+      rw (
+        ← e.0,
+        le-ltb (points n) (points n) (omega arith),
+        ← e.1,
+        lt-ltb late (points n) (rw q at h),
+      ) f
 
-  -- where rule 9 holds everywhere, what is left is rule 10
-  module _ (b : Q ≤ t.bad) where
-    fine : t.bad ≡ points n
-    fine = omega (arith, e.within)
-
-    pub late_taken : t.late < Q → r ≡ refused 10 t.late → r ≡ judged_points n
-    unfolding judged_points
-    late_taken h f =
-        rw (
-          ← e.bad,
-          le-ltb t.bad (points n) (omega (arith, fine)),
-          ← (e.late fine),
-          lt-ltb t.late (points n) (rw q at h),
-        ) f
-
-    pub points_passed : Q ≤ t.late → r ≡ Ok tt → r ≡ judged_points n
-    unfolding judged_points
-    points_passed h f =
-        rw (
-          ← e.bad,
-          le-ltb t.bad (points n) (omega (arith, fine)),
-          ← (e.late fine),
-          le-ltb t.late (points n) (rw q at h),
-        ) f
+  pub points_passed : Q ≤ late → r ≡ Ok tt → r ≡ judged_points n
+  unfolding judged_points
+  points_passed h f =
+      rw (
+        ← e.0,
+        le-ltb (points n) (points n) (omega arith),
+        ← e.1,
+        le-ltb late (points n) (rw q at h),
+      ) f
 
 -- for `search judgings` where the code answers, with `laid_sizes` where it reads a file
 pub ruleset judgings = (
@@ -127,7 +124,4 @@ pub ruleset judgings = (
   arcs_passed_lem,
   sum_taken,
   sum_passed,
-  point_taken,
-  late_taken,
-  points_passed,
 )

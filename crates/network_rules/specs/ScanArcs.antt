@@ -1,6 +1,6 @@
 -- A pass over the arcs, block by block: no arc before arc k breaks rule 8, and their points are added up
--- (`ArcsPassed`), or one does (`ArcsScanned`).
-use mathlib.Core.{Path.◌≡◌, Path.sym, Bool.true, Bool.false}
+-- (`ArcsPassed`), or one is the first that does (`FirstBad`).
+use mathlib.Core.{Path.◌≡◌, Bool.Bool, Bool.true, Bool.false}
 use Rattle.std.specs.Prelude.{ℕ, ◌+◌, ◌*◌, ◌≤◌, ◌<◌}
 use native.Mathlib.Omega.{arith}
 use Rattle.theory_loops.specs.First.{first, none_yet, pass, stop, first_is, least, found}
@@ -12,9 +12,9 @@ pub record ArcsPassed (n : Network) (k sum : ℕ) : Type 0 where
   pub is : sum ≡ start n k
   pub few : sum ≤ 65535 * k
 
-pub record ArcsScanned (n : Network) (k bad sum : ℕ) : Type 0 where
-  pub is : bad ≡ first k (bad_arc n)
-  pub passed : k ≤ bad → ArcsPassed n k sum
+-- of k arcs, arc a is the first bad one
+abbrev pub FirstBad : (k : ℕ) (bad : ℕ → Bool) (a : ℕ) → Type 0
+FirstBad k bad a = (a < k) × (a ≡ first k bad)
 
 module _ {n : Network} where
   pub arcs_none : ArcsPassed n 0 0
@@ -35,19 +35,18 @@ module _ {n : Network} where
       few = omega (arith, p.few);
     })
 
-    pub arcs_stop : (m : ℕ) → k < m → bad_arc n k ≡ true → ArcsScanned n m k s
-    arcs_stop m l b = record { is = stop (bad_arc n) m k p.none l b; passed = λ h. absurd (omega arith) }
+    pub arcs_stop : (m : ℕ) → k < m → bad_arc n k ≡ true → FirstBad m (bad_arc n) k
+    arcs_stop m l b = (l, stop (bad_arc n) m k p.none l b)
 
-    pub arcs_end : (m : ℕ) → m ≡ k → ArcsScanned n m m s
-    arcs_end m e = rw e (record { is = sym p.none; passed = λ h. p })
-
-  -- what is found in a block is found in all
-  pub arcs_found : (k m bad sum : ℕ) → ArcsScanned n k bad sum → bad < k → k ≤ m → bad ≡ first m (bad_arc n)
-  arcs_found k m bad sum h l o =
-      rw h.is
-      (first_is (bad_arc n) m (first k (bad_arc n))
+-- what is found in a block is found in all
+pub arcs_found : (bad : ℕ → Bool) (k m a : ℕ) → FirstBad k bad a → k ≤ m → FirstBad m bad a
+arcs_found bad k m a (l, e) o = (
+  omega arith,
+  rw e
+      (first_is bad m (first k bad)
       (record {
-        within = omega (arith, h.is);
-        before = least (bad_arc n) k;
-        at = λ _. found (bad_arc n) k (omega (arith, h.is));
-      }))
+        within = omega (arith, e);
+        before = least bad k;
+        at = λ _. found bad k (omega (arith, e));
+      })),
+)

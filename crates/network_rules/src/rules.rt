@@ -1,14 +1,13 @@
 // The rules 7 to 10 and 37, on a file that is laid out as its header says. The points are first asked whether
 // they keep rules 9 and 10 (`network_steady`). Where they do not, one scan finds the places (`network_scan`).
-ghost use Rattle.std.specs.Prelude.{◌≡◌, ◌+◌, ◌*◌, ◌≤◌, ◌<◌};
+ghost use Rattle.std.specs.Prelude.{◌≡◌, ◌+◌, ◌*◌, ◌≤◌, ◌<◌, MatchResult};
 ghost use Rattle.theory_loops.specs.First.{first};
 ghost use Rattle.file_blocks.specs.Kind.{arc_per};
-ghost use Rattle.network.specs.Network;
 ghost use Rattle.network.specs.Decode.{decode, Laid};
 ghost use Rattle.network.specs.Rules.{bad_cell, part_of_day, bad_hours, bad_hours_of, bad_ends, bad_arc};
 ghost use Rattle.network.specs.Rules.{judged_points, judged_arcs, judged};
 ghost use Rattle.network.specs.FirstPoint.{Counted};
-ghost use Rattle.network_rules.specs.ScanArcs.{ArcsPassed, ArcsScanned};
+ghost use Rattle.network_rules.specs.ScanArcs.{ArcsPassed, FirstBad};
 
 use file_blocks::kind::ARC;
 use file_refusals::reason::Reason;
@@ -18,14 +17,6 @@ use network::header::Layout;
 use network::read;
 use network_scan::scan::scan_points;
 use network_steady::steady::is_steady;
-
-// What a pass over the arcs finds: the first that breaks rule 8, or how many there are, and the points of
-// those before it.
-#[derive(Clone, Copy)]
-pub struct Arcs {
-    pub bad: usize,
-    pub sum: usize,
-}
 
 // Rule 7 at node v.
 fn is_bad_cell(file: &[u8], l: Layout, v: usize) -> bool
@@ -113,50 +104,40 @@ pub fn bad_ends(nodes: usize, period: usize, tail: usize, head: usize, count: us
     period < count
 }
 
-// What a pass over the arcs up to the end of block j finds, after arcs that keep rule 8 and have `before`
-// points: the block has m arcs.
-fn scan_block(file: &[u8], l: Layout, j: usize, m: usize, before: usize) -> Arcs
+// The points of all arcs up to the m-th of block j, or the first of them that breaks rule 8. The arcs before
+// the block keep it and have `before` points.
+fn scan_block(file: &[u8], l: Layout, j: usize, m: usize, before: usize) -> Result<usize, usize>
     requires laid { Laid file.now l }
     requires m_le_arc_per { (m ≤ arc_per) × (arc_per * j + m ≤ l.arcs) }
     requires arcs_passed { ArcsPassed (decode file.now) (arc_per * j) before }
-    ensures { ArcsScanned (decode file.now) (arc_per * j + m) result.bad result.sum }
+    ensures { MatchResult result (ArcsPassed (decode file.now) (arc_per * j + m))
+        (FirstBad (arc_per * j + m) (bad_arc (decode file.now))) }
 {
     let first = ARC.per * j;
     let mut sum = before;
     for e in 0..m {
         let arc = entry_in(file, l, j, e);
         if bad_ends(l.nodes, l.period, arc.tail, arc.head, arc.count) {
-            return Arcs {
-                bad: first + e,
-                sum,
-            };
+            return Err(first + e);
         }
         sum += arc.count;
     }
-    Arcs {
-        bad: first + m,
-        sum,
-    }
+    Ok(sum)
 }
 
-// The first arc that breaks rule 8, or the count of arcs; and where there is none, the points of all arcs,
-// added up.
-fn scan_arcs(file: &[u8], l: Layout) -> Arcs
+// The points of all arcs, added up, or the first arc that breaks rule 8.
+fn scan_arcs(file: &[u8], l: Layout) -> Result<usize, usize>
     requires { Laid file.now l }
-    ensures { (result.bad ≡ first l.arcs (bad_arc (decode file.now)))
-        × (l.arcs ≤ result.bad → result.sum ≡ Network.start (decode file.now) l.arcs) }
+    ensures { MatchResult result (ArcsPassed (decode file.now) l.arcs)
+        (FirstBad l.arcs (bad_arc (decode file.now))) }
 {
     let arcs = l.arcs;
     let mut sum = 0;
     for j in 0..ARC.blocks(arcs) {
         let m = ARC.entries_in(arcs, j);
-        let found = scan_block(file, l, j, m, sum);
-        if found.bad < ARC.per * j + m {
-            return found;
-        }
-        sum = found.sum;
+        sum = scan_block(file, l, j, m, sum)?;
     }
-    Arcs { bad: arcs, sum }
+    Ok(sum)
 }
 
 // Rules 9 and 10. Where they are kept, a test that finds no place says so sooner.
@@ -168,12 +149,10 @@ fn judge_points(file: &[u8], l: Layout) -> Result<(), Refusal>
     if is_steady(file, l) {
         return Ok(());
     }
-    let scan = scan_points(file, l);
-    let bad = scan.bad;
-    if bad < l.points {
-        return refused(Reason::NetworkPoint, bad as u32);
-    }
-    let late = scan.late;
+    let late = match scan_points(file, l) {
+        Ok(late) => late,
+        Err(bad) => return refused(Reason::NetworkPoint, bad as u32),
+    };
     if late < l.points {
         return refused(Reason::NetworkFifo, late as u32);
     }
@@ -185,12 +164,11 @@ fn judge_arcs(file: &[u8], l: Layout) -> Result<(), Refusal>
     requires { Laid file.now l }
     ensures { result ≡ judged_arcs (decode file.now) }
 {
-    let found = scan_arcs(file, l);
-    let a = found.bad;
-    if a < l.arcs {
-        return refused(Reason::NetworkRoad, a as u32);
-    }
-    if found.sum != l.points {
+    let sum = match scan_arcs(file, l) {
+        Ok(sum) => sum,
+        Err(a) => return refused(Reason::NetworkRoad, a as u32),
+    };
+    if sum != l.points {
         return refused(Reason::NetworkRoad, l.arcs as u32);
     }
     judge_points(file, l)

@@ -3,13 +3,13 @@
 -- is judged of a point once the next one is read.
 use mathlib.Core.{Path.◌≡◌, Path.refl, Path.sym, Path.◌∙◌, List.List}
 use Rattle.std.specs.Prelude.{Bool, true, false, cond, not, ◌||◌, ℕ, zero, suc, ◌+◌, ◌-◌, ◌≤◌, ◌<◌}
+use Rattle.std.specs.Prelude.{Result, Ok, Err, MatchResult}
 use native.Mathlib.Omega.{arith}
 use lib.{ListN.get_or, Dec.leb, Dec.ltb, Dec.eqb}
 use Rattle.std.proofs.Common.{ne_eqb}
 use Rattle.theory_loops.specs.First.{first, none_yet, pass, stop, done, first_more}
 use Rattle.theory_travel.specs.{Day.closed_in, Day.closed_end, Ticks.bad_tick}
 use Rattle.theory_travel.specs.Table.{entry_at, entry_first}
-use Rattle.network_scan.specs.declared.scan.Scan.{Scan}
 use Rattle.network.specs.Rules.{bad_point, overtaken}
 
 -- rule 9 as code asks it of point i, whose tick is t and travel v, after a point with tick p
@@ -25,10 +25,12 @@ unfoldable pub late_at : ℕ → ℕ → ℕ → ℕ → ℕ
 late_at late i end next = cond (eqb i 0) 0 (cond (ltb late (i - 1)) late (cond (ltb next end) (i - 1) i))
 
 -- what a scan of an arc's points tells: the first that breaks rule 9, and where there is none the first that
--- breaks rule 10
-pub record Scanned (period : ℕ) (t v : ℕ → ℕ) (m : ℕ) (r : Scan) : Type 0 where
-  pub bad : r.bad ≡ first m (bad_point period t v)
-  pub late : r.bad ≡ m → r.late ≡ first m (overtaken period t v m)
+-- breaks rule 10, or their count
+abbrev pub Scanned : (period : ℕ) (t v : ℕ → ℕ) (m : ℕ) → Result ℕ ℕ → Type 0
+Scanned period t v m r =
+    MatchResult r
+    (λ late. (m ≡ first m (bad_point period t v)) × (late ≡ first m (overtaken period t v m)))
+    (λ bad. (bad < m) × (bad ≡ first m (bad_point period t v)))
 
 -- the loop over the points of an arc, before point i: the point before it has this tick and end
 pub record Scanning (period : ℕ) (t v : ℕ → ℕ) (m i p end late : ℕ) : Type 0 where
@@ -106,9 +108,8 @@ module _ (ticks travels : List ℕ) (period from m : ℕ) where
     unfolding entry_at
     told_bad = g ∙ (rw (e, f) (bad_is period i p t v s.tick_is))
 
-    pub scan_stop : b ≡ true
-        → Scanned period (entry_at ticks from) (entry_at travels from) m (record { bad = i; late = 0 })
-    scan_stop h = record { bad = stop _ m i s.fine l (sym told_bad ∙ h); late = λ q. absurd (omega arith) }
+    pub scan_stop : b ≡ true → Scanned period (entry_at ticks from) (entry_at travels from) m (Err i)
+    scan_stop h = (l, stop _ m i s.fine l (sym told_bad ∙ h))
 
     pub scan_more : (next : ℕ) → b ≡ false → next ≡ late_at late i end (x + y)
         → Scanning period (entry_at ticks from) (entry_at travels from) m (i + 1) x (x + y) next
@@ -127,15 +128,14 @@ module _ (ticks travels : List ℕ) (period from m : ℕ) where
   pub scan_end : (i p end late w next : ℕ)
       → Scanning period (entry_at ticks from) (entry_at travels from) m i p end late → m ≤ i → 0 < m
       → w ≡ get_or travels from 0 → next ≡ late_at late m end (period + w)
-      → Scanned period (entry_at ticks from) (entry_at travels from) m (record { bad = m; late = next })
+      → Scanned period (entry_at ticks from) (entry_at travels from) m (Ok next)
   scan_end i p end late w next s l h e k =
       let q : i ≡ m = omega (arith, s.within) in
-      let z : w ≡ v 0 = e ∙ entry_first travels from in
-      record {
-        bad = rw q at (done _ i i s.fine (omega arith) (omega arith));
-        late = λ _. k ∙ late_more _ m late end (period + w) (rw q at s.late_is)
-            (λ o. rw (z, rw q at s.end_is o) (last_is period m t v o));
-      }
+      let z : w ≡ v 0 = e ∙ entry_first travels from in (
+        rw q at (done _ i i s.fine (omega arith) (omega arith)),
+        k ∙ late_more _ m late end (period + w) (rw q at s.late_is)
+            (λ o. rw (z, rw q at s.end_is o) (last_is period m t v o)),
+      )
 
 -- for `search scans` at the needs of that loop
 pub ruleset scans = (scan_start, scan_stop, scan_more, scan_end)

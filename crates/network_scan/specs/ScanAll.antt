@@ -3,23 +3,25 @@
 use mathlib.Core.{Path.◌≡◌, Path.refl, Path.sym, Path.◌∙◌, Bool.Bool, Bool.true, Bool.false, Bool.cond}
 use Prim.Native.Nat.{ℕ, suc, ◌+◌, ◌≤◌, ◌<◌}
 use native.Mathlib.{Numerals.add-one, Omega.arith}
-use Rattle.std.specs.Prelude.{ltb}
+use Rattle.std.specs.Prelude.{ltb, Result, Ok, Err, MatchResult}
 use Rattle.std.proofs.Common.{lt-ltb, le-ltb, ltb-true, ltb-false}
 use Rattle.theory_loops.specs.First.{first, first_le, found, none_yet, pass, stop, first_more}
 use Rattle.theory_loops.specs.Total.{total_none, total_more}
 use Rattle.theory_travel.specs.Table.{entry_at}
-use Rattle.network_scan.specs.declared.scan.Scan.{Scan}
 use Rattle.network.specs.Network.{Network, arcs, points, count, start}
 use Rattle.network.specs.FirstPoint.{Counted, any_of, points_in, none_first, at_first}
 use Rattle.network.specs.Rules.{ticks_of, travels_of, bad_point_of, overtaken_of, first_point}
 use Rattle.network_scan.specs.Scan.{Scanned}
 use Rattle.network.specs.Limits.{most_points}
 
--- the first point that breaks rule 9, and where there is none the first that breaks rule 10
-pub record ScannedAll (n : Network) (r : Scan) : Type 0 where
-  pub bad : r.bad ≡ first_point n (bad_point_of n) (arcs n)
-  pub within : r.bad ≤ points n
-  pub late : r.bad ≡ points n → r.late ≡ first_point n (overtaken_of n) (arcs n)
+-- the first point that breaks rule 9, and where there is none the first that breaks rule 10, or the count of
+-- points
+abbrev pub ScannedAll : (n : Network) → Result ℕ ℕ → Type 0
+ScannedAll n r =
+    MatchResult r
+    (λ late. (points n ≡ first_point n (bad_point_of n) (arcs n))
+    × (late ≡ first_point n (overtaken_of n) (arcs n)))
+    (λ bad. (bad < points n) × (bad ≡ first_point n (bad_point_of n) (arcs n)))
 
 -- the loop before arc a, whose points start at `from`; P is the period, R and Q are the counts of arcs and of
 -- points
@@ -73,11 +75,11 @@ module _ (n : Network) (test : ℕ → ℕ → Bool) where
           rw (le-ltb late (points n) (omega arith), k) (sym (none_first n test (suc a) z))
 
 -- what a scan tells, of an arc and by its point numbers
-scanned_of : (n : Network) {P : ℕ} (a : ℕ) {from m : ℕ} {r : Scan} → P ≡ n.period → from ≡ start n a
+scanned_of : (n : Network) {P : ℕ} (a : ℕ) {from m : ℕ} (r : Result ℕ ℕ) → P ≡ n.period → from ≡ start n a
     → m ≡ count n a
     → Scanned P (entry_at n.ticks from) (entry_at n.travels from) m r
     → Scanned n.period (ticks_of n a) (travels_of n a) (count n a) r
-scanned_of n a e f g s = rw (e, f, g) at s
+scanned_of n a r e f g s = rw (e, f, g) at s
 
 -- THE LOOP
 module _ (n : Network) (P R Q : ℕ) where
@@ -113,28 +115,24 @@ module _ (n : Network) (P R Q : ℕ) where
     pub all_some : 0 < m
     all_some = omega (arith, e, s.counted.some a (omega (arith, s.arcs_are)))
 
-  module _ (a from late m : ℕ) (r : Scan) (s : ScanningAll n P R Q a from late) (l : a < R)
-      (e : m ≡ count n a)
-      (t : Scanned P (entry_at n.ticks from) (entry_at n.travels from) m r) where
-    told : Scanned n.period (ticks_of n a) (travels_of n a) (count n a) r
-    told = scanned_of n a s.period_is s.from_is e t
-
-    pub all_stop : r.bad < m → ScannedAll n (record { bad = from + r.bad; late = 0 })
-    all_stop h =
+  module _ (a from late m : ℕ) (s : ScanningAll n P R Q a from late) (l : a < R) (e : m ≡ count n a) where
+    pub all_stop : (x : ℕ) → Scanned P (entry_at n.ticks from) (entry_at n.travels from) m (Err x)
+        → ScannedAll n (Err (from + x))
+    all_stop x t =
+        let (inside, is) = scanned_of n a (Err x) s.period_is s.from_is e t in
         let k : a < arcs n = omega (arith, s.arcs_are) in
-        let b : first (count n a) (bad_point_of n a) < count n a = omega (arith, told.bad, e) in
-        let q : a ≡ first (arcs n) (any_of n (bad_point_of n)) = stop _ (arcs n) a s.fine k (lt-ltb _ _ b) in
-        record {
-          bad = rw (s.from_is, told.bad) (at_first n (bad_point_of n) (arcs n) a q k);
-          within = omega (arith, all_room a from late m s l e, s.points_are);
-          late = λ z. absurd (omega (arith, all_room a from late m s l e, s.points_are));
-        }
+        let b : first (count n a) (bad_point_of n a) < count n a = omega (arith, is, inside) in
+        let q : a ≡ first (arcs n) (any_of n (bad_point_of n)) = stop _ (arcs n) a s.fine k (lt-ltb _ _ b) in (
+          omega (arith, all_room a from late m s l e, s.points_are, inside, e),
+          rw (s.from_is, is) (at_first n (bad_point_of n) (arcs n) a q k),
+        )
 
-    pub all_more : (next : ℕ) → m ≤ r.bad → next ≡ late_in late Q from m r.late
+    pub all_more : (x next : ℕ) → Scanned P (entry_at n.ticks from) (entry_at n.travels from) m (Ok x)
+        → next ≡ late_in late Q from m x
         → ScanningAll n P R Q (a + 1) (from + m) next
     unfolding start
-    all_more next h k =
-        let b : r.bad ≡ count n a = omega (arith, told.bad, e, first_le (bad_point_of n a) (count n a)) in
+    all_more x next t k =
+        let (none, is) = scanned_of n a (Ok x) s.period_is s.from_is e t in
         record {
           counted = s.counted;
           period_is = s.period_is;
@@ -144,20 +142,16 @@ module _ (n : Network) (P R Q : ℕ) where
           within = omega arith;
           from_is = total_more (count n) from m a s.from_is e;
           fine = pass _ a s.fine
-              (le-ltb (first (count n a) (bad_point_of n a)) (count n a) (omega (arith, told.bad)));
-          late_is = k ∙ rw (s.points_are, s.from_is, e, told.late b, add-one a)
+              (le-ltb (first (count n a) (bad_point_of n a)) (count n a) (omega (arith, none)));
+          late_is = k ∙ rw (s.points_are, s.from_is, e, is, add-one a)
               (first_in n (overtaken_of n) s.counted a late (omega (arith, s.arcs_are)) s.late_is);
         }
 
   pub all_end : (a from late : ℕ) → ScanningAll n P R Q a from late → R ≤ a
-      → ScannedAll n (record { bad = Q; late = late })
+      → ScannedAll n (Ok late)
   all_end a from late s l =
       let q : a ≡ arcs n = omega (arith, s.within, s.arcs_are) in
-      record {
-        bad = s.points_are ∙ sym (none_first n _ (arcs n) (rw q at s.fine));
-        within = omega (arith, s.points_are);
-        late = λ _. rw q at s.late_is;
-      }
+      (sym (none_first n _ (arcs n) (rw q at s.fine)), rw q at s.late_is)
 
 -- for `search alls` at the needs of that loop
 pub ruleset alls = (all_start, all_room, all_some, all_stop, all_more, all_end)

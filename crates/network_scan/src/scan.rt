@@ -10,14 +10,6 @@ ghost use Rattle.network_scan.specs.ScanAll.{ScannedAll, late_in};
 use network::header::Layout;
 use network::read;
 
-// What a scan of points finds: the first that breaks rule 9, and the first that breaks rule 10, each by its
-// number, or how many there are.
-#[derive(Clone, Copy)]
-pub struct Scan {
-    pub bad: usize,
-    pub late: usize,
-}
-
 // Is tick t of point i, after a point with tick p, out of its place?
 fn is_misplaced(i: usize, p: usize, t: usize) -> bool
     ensures { result ≡ misplaced i p t }
@@ -61,8 +53,9 @@ pub fn late_at(late: usize, i: usize, end: usize, next: usize) -> usize
     i
 }
 
-// Rules 9 and 10 over the points of one arc, which stand from point `from` on.
-fn find_faults(file: &[u8], l: Layout, from: usize, count: usize) -> Scan
+// The points of one arc, which stand from point `from` on: the first that breaks rule 10, or how many there
+// are, and as an error the first that breaks rule 9.
+fn find_faults(file: &[u8], l: Layout, from: usize, count: usize) -> Result<usize, usize>
     requires laid { Laid file.now l }
     requires count_bound { (from + count ≤ l.points) × (0 < count) }
     ensures { Scanned l.period (entry_at (decode file.now).ticks from)
@@ -75,17 +68,14 @@ fn find_faults(file: &[u8], l: Layout, from: usize, count: usize) -> Scan
         let t = read::tick(file, l, from + i);
         let v = read::travel(file, l, from + i);
         if bad_point(l.period, i, tick, t, v) {
-            return Scan { bad: i, late: 0 };
+            return Err(i);
         }
         late = late_at(late, i, end, t + v);
         tick = t;
         end = t + v;
     }
     let v = read::travel(file, l, from);
-    Scan {
-        bad: count,
-        late: late_at(late, count, end, l.period + v),
-    }
+    Ok(late_at(late, count, end, l.period + v))
 }
 
 // The first late point of one arc more: `count` points from `from` on, of which `at` is the first late one;
@@ -103,8 +93,9 @@ pub fn late_in(late: usize, points: usize, from: usize, count: usize, at: usize)
     points
 }
 
-// Rules 9 and 10 over the points of all arcs.
-pub fn scan_points(file: &[u8], l: Layout) -> Scan
+// The points of all arcs: the first that breaks rule 10, or how many there are, and as an error the first
+// that breaks rule 9.
+pub fn scan_points(file: &[u8], l: Layout) -> Result<usize, usize>
     requires laid { Laid file.now l }
     requires counted { Counted (decode file.now) }
     ensures { ScannedAll (decode file.now) result }
@@ -115,16 +106,12 @@ pub fn scan_points(file: &[u8], l: Layout) -> Scan
     let mut late = points;
     for a in 0..arcs {
         let count = read::count(file, l, a);
-        let scan = find_faults(file, l, from, count);
-        let bad = scan.bad;
-        if bad < count {
-            return Scan {
-                bad: from + bad,
-                late: 0,
-            };
-        }
-        late = late_in(late, points, from, count, scan.late);
+        let at = match find_faults(file, l, from, count) {
+            Ok(at) => at,
+            Err(bad) => return Err(from + bad),
+        };
+        late = late_in(late, points, from, count, at);
         from += count;
     }
-    Scan { bad: points, late }
+    Ok(late)
 }

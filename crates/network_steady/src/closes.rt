@@ -1,6 +1,6 @@
 // Whether the days of all arcs close. The arcs are walked block by block, without a division; the points at
 // the ends of an arc cost one each.
-ghost use Rattle.std.specs.Prelude.{◌≡◌, ◌+◌, ◌*◌, ◌<◌, ◌≤◌, true};
+ghost use Rattle.std.specs.Prelude.{◌≡◌, ◌+◌, ◌*◌, ◌<◌, ◌≤◌, true, IfSome};
 ghost use Rattle.theory_travel.specs.Table.{entry_at};
 ghost use Rattle.file_blocks.specs.Kind.{arc_per};
 ghost use Rattle.network.specs.Limits.{most_period};
@@ -14,13 +14,6 @@ use file_blocks::kind;
 use file_fields::{BLOCK, HEAD};
 use network::arcs::entry_in;
 use network::header::Layout;
-
-// What a walk over a block of arcs finds: whether their days close, and if so the points of all arcs so far.
-#[derive(Clone, Copy)]
-pub struct Closes {
-    pub all: bool,
-    pub sum: usize,
-}
 
 // The bytes between the points of a block and those of the next.
 const BETWEEN: usize = BLOCK - kind::POINT.size * kind::POINT.per;
@@ -74,23 +67,24 @@ fn is_closed(file: &[u8], l: Layout, from: usize, count: usize) -> bool
     )
 }
 
-// Do the days of the arcs in block j close, m of them? The points of the arcs before it are `before`.
-fn close_block(file: &[u8], l: Layout, j: usize, m: usize, before: usize) -> Closes
+// The points of all arcs up to the m-th of block j, or none where the day of an arc in the block does not
+// close. The arcs before the block have `before` points.
+fn close_block(file: &[u8], l: Layout, j: usize, m: usize, before: usize) -> Option<usize>
     requires laid { Laid file.now l }
     requires m_le_arc_per { (m ≤ arc_per) × (arc_per * j + m ≤ l.arcs) }
     requires closing { Closing (decode file.now) l (arc_per * j) before }
-    ensures { result.all ≡ true → Closing (decode file.now) l (arc_per * j + m) result.sum }
+    ensures { IfSome result (Closing (decode file.now) l (arc_per * j + m)) }
 {
     let mut sum = before;
     for e in 0..m {
         let arc = entry_in(file, l, j, e);
         let closed = is_closed(file, l, sum, arc.count);
         if !closed {
-            return Closes { all: false, sum };
+            return None;
         }
         sum += arc.count;
     }
-    Closes { all: true, sum }
+    Some(sum)
 }
 
 // Do the days of all arcs close?
@@ -103,12 +97,10 @@ pub fn are_closed(file: &[u8], l: Layout) -> bool
     let mut sum = 0;
     for j in 0..kind::ARC.blocks(arcs) {
         let m = kind::ARC.entries_in(arcs, j);
-        let found = close_block(file, l, j, m, sum);
-        let all = found.all;
-        if !all {
+        let Some(passed) = close_block(file, l, j, m, sum) else {
             return false;
-        }
-        sum = found.sum;
+        };
+        sum = passed;
     }
     true
 }

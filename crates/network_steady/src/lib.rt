@@ -3,7 +3,7 @@
 //   closes    the closes of the arcs' days
 //   steady    the answer
 // It may call `network` for the entries of the file and `file_blocks` and `file_fields` for bytes, and cites
-// `theory_loops`, `theory_breaks`, `theory_travel` and `file_refusals`.
+// `theory_loops`, `theory_breaks` and `theory_travel`.
 #![tactic(auto)]
 
 mod closes;

@@ -1,14 +1,15 @@
 // The rules 7 to 10 and 37, on tables that are as long as the header says. The points of all arcs are first
 // asked whether they keep rules 9 and 10 (steady.rt). Where they do not, one scan finds the places, as in a
 // file (`network_scan`).
-ghost use Rattle.std.specs.Prelude.{◌≡◌, ◌+◌, ◌≤◌, ◌<◌, length, get_or};
+ghost use Rattle.std.specs.Prelude.{◌≡◌, ◌+◌, ◌≤◌, ◌<◌, length, get_or, MatchResult};
 ghost use Rattle.theory_loops.specs.First.{first};
 ghost use Rattle.theory_loops.specs.Total.{total};
 ghost use Rattle.theory_travel.specs.Table.{entry_at};
 ghost use Rattle.network.specs.FirstPoint.{Counted};
 ghost use Rattle.network.specs.Limits.{most_period, most_arcs, most_points};
 ghost use Rattle.network.specs.Rules.{judged_points, judged};
-ghost use Rattle.network.specs.Tables.{tables, network_of};
+ghost use Rattle.network.specs.Tables.{tables_of, network_of};
+ghost use Rattle.network_rules.specs.ScanArcs.{FirstBad};
 ghost use Rattle.network_scan.specs.Scan.{Scanned};
 ghost use Rattle.network_scan.specs.ScanAll.{ScannedAll};
 ghost use Rattle.network_encode.specs.Packable.{Packable};
@@ -19,8 +20,9 @@ use crate::steady::is_steady;
 use file_refusals::reason::Reason;
 use file_refusals::{Refusal, refused};
 use network::header::{Header, Layout};
-use network_rules::rules::{Arcs, bad_ends, bad_hours};
-use network_scan::scan::{Scan, bad_point, late_at, late_in};
+use network::tables::LentTables;
+use network_rules::rules::{bad_ends, bad_hours};
+use network_scan::scan::{bad_point, late_at, late_in};
 
 // Entry i of a table.
 pub fn entry(table: &[u16], i: usize) -> usize
@@ -86,31 +88,41 @@ fn is_bad_arc(
     )
 }
 
-// The first arc that breaks rule 8, or the count of arcs; and where there is none, the points of all arcs,
-// added up.
-fn scan_arcs(nodes: usize, period: usize, tails: &[u16], heads: &[u16], counts: &[u16]) -> Arcs
+// The points of all arcs, added up, or the first arc that breaks rule 8.
+fn scan_arcs(
+    nodes: usize,
+    period: usize,
+    tails: &[u16],
+    heads: &[u16],
+    counts: &[u16],
+) -> Result<usize, usize>
     requires heads_len { (length heads.now ≡ length tails.now) × (length counts.now ≡ length tails.now) }
     requires tails_len_bound { length tails.now ≤ most_arcs }
-    ensures { (result.bad ≡ first (length tails.now)
-        (bad_arc_in nodes period tails.now heads.now counts.now))
-        × (length tails.now ≤ result.bad
-        → result.sum ≡ total (length tails.now) (λ a. get_or counts.now a 0)) }
+    ensures { MatchResult result
+        (λ sum. (length tails.now
+        ≡ first (length tails.now) (bad_arc_in nodes period tails.now heads.now counts.now))
+        × (sum ≡ total (length tails.now) (λ a. get_or counts.now a 0)))
+        (FirstBad (length tails.now) (bad_arc_in nodes period tails.now heads.now counts.now)) }
 {
     let mut sum = 0;
     for a in 0..tails.len() {
         if is_bad_arc(nodes, period, tails, heads, counts, a) {
-            return Arcs { bad: a, sum };
+            return Err(a);
         }
         sum += entry(counts, a);
     }
-    Arcs {
-        bad: tails.len(),
-        sum,
-    }
+    Ok(sum)
 }
 
-// The faults of one arc, whose points stand from point `from` on.
-fn find_faults(period: usize, from: usize, count: usize, ticks: &[u16], travels: &[u16]) -> Scan
+// The points of one arc, which stand from point `from` on: the first that breaks rule 10, or how many there
+// are, and as an error the first that breaks rule 9.
+fn find_faults(
+    period: usize,
+    from: usize,
+    count: usize,
+    ticks: &[u16],
+    travels: &[u16],
+) -> Result<usize, usize>
     requires count_in_bounds { (from + count ≤ length ticks.now) × (from + count ≤ length travels.now) }
     requires count_nonzero { (0 < count) × (period ≤ most_period) }
     ensures { Scanned period (entry_at ticks.now from) (entry_at travels.now from)
@@ -123,21 +135,24 @@ fn find_faults(period: usize, from: usize, count: usize, ticks: &[u16], travels:
         let t = entry(ticks, from + i);
         let v = entry(travels, from + i);
         if bad_point(period, i, tick, t, v) {
-            return Scan { bad: i, late: 0 };
+            return Err(i);
         }
         late = late_at(late, i, end, t + v);
         tick = t;
         end = t + v;
     }
     let v = entry(travels, from);
-    Scan {
-        bad: count,
-        late: late_at(late, count, end, period + v),
-    }
+    Ok(late_at(late, count, end, period + v))
 }
 
-// Rules 9 and 10 over the points of all arcs.
-fn scan_points(period: usize, counts: &[u16], ticks: &[u16], travels: &[u16]) -> Scan
+// The points of all arcs: the first that breaks rule 10, or how many there are, and as an error the first
+// that breaks rule 9.
+fn scan_points(
+    period: usize,
+    counts: &[u16],
+    ticks: &[u16],
+    travels: &[u16],
+) -> Result<usize, usize>
     requires counted { Counted (bare period counts.now ticks.now travels.now) }
     requires travels_len { (length travels.now ≡ length ticks.now) × (length ticks.now ≤ most_points) }
     requires period_le_most_period { period ≤ most_period }
@@ -149,18 +164,14 @@ fn scan_points(period: usize, counts: &[u16], ticks: &[u16], travels: &[u16]) ->
     let mut late = points;
     for a in 0..counts.len() {
         let count = entry(counts, a);
-        let scan = find_faults(period, from, count, ticks, travels);
-        let bad = scan.bad;
-        if bad < count {
-            return Scan {
-                bad: from + bad,
-                late: 0,
-            };
-        }
-        late = late_in(late, points, from, count, scan.late);
+        let at = match find_faults(period, from, count, ticks, travels) {
+            Ok(at) => at,
+            Err(bad) => return Err(from + bad),
+        };
+        late = late_in(late, points, from, count, at);
         from += count;
     }
-    Scan { bad: points, late }
+    Ok(late)
 }
 
 // Rules 9 and 10.
@@ -179,12 +190,10 @@ fn judge_points(
     if is_steady(period, counts, ticks, travels) {
         return Ok(());
     }
-    let scan = scan_points(period, counts, ticks, travels);
-    let bad = scan.bad;
-    if bad < ticks.len() {
-        return refused(Reason::NetworkPoint, bad as u32);
-    }
-    let late = scan.late;
+    let late = match scan_points(period, counts, ticks, travels) {
+        Ok(late) => late,
+        Err(bad) => return refused(Reason::NetworkPoint, bad as u32),
+    };
     if late < ticks.len() {
         return refused(Reason::NetworkFifo, late as u32);
     }
@@ -192,77 +201,42 @@ fn judge_points(
 }
 
 // The first of the rules 7, 37, 8, 9 and 10 that the network of these tables breaks, and its lowest place.
-fn judge(
-    h: Header,
-    l: Layout,
-    cellof: &[u16],
-    opens: &[u16],
-    closes: &[u16],
-    tails: &[u16],
-    heads: &[u16],
-    counts: &[u16],
-    ticks: &[u16],
-    travels: &[u16],
-) -> Result<(), Refusal>
-    requires { Cut h l
-        (tables cellof.now opens.now closes.now tails.now heads.now counts.now ticks.now
-        travels.now) }
-    ensures { result ≡ judged (whole h
-        (tables cellof.now opens.now closes.now tails.now
-        heads.now counts.now ticks.now travels.now)) }
+fn judge(h: Header, l: Layout, tables: &LentTables<'_>) -> Result<(), Refusal>
+    requires { Cut h l (tables_of tables.now) }
+    ensures { result ≡ judged (whole h (tables_of tables.now)) }
 {
-    let v = first_bad_cell(l.cells, cellof);
+    let v = first_bad_cell(l.cells, tables.cells);
     if v < l.nodes {
         return refused(Reason::NetworkCell, v as u32);
     }
-    let u = first_bad_hours(l.hours, l.period, opens, closes);
+    let u = first_bad_hours(l.hours, l.period, tables.opens, tables.closes);
     if u < l.nodes {
         return refused(Reason::NetworkHours, u as u32);
     }
-    let found = scan_arcs(l.nodes, l.period, tails, heads, counts);
-    let a = found.bad;
-    if a < l.arcs {
-        return refused(Reason::NetworkRoad, a as u32);
-    }
-    if found.sum != l.points {
+    let sum = match scan_arcs(l.nodes, l.period, tables.tails, tables.heads, tables.counts) {
+        Ok(sum) => sum,
+        Err(a) => return refused(Reason::NetworkRoad, a as u32),
+    };
+    if sum != l.points {
         return refused(Reason::NetworkRoad, l.arcs as u32);
     }
-    judge_points(l.period, counts, ticks, travels)
+    judge_points(l.period, tables.counts, tables.ticks, tables.travels)
 }
 
 // The same of tables that may be longer than their counts.
-pub fn judge_tables(
-    h: Header,
-    l: Layout,
-    cellof: &[u16],
-    opens: &[u16],
-    closes: &[u16],
-    tails: &[u16],
-    heads: &[u16],
-    counts: &[u16],
-    ticks: &[u16],
-    travels: &[u16],
-) -> Result<(), Refusal>
-    requires { Packable h l
-        (tables cellof.now opens.now closes.now tails.now heads.now counts.now ticks.now
-        travels.now) }
-    ensures { result ≡ judged (network_of h
-        (tables cellof.now opens.now closes.now tails.now
-        heads.now counts.now ticks.now travels.now)) }
+pub fn judge_tables(h: Header, l: Layout, tables: &LentTables<'_>) -> Result<(), Refusal>
+    requires { Packable h l (tables_of tables.now) }
+    ensures { result ≡ judged (network_of h (tables_of tables.now)) }
 {
-    let nodes = l.nodes;
-    let arcs = l.arcs;
-    let points = l.points;
-    judge(
-        h,
-        l,
-        &cellof[..nodes],
-        &opens[..nodes],
-        &closes[..nodes],
-        &tails[..arcs],
-        &heads[..arcs],
-        &counts[..arcs],
-        &ticks[..points],
-        &travels[..points],
-    )
+    let cut = LentTables {
+        cells: &tables.cells[..l.nodes],
+        opens: &tables.opens[..l.nodes],
+        closes: &tables.closes[..l.nodes],
+        tails: &tables.tails[..l.arcs],
+        heads: &tables.heads[..l.arcs],
+        counts: &tables.counts[..l.arcs],
+        ticks: &tables.ticks[..l.points],
+        travels: &tables.travels[..l.points],
+    };
+    judge(h, l, &cut)
 }

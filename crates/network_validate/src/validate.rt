@@ -19,7 +19,7 @@ use file_forms::form::{first_unformed, is_bad_length, is_formed};
 use file_forms::reader::first_bad_sum;
 use file_refusals::reason::Reason;
 use file_refusals::{Refusal, refused};
-use network::header::{Header, Layout};
+use network::header::{Header, HeaderNumbers, Layout};
 use network::limits::MOST_BYTES;
 use network_rules::rules::judge;
 
@@ -28,15 +28,15 @@ fn header_at(file: &[u8]) -> Option<Header>
     requires { block_size ≤ length file.now }
     ensures { result ≡ made_at file.now }
 {
-    Header::new(
-        le32(file, 8),
-        le16(file, 12) as u32,
-        le16(file, 14) as u32,
-        le16(file, 16) as u32,
-        le16(file, 18) as u32,
-        le32(file, 20),
-        le8(file, 24) as u32,
-    )
+    Header::new(HeaderNumbers {
+        number: le32(file, 8),
+        period: u32::from(le16(file, 12)),
+        nodes: u32::from(le16(file, 14)),
+        arcs: u32::from(le16(file, 16)),
+        cells: u32::from(le16(file, 18)),
+        points: le32(file, 20),
+        hours: u32::from(le8(file, 24)),
+    })
 }
 
 // The first block of the nodes that is out of its form, or the block after them.

@@ -1,7 +1,7 @@
 // node_bare: a node towards one border that is judged without the runs of its arcs. The border itself gets a
 // byte for each tick by the runs of its own profile, and a node without points is told by whether an arc out
 // of it leads to one that has some.
-// It may call `profile_runs` for runs, `network`, `plan` and `search_arcs` to read files and tables; it cites
+// It may call `profile_runs` for runs, `network` and `plan` to read both files; it cites
 // `plan_tests`, `plan_values`, `day_runs`, `day_slopes`, `search_chains`, `theory_loops` and `theory_paths`.
 #![tactic(auto)]
 
@@ -25,7 +25,6 @@ ghost use Rattle.node_bare.specs.Ahead.{ahead};
 use network::limits::{MOST_ARCS, MOST_NODES};
 use plan::header::PlanLayout;
 use plan_tests::tests::Layouts;
-use search_arcs::wide;
 
 // The byte of a tick at which no test fails, and of one at which the border's own profile is not 0.
 pub const PASSED: u8 = 6;
@@ -61,8 +60,8 @@ fn mark_runs(starts: &[u16], values: &[u32], n: usize, period: usize, marks: &mu
     for k in 0..n {
         fill(
             marks,
-            wide(starts[k]),
-            wide(starts[k + 1]),
+            usize::from(starts[k]),
+            usize::from(starts[k + 1]),
             home_byte(values[k]),
         );
     }
@@ -116,13 +115,13 @@ pub fn is_ahead(
         (ahead (partition_of (decode network.now)) (decode_plan plan.now) i node) }
 {
     let arcs = l.network.arcs;
-    let mut a = wide(first[node]);
+    let mut a = usize::from(first[node]);
     while a < arcs {
         let head = network::read::head(network, l.network, a);
         if plan::read::point_count(plan, l.plan, i * l.plan.nodes + head) != 0 {
             return true;
         }
-        a = wide(next[a]);
+        a = usize::from(next[a]);
     }
     false
 }

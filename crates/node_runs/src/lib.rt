@@ -2,8 +2,8 @@
 // once: its runs and those of its head's profile are filled and merged with the node's own, or it is
 // passed, where its head has no points or where it is too far all day. A byte for each tick then tells
 // which tests fail there.
-// It may call `arc_runs` and `profile_runs` for runs, `day_merge` to merge them, `network`, `plan` and
-// `search_arcs` to read files and tables; it cites `plan_tests` for the tests, `plan_values` for profiles,
+// It may call `arc_runs` and `profile_runs` for runs, `day_merge` to merge them, and `network` and `plan` to
+// read both files; it cites `plan_tests` for the tests, `plan_values` for profiles, `search_chains`,
 // `day_runs`, `theory_loops` and `theory_paths`.
 #![tactic(auto)]
 
@@ -37,7 +37,6 @@ use plan::flag::is_set;
 use plan::header::PlanLayout;
 use plan_tests::tests::{Layouts, Target};
 use profile_runs::fill_profile;
-use search_arcs::wide;
 
 // Half of a number where a byte holds it, and else the greatest that it holds.
 fn half(x: u32) -> u8
@@ -152,7 +151,7 @@ fn open_node(
 }
 
 // What an arc is met with: the node that it leads to, its travel in brief, and the bits of a tick at which it
-// gives the same. An arc without such bits is passed.
+// gives the same.
 #[derive(Clone, Copy)]
 struct Meeting {
     head: usize,
@@ -160,9 +159,9 @@ struct Meeting {
     same: u8,
 }
 
-// Looks at an arc, and passes it where it can add nothing. `briefs` has the arcs' briefs, `lows` a number for
-// each node that its profile is never below, and `top` is one that the profile of the arc's tail is never
-// above.
+// Looks at an arc; where it can add nothing there is no meeting. `briefs` has the arcs' briefs, `lows` a
+// number for each node that its profile is never below, and `top` is one that the profile of the arc's tail
+// is never above.
 fn look(
     network: &[u8],
     plan: &[u8],
@@ -172,7 +171,7 @@ fn look(
     target: Target,
     arc: usize,
     top: u32,
-) -> Meeting
+) -> Option<Meeting>
     requires checkable { Checkable network.now plan.now l }
     requires briefs { Briefs (decode network.now) l.network.period l.network.arcs briefs.now
         × Lows plan.now l.plan target.number l.plan.nodes lows.now }
@@ -183,25 +182,17 @@ fn look(
 {
     let head = network::read::head(network, l.network, arc);
     if plan::read::point_count(plan, l.plan, target.number * l.plan.nodes + head) == 0 {
-        return Meeting {
-            head,
-            brief: 0,
-            same: 0,
-        };
+        return None;
     }
     let brief = briefs[arc];
     if is_far(top, lows[head], brief::least(brief)) {
-        return Meeting {
-            head,
-            brief,
-            same: 0,
-        };
+        return None;
     }
-    Meeting {
+    Some(Meeting {
         head,
         brief,
         same: same_bits(plan, l.plan, arc, target.cell),
-    }
+    })
 }
 
 // Meets an arc, or passes it and finds nothing. Its runs and its head's are merged with those of the node it
@@ -240,10 +231,9 @@ fn judge_arc<'r>(
         × Counted 0 (arc_finds (decode network.now) (decode_plan plan.now)
         target.number arc) finds.old finds.new }
 {
-    let to = look(network, plan, l, briefs, lows, target, arc, own.top);
-    if to.same == 0 {
+    let Some(to) = look(network, plan, l, briefs, lows, target, arc, own.top) else {
         return;
-    }
+    };
     let na = brief::fill_runs(network, l.network, points, arc, to.brief, sa, vh, va, finds);
     let nh = fill_profile(plan, l.plan, firsts, target.number, to.head, sh, vh, finds);
     let period = l.network.period;
@@ -325,12 +315,12 @@ pub fn judge_node(
         finds,
     );
     let arcs = l.network.arcs;
-    let mut a = wide(first[node]);
+    let mut a = usize::from(first[node]);
     while a < arcs {
         judge_arc(
             network, plan, l, points, briefs, firsts, lows, target, a, so, vo, own, sa, va, sh, vh,
             marks, finds,
         );
-        a = wide(next[a]);
+        a = usize::from(next[a]);
     }
 }

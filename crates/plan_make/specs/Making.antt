@@ -12,12 +12,13 @@ use Rattle.file_frames.specs.{Laid.none, Laid.entries_put, Sealed.sealed_to}
 use Rattle.file_refusals.specs.declared.Refusal.{Refusal}
 use Rattle.file_refusals.specs.Writing.{written_into, Writes, writes_refused}
 use Rattle.file_refusals.specs.{Writing.into_short, Writing.into_whole}
-use Rattle.network.specs.declared.header.{Header.Header, Layout.Layout}
-use Rattle.network.specs.{Network.Network, Network.nodes, Network.arcs, Network.start, Decode.decode}
+use Rattle.network.specs.declared.header.{Header.Header}
+use Rattle.network.specs.{Network.Network, Network.nodes, Network.arcs, Decode.decode}
 use Rattle.network.specs.{Town.partition_of, Validate.validated, Valid.ValidFile}
 use Rattle.network.proofs.Valid.{valid_exactly}
 use Rattle.plan.specs.declared.header.{PlanHeader.PlanHeader, PlanLayout.PlanLayout}
-use Rattle.plan.specs.{Border.border_count, PlanDecode.point_total, PlanHeader.PlanWithin, Borders.listed_front}
+use Rattle.plan.specs.Border.{border_count}
+use Rattle.plan.specs.{PlanDecode.point_total, PlanHeader.PlanWithin}
 use Rattle.plan.specs.PlanLayout.{plan_layout_of, plan_few}
 use Rattle.network.specs.Limits.{most_nodes}
 use Rattle.plan.specs.PlanLimits.{most_profile_points, most_plan_blocks}
@@ -26,25 +27,9 @@ use Rattle.plan_encode.specs.{Laying.Laying, Places.PlanRoom, Places.PlanWritabl
 use Rattle.plan_encode.specs.PlanRoundTrip.{encode_plan_long}
 use Rattle.plan_made.specs.Made.{made_total, made_word, made_count}
 use Rattle.plan_made.specs.File.{made_plan, made_header, made_file, made_matches}
-use Rattle.toward_list.specs.{Work.work_size, Work.primed_of, Work.work_cleared, Leasts.Leasts}
+use Rattle.toward_list.specs.Work.{work_size, work_cleared}
 use Rattle.plan_make.specs.Make.{made_into, made_with, zeroed, MakesOpened, MakeCall}
-use Rattle.search_chains.specs.{Town.Town, Chain.Chained, Chain.end_of}
-use Rattle.search_chains.specs.declared.chain.End.TheVariants.{Head}
-use Rattle.plan.specs.Border
-use Rattle.plan_rounds.specs.Rounds.{Tables, Counted, Held, PutTo}
-
--- THE TABLES
-module _ {file : List ℕ} {l : Layout} (t : Town file l) where
-  pub tables_of_lem : {old starts into next least borders : List ℕ} (before : List ℕ)
-      → Filled 0 l.arcs (start (decode file)) old starts
-      → Chained (end_of (decode file) Head) l.nodes l.arcs 0 into next → Leasts file l l.arcs least
-      → borders ≡ overwritten (Border.borders (partition_of (decode file))) before
-      → Tables file l starts into next least borders
-  tables_of_lem before f c m e = record {
-    ready = record { primed = primed_of t f; chained = c };
-    leasts = m;
-    listed = listed_front (partition_of (decode file)) before _ e;
-  }
+use Rattle.plan_rounds.specs.Rounds.{Counted, Held, PutTo}
 
 -- THE PLAN IS WRITTEN
 pub room_same : {k : PlanLayout} {a b : ℕ} → PlanRoom k a → b ≡ a → PlanRoom k b

@@ -6,11 +6,10 @@ ghost use Rattle.network.specs.Decode.{decode};
 ghost use Rattle.network.specs.Layout.{layout_of};
 ghost use Rattle.network.specs.Town.{partition_of};
 ghost use Rattle.network.specs.Valid.{ValidFile};
-ghost use Rattle.plan.specs.Border.{border_count};
 ghost use Rattle.plan.specs.PlanLimits.{most_profile_points};
 ghost use Rattle.plan_encode.specs.Places.{PlanWritable};
 ghost use Rattle.plan_made.specs.File.{made_file, made_header};
-ghost use Rattle.plan_rounds.specs.Rounds.{Tables, Counted};
+ghost use Rattle.plan_rounds.specs.Rounds.{Counted};
 ghost use Rattle.plan_make.specs.Make.{MakeCall, MakesOpened, made_into};
 
 use file_fields::BLOCK;
@@ -26,65 +25,49 @@ use plan::limits::MOST_POINTS;
 use plan_encode::entries::put_flags;
 use plan_encode::frames::write_frames;
 use plan_flags::inside_words;
+use plan_rounds::borders::Borders;
 use plan_rounds::rounds::{count_points, put_borders};
 use search_arcs::times;
 use search_chains::chain;
 use search_chains::chain::End;
 use toward_list::leasts::least_of_arcs;
 use toward_list::work::zero;
+use toward_node::roads::Roads;
 
 // Writes the plan's file: frames, the entries of all borders, the flag words, and the checks.
 fn write_plan(
-    file: &[u8],
-    l: Layout,
-    starts: &[u16; MOST_ARCS],
-    into: &[u16; MOST_NODES],
-    next: &[u16; MOST_ARCS],
-    least: &[u16; MOST_ARCS],
-    borders: &[u16; MOST_NODES],
+    borders: &Borders<'_, '_>,
     h: PlanHeader,
     k: PlanLayout,
     work: &mut [u32],
     out: &mut [u8],
 )
-    requires tables { Tables file.now l starts.now into.now next.now least.now borders.now }
-    requires plan_writable { PlanWritable h k (length out.old) × (h ≡ made_header (decode file.now))
-        × (length work.old ≡ l.nodes * l.period) }
-    ensures { out.new
-        ≡ overwritten (made_file (decode file.now)) out.old }
+    requires { PlanWritable h k (length out.old) × (h ≡ made_header (decode borders.now.roads.file.now))
+        × (length work.old ≡ borders.now.roads.layout.nodes * borders.now.roads.layout.period) }
+    ensures { out.new ≡ overwritten (made_file (decode borders.now.roads.file.now)) out.old }
 {
     write_frames(out, h, k);
     let mut words = [0u64; MOST_ARCS];
-    inside_words(file, l, &mut words);
-    put_borders(
-        file, l, starts, into, next, least, borders, k, work, &mut words, out,
-    );
+    inside_words(borders.roads.file, borders.roads.layout, &mut words);
+    put_borders(borders, k, work, &mut words, out);
     put_flags(out, k, &words);
     write_checks(out, k.blocks);
 }
 
 // Refusal 31, or the plan of so many points written.
 fn make_counted(
-    file: &[u8],
     h: Header,
-    l: Layout,
-    starts: &[u16; MOST_ARCS],
-    into: &[u16; MOST_NODES],
-    next: &[u16; MOST_ARCS],
-    least: &[u16; MOST_ARCS],
-    borders: &[u16; MOST_NODES],
-    count: usize,
+    borders: &Borders<'_, '_>,
     points: u32,
     work: &mut [u32],
     out: &mut [u8],
 ) -> Result<u32, Refusal>
-    requires valid_file { ValidFile file.now h × (h.number < 2 ^ 32) }
-    requires tables { Tables file.now l starts.now into.now next.now least.now borders.now }
-    requires count_value { (count ≡ border_count (partition_of (decode file.now)))
-        × Counted (partition_of (decode file.now)) points × (points ≤ most_profile_points)
-        × (length work.old ≡ l.nodes * l.period) }
-    ensures { Writes (made_into (decode file.now) (length out.old))
-        (made_file (decode file.now)) out.old out.new result }
+    requires valid_file { ValidFile borders.now.roads.file.now h × (h.number < 2 ^ 32) }
+    requires counted { Counted (partition_of (decode borders.now.roads.file.now)) points
+        × (points ≤ most_profile_points)
+        × (length work.old ≡ borders.now.roads.layout.nodes * borders.now.roads.layout.period) }
+    ensures { Writes (made_into (decode borders.now.roads.file.now) (length out.old))
+        (made_file (decode borders.now.roads.file.now)) out.old out.new result }
 {
     let head = PlanHeader {
         number: h.number,
@@ -92,7 +75,7 @@ fn make_counted(
         nodes: h.nodes,
         arcs: h.arcs,
         cells: h.cells,
-        borders: count as u16,
+        borders: borders.nodes.len() as u16,
         points,
     };
     let k = head.layout();
@@ -100,9 +83,7 @@ fn make_counted(
     if out.len() < long {
         return refused(Reason::AnswerShort, 0);
     }
-    write_plan(
-        file, l, starts, into, next, least, borders, head, k, work, out,
-    );
+    write_plan(borders, head, k, work, out);
     Ok(long as u32)
 }
 
@@ -126,17 +107,23 @@ fn make_listed(
     chain::chain(file, l, End::Head, &mut into, &mut next);
     let mut least = [0u16; MOST_ARCS];
     least_of_arcs(file, l, &starts, &mut least);
-    let mut borders = [0u16; MOST_NODES];
-    let count = list_borders(file, l, &mut borders);
-    let points = count_points(
-        file, l, &starts, &into, &next, &least, &borders, count, work,
-    );
+    let roads = Roads {
+        file,
+        layout: l,
+        starts: &starts,
+        into: &into,
+        next: &next,
+        least: &least,
+    };
+    let mut list = [0u16; MOST_NODES];
+    let count = list_borders(file, l, &mut list);
+    let nodes = &list[..count];
+    let borders = Borders { roads, nodes };
+    let points = count_points(&borders, work);
     if MOST_POINTS < points {
         return refused(Reason::PlanPoints, 0);
     }
-    make_counted(
-        file, h, l, &starts, &into, &next, &least, &borders, count, points, work, out,
-    )
+    make_counted(h, &borders, points, work, out)
 }
 
 // Refusals 34, 33 and 31, or the plan written; past 34 the work list ends as zero.

@@ -1,6 +1,6 @@
--- The two rounds over the borders, for the code: what its tables hold (`Tables`), what the first round counts
--- (`Counted`), and what the second has put after the first i borders (`PutTo`). Each border's rows of least
--- travels have the points of its profiles in the plan that is made.
+-- The two rounds over the borders, for the code: what the first round counts (`Counted`), and what the second
+-- has put after the first i borders (`PutTo`). Each border's rows of least travels have the points of its
+-- profiles in the plan that is made.
 use mathlib.Core.{Path.◌≡◌, Path.refl, Path.sym, Path.◌∙◌, Path.ap, Logic.◌≢◌, Bool.true, List.List}
 use Rattle.std.specs.Prelude.{ℕ, ◌+◌, ◌-◌, ◌*◌, ◌≤◌, ◌<◌, length, get_or}
 use native.Mathlib.{Nat.mul-le-mul, Nat.mul-le-mul_right, Omega.arith, Decide.ℕ_discrete}
@@ -18,20 +18,14 @@ use Rattle.plan.specs.{Border.border_count, Border.border_at, Border.Listed, Bor
 use Rattle.plan.specs.{PlanLimits.most_profile_points, PlanLimits.most_profiles, PlanMatch.borders_few}
 use Rattle.plan_encode.specs.{Places.PlanRoom, PlanWritten.Entered}
 use Rattle.plan_encode.specs.PlanWritten as written
-use Rattle.toward_list.specs.{Leasts.Leasts, Rows.Worked}
-use Rattle.toward_node.specs.Turn.{Ready, modest}
+use Rattle.toward_list.specs.Rows.{Worked}
+use Rattle.toward_node.specs.Turn.{modest}
 use Rattle.toward_start.specs.Start.{known_row, known_small}
 use Rattle.plan_flags.specs.Words.{Flags, FlagsAfter}
 use Rattle.plan_rows.specs.Rows.{row_points, LowRows, HasRow, RowsPut, points_none, points_some, rows_few}
-use Rattle.plan_made.specs.Made.{made_profiles, made_travel, made_count, number_border, number_node, count_none}
-use Rattle.plan_made.specs.Made.{count_some, made_count_lem, made_tick, made_travel_lem, start_is}
+use Rattle.plan_made.specs.Made.{made_profiles, made_travel, made_count, number_border, number_node}
+use Rattle.plan_made.specs.Made.{count_none, count_some, made_count_lem, made_tick, made_travel_lem, start_is}
 use Rattle.plan_made.specs.File.{made_plan}
-
--- the tables that a planner works with
-pub record Tables (file : List ℕ) (l : Layout) (starts into next least borders : List ℕ) : Type 0 where
-  pub ready : Ready file l starts into next
-  pub leasts : Leasts file l l.arcs least
-  pub listed : Listed (partition_of (decode file)) borders
 
 -- border number i is b, and the list holds the least travels to it
 pub record Aimed (n : Network) (i : ℕ) (W : List ℕ) (b : ℕ) : Type 0 where
@@ -63,12 +57,8 @@ pub record PutTo (n : Network) (k : PlanLayout) (i : ℕ) (words s t : List ℕ)
   pub entered : Entered k (made_plan n) 0 0 s (profiles_before n i) (points_before n i) t
 
 -- FOR CODE that takes border number i from the list
-module _ {file : List ℕ} {l : Layout} {starts into next least borders : List ℕ}
-    (t : Tables file l starts into next least borders) {i : ℕ}
+module _ {file : List ℕ} {l : Layout} (town : Town file l) {i : ℕ}
     (h : i < border_count (partition_of (decode file))) where
-  town : Town file l
-  town = t.ready.primed.town
-
   pub border_index_lem : i < most_nodes
   border_index_lem =
       omega (arith, borders_few (partition_of (decode file)), town.sizes.nodes, town.small.nodes_most)
@@ -76,9 +66,10 @@ module _ {file : List ℕ} {l : Layout} {starts into next least borders : List �
   pub aimed_node : {W : List ℕ} {b : ℕ} → Aimed (decode file) i W b → b < l.nodes
   aimed_node a = omega (arith, a.border, at_node (partition_of (decode file)) i h, town.sizes.nodes)
 
-  module _ {b : ℕ} (e : b ≡ get_or borders i 0) where
+  module _ {borders : List ℕ} (all : Listed (partition_of (decode file)) borders) {b : ℕ}
+      (e : b ≡ get_or borders i 0) where
     pub border_is : b ≡ border_at (partition_of (decode file)) i
-    border_is = e ∙ t.listed.at i h
+    border_is = e ∙ all.at i h
 
     pub border_node : b < l.nodes
     border_node = omega (arith, border_is, at_node (partition_of (decode file)) i h, town.sizes.nodes)
@@ -285,7 +276,8 @@ module _ {file : List ℕ} {l : Layout} (t : Town file l) {k : PlanLayout} (held
     pub profiles_room : {c : ℕ} → c ≡ i * l.nodes → c + l.nodes ≤ k.profiles
     profiles_room e =
         let m : i + 1 ≤ border_count (partition_of (decode file)) = omega (arith, listed) in
-        let p : k.profiles ≡ border_count (partition_of (decode file)) * nodes (decode file) = held.profiles in
+        let p : k.profiles ≡ border_count (partition_of (decode file)) * nodes (decode file) =
+        held.profiles in
         omega (arith, t.sizes.nodes, profiles_same, mul-le-mul_right (nodes (decode file)) m)
 
     module _ {W : List ℕ}

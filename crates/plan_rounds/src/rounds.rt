@@ -7,9 +7,9 @@ ghost use Rattle.plan.specs.Border.{border_count};
 ghost use Rattle.plan_encode.specs.Places.{PlanRoom};
 ghost use Rattle.toward_list.specs.Heights.{Bounds};
 ghost use Rattle.plan_flags.specs.Words.{Flags};
-ghost use Rattle.plan_rounds.specs.Rounds.{Tables, Aimed, Counted, Held, PutTo};
+ghost use Rattle.plan_rounds.specs.Rounds.{Aimed, Counted, Held, PutTo};
 
-use network::header::Layout;
+use crate::borders::Borders;
 use network::limits::{MOST_ARCS, MOST_NODES, MOST_PERIOD};
 use plan::header::PlanLayout;
 use plan::limits::MOST_POINTS;
@@ -21,59 +21,40 @@ use toward_node::least_travels;
 // The least travels to border number i, which it answers. `row` is a row to work in; `low` and `room` begin
 // as zeros, and end as bounds of the rows.
 fn travels_to(
-    file: &[u8],
-    l: Layout,
-    starts: &[u16; MOST_ARCS],
-    into: &[u16; MOST_NODES],
-    next: &[u16; MOST_ARCS],
-    least: &[u16; MOST_ARCS],
-    borders: &[u16; MOST_NODES],
+    borders: &Borders<'_, '_>,
     i: usize,
     work: &mut [u32],
     row: &mut [u32; MOST_PERIOD],
     low: &mut [u32; MOST_NODES],
     room: &mut [u32; MOST_NODES],
 ) -> usize
-    requires tables { Tables file.now l starts.now into.now next.now least.now borders.now }
-    requires i_bound { (i < border_count (partition_of (decode file.now)))
-        × (length work.old ≡ l.nodes * l.period) × (l.period ≤ length row.old) }
+    requires i_bound { (i < border_count (partition_of (decode borders.now.roads.file.now)))
+        × (length work.old ≡ borders.now.roads.layout.nodes * borders.now.roads.layout.period)
+        × (borders.now.roads.layout.period ≤ length row.old) }
     requires zeros { (low.old ≡ replicate most_nodes 0) × (room.old ≡ replicate most_nodes 0) }
-    ensures { Aimed (decode file.now) i work.new result × Bounds l work.new low.new room.new
+    ensures { Aimed (decode borders.now.roads.file.now) i work.new result
+        × Bounds borders.now.roads.layout work.new low.new room.new
         × (length work.new ≡ length work.old)
         × (length row.new ≡ length row.old) }
 {
-    let b = usize::from(borders[i]);
-    least_travels(file, l, starts, into, next, least, b, work, row, low, room);
+    let b = usize::from(borders.nodes[i]);
+    least_travels(&borders.roads, b, work, row, low, room);
     b
 }
 
 // How many points all profiles have. Where they are more than a plan can hold it leaves early, with a number
 // that is more too.
-pub fn count_points(
-    file: &[u8],
-    l: Layout,
-    starts: &[u16; MOST_ARCS],
-    into: &[u16; MOST_NODES],
-    next: &[u16; MOST_ARCS],
-    least: &[u16; MOST_ARCS],
-    borders: &[u16; MOST_NODES],
-    count: usize,
-    work: &mut [u32],
-) -> u32
-    requires tables { Tables file.now l starts.now into.now next.now least.now borders.now }
-    requires count_value { (count ≡ border_count (partition_of (decode file.now)))
-        × (length work.old ≡ l.nodes * l.period) }
-    ensures { Counted (partition_of (decode file.now)) result }
+pub fn count_points(borders: &Borders<'_, '_>, work: &mut [u32]) -> u32
+    requires { length work.old ≡ borders.now.roads.layout.nodes * borders.now.roads.layout.period }
+    ensures { Counted (partition_of (decode borders.now.roads.file.now)) result }
 {
     let mut row = [0u32; MOST_PERIOD];
     let mut seen = 0;
-    for i in 0..count {
+    for i in 0..borders.nodes.len() {
         let mut low = [0u32; MOST_NODES];
         let mut room = [0u32; MOST_NODES];
-        travels_to(
-            file, l, starts, into, next, least, borders, i, work, &mut row, &mut low, &mut room,
-        );
-        seen += count_rows(l, work);
+        travels_to(borders, i, work, &mut row, &mut low, &mut room);
+        seen += count_rows(borders.roads.layout, work);
         if MOST_POINTS < seen {
             return seen;
         }
@@ -83,35 +64,26 @@ pub fn count_points(
 
 // Puts the counts and points of all borders into the file, and adds their flags to the words.
 pub fn put_borders(
-    file: &[u8],
-    l: Layout,
-    starts: &[u16; MOST_ARCS],
-    into: &[u16; MOST_NODES],
-    next: &[u16; MOST_ARCS],
-    least: &[u16; MOST_ARCS],
-    borders: &[u16; MOST_NODES],
+    borders: &Borders<'_, '_>,
     k: PlanLayout,
     work: &mut [u32],
     words: &mut [u64; MOST_ARCS],
     out: &mut [u8],
 )
-    requires tables { Tables file.now l starts.now into.now next.now least.now borders.now }
-    requires held { Held (decode file.now) k × PlanRoom k (length out.old) }
-    requires work_len { (length work.old ≡ l.nodes * l.period) × Flags (decode file.now) 0 words.old }
-    ensures { PutTo (decode file.now) k k.borders words.new out.old
+    requires held { Held (decode borders.now.roads.file.now) k × PlanRoom k (length out.old) }
+    requires work_len { (length work.old ≡ borders.now.roads.layout.nodes * borders.now.roads.layout.period)
+        × Flags (decode borders.now.roads.file.now) 0 words.old }
+    ensures { PutTo (decode borders.now.roads.file.now) k k.borders words.new out.old
         out.new }
 {
     let mut row = [0u32; MOST_PERIOD];
+    let l = borders.roads.layout;
     let mut q = 0;
     for i in 0..k.borders {
         let mut low = [0u32; MOST_NODES];
         let mut room = [0u32; MOST_NODES];
-        let b = travels_to(
-            file, l, starts, into, next, least, borders, i, work, &mut row, &mut low, &mut room,
-        );
-        flag_border(
-            file, l, starts, least, b, &low, &room, work, &mut row, words,
-        );
+        let b = travels_to(borders, i, work, &mut row, &mut low, &mut room);
+        flag_border(&borders.roads, b, &low, &room, work, &mut row, words);
         q = put_rows(l, work, out, k, i * l.nodes, q);
     }
 }

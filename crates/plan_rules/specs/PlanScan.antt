@@ -2,7 +2,9 @@
 -- the invariant of its loop, and the laws of each step in the shape of the code's needs. A tick is judged by
 -- the range in which it has to lie: 0 alone at the first point, then from the tick before it up to the
 -- period.
-use Rattle.std.specs.Prelude.{◌≡◌, refl, Bool, true, false, cond, not, ◌||◌, ℕ, zero, suc, ◌+◌, ◌-◌, ◌≤◌, ◌<◌, leb, ltb, eqb}
+use Rattle.std.specs.Prelude.{◌≡◌, refl, Bool, true, false, not, ◌||◌, ltb, leb, eqb}
+use Rattle.std.specs.Prelude.{ℕ, zero, suc, ◌+◌, ◌-◌, ◌≤◌, ◌<◌}
+use Rattle.std.specs.Prelude.{Result, Ok, Err, MatchResult}
 use Rattle.std.proofs.Common.{sym, ◌∙◌, ap, le-ltb, le-leb, ne_eqb}
 use Prim.Native.Nat.compare
 use native.Mathlib.Omega.{arith}
@@ -12,16 +14,17 @@ use Rattle.theory_travel.specs.{Ticks.bad_tick, Table.entry_at}
 use Rattle.file_blocks.specs.Walk.{walk_first}
 use Rattle.file_blocks.specs.declared.walk.Walk.{Walk}
 use Rattle.plan.specs.declared.header.PlanLayout.{PlanLayout}
-use Rattle.plan_rules.specs.declared.rules.Scan.{Scan}
 use Rattle.plan.specs.{Plan.Plan, PlanDecode.point_tick, PlanWalk.point_at}
 
--- WHAT A SCAN TELLS of m points from number `from` on, the ticks of one profile: the first bad one by its
--- number, or the count of all points; and where there is none, the walk stands after them
-pub record Scanned (p : Plan) (l : PlanLayout) (from m : ℕ) (r : Scan) : Type 0 where
-  pub bad : r.bad
-      ≡ cond (any m (bad_tick l.period (entry_at p.ticks from)))
-      (from + first m (bad_tick l.period (entry_at p.ticks from))) l.points
-  pub at : l.points ≤ r.bad → r.at ≡ point_at l.pointblock (from + m)
+-- WHAT A SCAN TELLS of m points from number `from` on, the ticks of one profile: where none is bad, that the
+-- walk stands after them, and else the first bad one by its number
+abbrev pub Scanned : (p : Plan) (l : PlanLayout) (from m : ℕ) → Result Walk ℕ → Type 0
+Scanned p l from m r =
+    MatchResult r
+    (λ at. (any m (bad_tick l.period (entry_at p.ticks from)) ≡ false)
+    × (at ≡ point_at l.pointblock (from + m)))
+    (λ bad. (any m (bad_tick l.period (entry_at p.ticks from)) ≡ true)
+    × (bad ≡ from + first m (bad_tick l.period (entry_at p.ticks from))))
 
 -- the loop before point i of them: the tick there has to lie from low up to high
 pub record Scanning (p : Plan) (l : PlanLayout) (from m i low high : ℕ) (c : Walk) : Type 0 where
@@ -71,10 +74,10 @@ module _ (p : Plan) (l : PlanLayout) (from m : ℕ) where
     unfolding entry_at
     told_bad = f ∙ in_range l.period t i low high x some s.first_range s.later_range e
 
-    pub scan_stop : b ≡ true → from + m ≤ l.points → Scanned p l from m (record { bad = from + i; at = c })
-    scan_stop k room =
+    pub scan_stop : b ≡ true → Scanned p l from m (Err (from + i))
+    scan_stop k =
         let q : bad_tick l.period t i ≡ true = sym told_bad ∙ k in
-        record { bad = rw (yes_any _ m i h q, ← (stop _ m i s.fine h q)); at = λ z. absurd (omega arith) }
+        (yes_any _ m i h q, ap (λ (z : ℕ). from + z) (stop _ m i s.fine h q))
 
     pub scan_more : (d : Walk) → b ≡ false → d ≡ point_at l.pointblock (from + (i + 1))
         → Scanning p l from m (i + 1) (x + 1) l.period d
@@ -90,11 +93,10 @@ module _ (p : Plan) (l : PlanLayout) (from m : ℕ) where
         }
 
   pub scan_end : (i low high : ℕ) (c : Walk) → Scanning p l from m i low high c → m ≤ i
-      → Scanned p l from m (record { bad = l.points; at = c })
+      → Scanned p l from m (Ok c)
   scan_end i low high c s h =
       let q : i ≡ m = omega (arith, s.within) in
-      let n : any m (bad_tick l.period t) ≡ false = no_any _ m i s.fine s.within h in
-      record { bad = rw n; at = λ _. rw q at s.at }
+      (no_any _ m i s.fine s.within h, rw q at s.at)
 
 -- for `search scans` at the needs of that loop
 pub ruleset scans = (scan_start, scan_stop, scan_more, scan_end)

@@ -18,14 +18,6 @@ use network::limits::MOST_CELLS;
 use plan::header::PlanLayout;
 use plan::read::flag_word;
 
-// What a scan of points has found: the first that breaks rule 19, by its number, or how many there are; and
-// where it stands.
-#[derive(Clone, Copy)]
-pub struct Scan {
-    pub bad: usize,
-    pub at: Walk,
-}
-
 // Has the word a bit at `cells` or above?
 fn has_high_bit(word: u64, cells: usize) -> bool
     requires { cells ≤ most_cells }
@@ -66,8 +58,9 @@ fn is_outside(t: usize, low: usize, high: usize) -> bool
     high <= t
 }
 
-// The first bad point of one profile, `count` of them from number `from` on, where the walk stands.
-fn find_bad(plan: &[u8], l: PlanLayout, at: Walk, from: usize, count: usize) -> Scan
+// Where the walk stands after the points of one profile, or the first of them that breaks rule 19, by its
+// number: `count` of them from number `from` on, where the walk stands.
+fn find_bad(plan: &[u8], l: PlanLayout, at: Walk, from: usize, count: usize) -> Result<Walk, usize>
     requires plan_laid { PlanLaid plan.now l }
     requires count_bound { from + count ≤ l.points }
     requires at_value { at ≡ point_at l.pointblock from }
@@ -79,35 +72,32 @@ fn find_bad(plan: &[u8], l: PlanLayout, at: Walk, from: usize, count: usize) -> 
     for i in 0..count {
         let t = next.field16(plan, 0);
         if is_outside(t, low, high) {
-            return Scan {
-                bad: from + i,
-                at: next,
-            };
+            return Err(from + i);
         }
         low = t + 1;
         high = l.period;
         next = next.next(kind::PROFILE_POINT);
     }
-    Scan {
-        bad: l.points,
-        at: next,
-    }
+    Ok(next)
 }
 
 // The scan goes on over one profile more, as long as nothing is found and the points stand in the file.
-fn scan_on(plan: &[u8], l: PlanLayout, scan: Scan, from: usize, count: usize) -> Scan
+fn scan_on(
+    plan: &[u8],
+    l: PlanLayout,
+    scan: Result<Walk, usize>,
+    from: usize,
+    count: usize,
+) -> Result<Walk, usize>
     requires plan_laid { PlanLaid plan.now l }
     requires from_bound { (from < 2 ^ 40) × (count < 65536) }
     requires standing { Standing l from scan }
     ensures { ScannedOn (decode_plan plan.now) l from count scan result }
 {
-    if scan.bad < l.points {
-        return scan;
-    }
+    let at = scan?;
     if l.points < from + count {
         return scan;
     }
-    let at = scan.at;
     find_bad(plan, l, at, from, count)
 }
 
@@ -118,8 +108,7 @@ fn judge_profiles(plan: &[u8], l: PlanLayout) -> Result<(), Refusal>
 {
     let profiles = l.profiles;
     let mut counts = Walk::new(l.countblock, kind::COUNT, 0);
-    let at = Walk::new(l.pointblock, kind::PROFILE_POINT, 0);
-    let mut scan = Scan { bad: l.points, at };
+    let mut scan = Ok(Walk::new(l.pointblock, kind::PROFILE_POINT, 0));
     let mut from = 0;
     for k in 0..profiles {
         let count = counts.field16(plan, 0);
@@ -133,11 +122,10 @@ fn judge_profiles(plan: &[u8], l: PlanLayout) -> Result<(), Refusal>
     if from != l.points {
         return refused(Reason::PlanCount, profiles as u32);
     }
-    let bad = scan.bad;
-    if bad < l.points {
-        return refused(Reason::PlanTick, bad as u32);
+    match scan {
+        Ok(_) => Ok(()),
+        Err(bad) => refused(Reason::PlanTick, bad as u32),
     }
-    Ok(())
 }
 
 // The lowest of the rules 17 to 19 that the plan breaks, and its lowest place.

@@ -1,5 +1,5 @@
 // search_arcs: when an arc of a sound network file that is taken at a tick ends, by its points, read in
-// place; and numbers of tables and rows as those who search compare them.
+// place; and numbers compared as the loops of those who search do it.
 // It may call `network` for the entries of the file and `theory_travel` for the straight line; it cites
 // `search_chains` for what it rests on, `theory_loops` and `theory_paths`.
 #![tactic(auto)]
@@ -15,11 +15,4 @@ pub fn is_before(x: u32, other: u32) -> bool
     ensures { result ≡ ltb x other }
 {
     (x as i32) < (other as i32)
-}
-
-// An entry of a table as a size: what its readers need of the cast.
-pub fn wide(x: u16) -> usize
-    ensures { (result ≡ x) × (result < 65536) }
-{
-    x as usize
 }

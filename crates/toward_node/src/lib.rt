@@ -6,6 +6,7 @@
 // lent as it comes: a row's first numbers are written over what stood there, and a wanted row that got none
 // is filled with never in the end (`toward_list`, specs/Seen.antt).
 // By the tables beside the rows an arc that cannot lower its tail's row is passed over.
+//   roads    the file of a network with the tables of its arcs (`Roads`)
 // It may call `toward_list` for rows and tables and `network` for the entries of the file; it cites
 // `toward_row`, `theory_loops` and `theory_paths`.
 #![tactic(auto)]
@@ -15,16 +16,16 @@ ghost use Rattle.network.specs.Network.{head};
 ghost use Rattle.network.specs.Limits.{most_nodes};
 ghost use Rattle.network.specs.Decode.{decode};
 ghost use Rattle.network.specs.Town.{graph_of};
-ghost use Rattle.toward_row.specs.Arcs.{Primed};
 ghost use Rattle.toward_list.specs.Heights.{Heights, Held, Lows, Bounds};
-ghost use Rattle.toward_list.specs.Leasts.{Leasts};
 ghost use Rattle.toward_list.specs.Rows.{Worked, WorkedFor, WorkedRow};
 ghost use Rattle.toward_list.specs.Seen.{seen};
-ghost use Rattle.toward_node.specs.Turn.{Ready, Stepped, Turned, Found, Bar};
+ghost use Rattle.toward_node.specs.Turn.{Stepped, Turned, Found, Bar};
 ghost use Rattle.toward_node.specs.Nearest.{Most};
 
-use network::header::Layout;
-use network::limits::{MOST_ARCS, MOST_NODES, MOST_PERIOD, NEVER};
+pub mod roads;
+
+use crate::roads::Roads;
+use network::limits::{MOST_NODES, MOST_PERIOD, NEVER};
 use network::read;
 use toward_list::rows::{copy_row, fill_row, highest, lower_row, nearness_after, show_wanted};
 
@@ -39,10 +40,7 @@ fn is_idle(near: u32, room: u32, bar: u32, least: u16) -> bool
 // An arc's turn: its tail's row is lowered, and where an entry fell the tail is dirty. `hs` is its head's row
 // and `reach` what `near` had of the head; numbers that are not below never less `bar` are not wanted.
 fn lower_tail(
-    file: &[u8],
-    l: Layout,
-    starts: &[u16; MOST_ARCS],
-    least: &[u16; MOST_ARCS],
+    roads: &Roads<'_>,
     arc: usize,
     hs: &[u32; MOST_PERIOD],
     reach: u32,
@@ -51,36 +49,41 @@ fn lower_tail(
     near: &mut [u32; MOST_NODES],
     room: &mut [u32; MOST_NODES],
 )
-    requires primed { Primed file.now l starts.now × Leasts file.now l l.arcs least.now }
-    requires arc_lt_arcs { (arc < l.arcs) × Heights l (seen l.period room.old work.old) near.old room.old
-        × Held l.period reach hs.now (seen l.period room.old work.old) room.old
-        (head (decode file.now) arc) }
-    ensures { Stepped file.now l arc reach bar hs.now
-        (seen l.period room.old work.old) near.old room.old
-        (seen l.period room.new work.new) near.new room.new }
+    requires { (arc < roads.now.layout.arcs)
+        × Heights roads.now.layout (seen roads.now.layout.period room.old work.old) near.old room.old
+        × Held roads.now.layout.period reach hs.now (seen roads.now.layout.period room.old work.old) room.old
+        (head (decode roads.now.file.now) arc) }
+    ensures { Stepped roads.now.file.now roads.now.layout arc reach bar hs.now
+        (seen roads.now.layout.period room.old work.old) near.old room.old
+        (seen roads.now.layout.period room.new work.new) near.new room.new }
 {
-    let u = read::tail(file, l, arc);
+    let u = read::tail(roads.file, roads.layout, arc);
     let top = room[u];
-    if is_idle(reach, top, bar, least[arc]) {
+    let least = roads.least[arc];
+    if is_idle(reach, top, bar, least) {
         return;
     }
     let first = top == 0;
-    let fell = lower_row(first, file, l, starts, arc, u, hs, work);
+    let fell = lower_row(
+        first,
+        roads.file,
+        roads.layout,
+        roads.starts,
+        arc,
+        u,
+        hs,
+        work,
+    );
     if fell == 0 {
         return;
     }
-    near[u] = nearness_after(first, reach, least[arc], l, u, work);
-    room[u] = NEVER - highest(l, u, work);
+    near[u] = nearness_after(first, reach, least, roads.layout, u, work);
+    room[u] = NEVER - highest(roads.layout, u, work);
 }
 
 // A node's turn: it is clean, and each arc into it has its turn. Its row is copied to `hs`.
 fn settle(
-    file: &[u8],
-    l: Layout,
-    starts: &[u16; MOST_ARCS],
-    into: &[u16; MOST_NODES],
-    next: &[u16; MOST_ARCS],
-    least: &[u16; MOST_ARCS],
+    roads: &Roads<'_>,
     v: usize,
     bar: u32,
     hs: &mut [u32; MOST_PERIOD],
@@ -89,24 +92,23 @@ fn settle(
     low: &mut [u32; MOST_NODES],
     room: &mut [u32; MOST_NODES],
 )
-    requires ready { Ready file.now l starts.now into.now next.now
-        × Leasts file.now l l.arcs least.now }
-    requires v_lt_nodes { (v < l.nodes) × Heights l (seen l.period room.old work.old) near.old room.old
-        × Lows l (seen l.period room.old work.old) near.old low.old × (get_or near.old v 0 ≢ 0)
-        × (l.period ≤ length hs.old) }
-    ensures { Turned file.now l bar
-        (seen l.period room.old work.old) near.old room.old
-        (seen l.period room.new work.new) near.new room.new
+    requires { (v < roads.now.layout.nodes)
+        × Heights roads.now.layout (seen roads.now.layout.period room.old work.old) near.old room.old
+        × Lows roads.now.layout (seen roads.now.layout.period room.old work.old) near.old low.old
+        × (get_or near.old v 0 ≢ 0) × (roads.now.layout.period ≤ length hs.old) }
+    ensures { Turned roads.now.file.now roads.now.layout bar
+        (seen roads.now.layout.period room.old work.old) near.old room.old
+        (seen roads.now.layout.period room.new work.new) near.new room.new
         low.new × (length hs.new ≡ length hs.old) }
 {
-    copy_row(l, v, work, hs);
+    copy_row(roads.layout, v, work, hs);
     let reach = near[v];
     near[v] = 0;
     low[v] = reach;
-    let mut a = usize::from(into[v]);
-    while a < l.arcs {
-        lower_tail(file, l, starts, least, a, hs, reach, bar, work, near, room);
-        a = usize::from(next[a]);
+    let mut a = usize::from(roads.into[v]);
+    while a < roads.layout.arcs {
+        lower_tail(roads, a, hs, reach, bar, work, near, room);
+        a = usize::from(roads.next[a]);
     }
 }
 
@@ -161,12 +163,7 @@ fn bar_of(room: &[u32; MOST_NODES], nodes: usize, goal: usize) -> u32
 // no such node. `hs` is a row to work in; `low` and `room` begin as zeros, and where every node is asked for
 // they end with bounds of its row.
 fn work_out(
-    file: &[u8],
-    l: Layout,
-    starts: &[u16; MOST_ARCS],
-    into: &[u16; MOST_NODES],
-    next: &[u16; MOST_ARCS],
-    least: &[u16; MOST_ARCS],
+    roads: &Roads<'_>,
     b: usize,
     goal: usize,
     work: &mut [u32],
@@ -174,15 +171,15 @@ fn work_out(
     low: &mut [u32; MOST_NODES],
     room: &mut [u32; MOST_NODES],
 )
-    requires ready { Ready file.now l starts.now into.now next.now
-        × Leasts file.now l l.arcs least.now }
-    requires b_lt_nodes { (b < l.nodes) × (length work.old ≡ l.nodes * l.period)
-        × (l.period ≤ length hs.old) × (low.old ≡ replicate most_nodes 0)
+    requires { (b < roads.now.layout.nodes)
+        × (length work.old ≡ roads.now.layout.nodes * roads.now.layout.period)
+        × (roads.now.layout.period ≤ length hs.old) × (low.old ≡ replicate most_nodes 0)
         × (room.old ≡ replicate most_nodes 0) }
-    ensures { WorkedFor (graph_of (decode file.now)) b goal work.new
-        × (l.nodes ≤ goal → Bounds l work.new low.new room.new)
+    ensures { WorkedFor (graph_of (decode roads.now.file.now)) b goal work.new
+        × (roads.now.layout.nodes ≤ goal → Bounds roads.now.layout work.new low.new room.new)
         × (length hs.new ≡ length hs.old) }
 {
+    let l = roads.layout;
     fill_row(l, b, 0, work);
     let mut near = [0u32; MOST_NODES];
     near[b] = NEVER;
@@ -190,9 +187,7 @@ fn work_out(
     let mut bar = bar_of(room, l.nodes, goal);
     let mut v = b;
     while v < l.nodes {
-        settle(
-            file, l, starts, into, next, least, v, bar, hs, work, &mut near, low, room,
-        );
+        settle(roads, v, bar, hs, work, &mut near, low, room);
         bar = bar_of(room, l.nodes, goal);
         v = nearest(&near, l.nodes, bar);
     }
@@ -202,54 +197,38 @@ fn work_out(
 // The least travels to node b from every node. `low` and `room` begin as zeros, and end with never less a
 // number that no entry of a node's row is below, and never less one that none is above.
 pub fn least_travels(
-    file: &[u8],
-    l: Layout,
-    starts: &[u16; MOST_ARCS],
-    into: &[u16; MOST_NODES],
-    next: &[u16; MOST_ARCS],
-    least: &[u16; MOST_ARCS],
+    roads: &Roads<'_>,
     b: usize,
     work: &mut [u32],
     hs: &mut [u32; MOST_PERIOD],
     low: &mut [u32; MOST_NODES],
     room: &mut [u32; MOST_NODES],
 )
-    requires ready { Ready file.now l starts.now into.now next.now
-        × Leasts file.now l l.arcs least.now }
-    requires b_lt_nodes { (b < l.nodes) × (length work.old ≡ l.nodes * l.period)
-        × (l.period ≤ length hs.old) × (low.old ≡ replicate most_nodes 0)
+    requires { (b < roads.now.layout.nodes)
+        × (length work.old ≡ roads.now.layout.nodes * roads.now.layout.period)
+        × (roads.now.layout.period ≤ length hs.old) × (low.old ≡ replicate most_nodes 0)
         × (room.old ≡ replicate most_nodes 0) }
-    ensures { Worked (graph_of (decode file.now)) b work.new
-        × Bounds l work.new low.new room.new
+    ensures { Worked (graph_of (decode roads.now.file.now)) b work.new
+        × Bounds roads.now.layout work.new low.new room.new
         × (length hs.new ≡ length hs.old) }
 {
-    work_out(
-        file, l, starts, into, next, least, b, l.nodes, work, hs, low, room,
-    );
+    work_out(roads, b, roads.layout.nodes, work, hs, low, room);
 }
 
 // The least travels to node b from node `from`: its row is theirs, and the others are left as they come.
 pub fn least_travels_from(
-    file: &[u8],
-    l: Layout,
-    starts: &[u16; MOST_ARCS],
-    into: &[u16; MOST_NODES],
-    next: &[u16; MOST_ARCS],
-    least: &[u16; MOST_ARCS],
+    roads: &Roads<'_>,
     b: usize,
     from: usize,
     work: &mut [u32],
     hs: &mut [u32; MOST_PERIOD],
 )
-    requires ready { Ready file.now l starts.now into.now next.now
-        × Leasts file.now l l.arcs least.now }
-    requires b_lt_nodes { (b < l.nodes) × (from < l.nodes) × (length work.old ≡ l.nodes * l.period)
-        × (l.period ≤ length hs.old) }
-    ensures { WorkedRow (graph_of (decode file.now)) b from work.new }
+    requires { (b < roads.now.layout.nodes) × (from < roads.now.layout.nodes)
+        × (length work.old ≡ roads.now.layout.nodes * roads.now.layout.period)
+        × (roads.now.layout.period ≤ length hs.old) }
+    ensures { WorkedRow (graph_of (decode roads.now.file.now)) b from work.new }
 {
     let mut low = [0u32; MOST_NODES];
     let mut room = [0u32; MOST_NODES];
-    work_out(
-        file, l, starts, into, next, least, b, from, work, hs, &mut low, &mut room,
-    );
+    work_out(roads, b, from, work, hs, &mut low, &mut room);
 }

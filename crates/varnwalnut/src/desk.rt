@@ -10,6 +10,8 @@ use crate::ANSWER_SHORT;
 use c_replies::numbers::{write_checking, write_lists, write_number, write_opening};
 use day_sheet::sheet::day_sheet;
 use dimacs_import::import::import_dimacs;
+use network::header::HeaderNumbers;
+use network::tables::{LentTables, LentTablesMut};
 use network_open::open::open_network;
 use network_pack::pack::pack_network;
 use plan_check::check::check_plan;
@@ -53,12 +55,17 @@ pub extern "C" fn varnwalnut_open_network(
     if answer.len() < 10 {
         return ANSWER_SHORT;
     }
-    write_opening(
-        open_network(
-            network, cells, opens, closes, from, to, points, ticks, travels,
-        ),
-        answer,
-    )
+    let mut tables = LentTablesMut {
+        cells,
+        opens,
+        closes,
+        tails: from,
+        heads: to,
+        counts: points,
+        ticks,
+        travels,
+    };
+    write_opening(open_network(network, &mut tables), answer)
 }
 
 // The file of a network's tables, and its length.
@@ -90,13 +97,26 @@ pub extern "C" fn varnwalnut_pack_network(
     if answer.len() < 4 {
         return ANSWER_SHORT;
     }
-    write_number(
-        pack_network(
-            number, period, nodes, arcs, cells, points, hours, cellof, opens, closes, tails, heads,
-            counts, ticks, travels, out,
-        ),
-        answer,
-    )
+    let numbers = HeaderNumbers {
+        number,
+        period,
+        nodes,
+        arcs,
+        cells,
+        points,
+        hours,
+    };
+    let tables = LentTables {
+        cells: cellof,
+        opens,
+        closes,
+        tails,
+        heads,
+        counts,
+        ticks,
+        travels,
+    };
+    write_number(pack_network(numbers, &tables, out), answer)
 }
 
 // The file of the network that a DIMACS road file gives, and its length.

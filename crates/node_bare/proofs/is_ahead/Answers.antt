@@ -8,7 +8,7 @@ use Rattle.node_bare.proofs.is_ahead.Goals as goal
 
 pub loop-a-init : goal.loop-a-init
 loop-a-init c = walk_first _ c.requires.chained (ahead_elsewhere _ _ _ _) c.requires.i_lt_borders.1
-    c.wide-a.ensures.0
+    c.from-a.ensures
 
 pub overflow_mul-i : goal.overflow_mul-i
 overflow_mul-i c = product_fits c.requires.checkable.formed c.requires.i_lt_borders.0
@@ -46,10 +46,10 @@ bounds-next-a c = omega (
 )
 
 pub loop-a-smaller : goal.loop-a-smaller
-loop-a-smaller c = walk_less c.loop-a.invariant c.loop-a-test.true _ c.wide-a-in-loop-a.ensures.0
+loop-a-smaller c = walk_less c.loop-a.invariant c.loop-a-test.true _ c.from-a-in-loop-a.ensures
 
 pub loop-a-preserved : goal.loop-a-preserved
-loop-a-preserved c = walk_next c.loop-a.invariant c.loop-a-test.true _ c.wide-a-in-loop-a.ensures.0
+loop-a-preserved c = walk_next c.loop-a.invariant c.loop-a-test.true _ c.from-a-in-loop-a.ensures
     (ahead_not c.requires.checkable _ _ _ _ _ (c.loop-a.invariant.here c.loop-a-test.true)
     c.head-head.ensures.0
     c.point_count.ensures.0

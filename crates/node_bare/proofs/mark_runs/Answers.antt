@@ -14,13 +14,13 @@ pub fill-requires : goal.fill-requires
 fill-requires c = (
   omega (
     arith,
-    c.wide.ensures.0,
-    c.wide-in-loop-k.ensures.0,
+    c.from.ensures,
+    c.from-in-loop-k.ensures,
     c.requires.grid.rise c.loop-k.k c.loop-k-test.true,
   ),
   omega (
     arith,
-    c.wide-in-loop-k.ensures.0,
+    c.from-in-loop-k.ensures,
     starts_within c.requires.grid (c.loop-k.k + 1) (omega arith),
     c.loop-k.invariant.1,
   ),
@@ -30,8 +30,8 @@ pub loop-k-preserved : goal.loop-k-preserved
 loop-k-preserved c = (
   omega arith,
   c.fill.ensures.long ∙ c.loop-k.invariant.1,
-  painted_more c.loop-k.invariant.2 c.wide.ensures.0
-      c.wide-in-loop-k.ensures.0 c.home_byte.ensures c.fill.ensures,
+  painted_more c.loop-k.invariant.2 c.from.ensures
+      c.from-in-loop-k.ensures c.home_byte.ensures c.fill.ensures,
 )
 
 pub returns : goal.returns

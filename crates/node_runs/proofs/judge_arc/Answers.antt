@@ -6,24 +6,24 @@ use Rattle.node_runs.specs.Finding.{counted_none, arc_fits, head_fits, met_finds
 use Rattle.node_runs.specs.Ready.{grid_here, arc_space, head_space, listed, few, period_fits}
 use Rattle.node_runs.proofs.judge_arc.Goals as goal
 
-pub look-to-requires-clause-checkable : goal.look-to-requires-clause-checkable
-look-to-requires-clause-checkable c = c.requires.prepared.check
+pub look-requires-clause-checkable : goal.look-requires-clause-checkable
+look-requires-clause-checkable c = c.requires.prepared.check
 
-pub look-to-requires-clause-briefs : goal.look-to-requires-clause-briefs
-look-to-requires-clause-briefs c = c.requires.briefs
+pub look-requires-clause-briefs : goal.look-requires-clause-briefs
+look-requires-clause-briefs c = c.requires.briefs
 
-pub look-to-requires-clause-arc_lt_arcs : goal.look-to-requires-clause-arc_lt_arcs
-look-to-requires-clause-arc_lt_arcs c = (
+pub look-requires-clause-arc_lt_arcs : goal.look-requires-clause-arc_lt_arcs
+look-requires-clause-arc_lt_arcs c = (
   c.requires.arc_lt_arcs.0,
   c.requires.prepared.number,
   c.requires.prepared.aimed.flag,
 )
 
-pub look-to-requires-clause-topped : goal.look-to-requires-clause-topped
-look-to-requires-clause-topped c = c.requires.arc_lt_arcs.1.topped
+pub look-requires-clause-topped : goal.look-requires-clause-topped
+look-requires-clause-topped c = c.requires.arc_lt_arcs.1.topped
 
-pub returns-then-to-eq0 : goal.returns-then-to-eq0
-returns-then-to-eq0 c = (c.look-to.ensures.passed c.if-to-eq0.true _, counted_none _ _)
+pub returns-in_default : goal.returns-in_default
+returns-in_default c = (c.in_default.ensures _, counted_none _ _)
 
 pub fill_runs-na-requires-clause-town : goal.fill_runs-na-requires-clause-town
 fill_runs-na-requires-clause-town c = c.requires.prepared.check.town
@@ -36,7 +36,7 @@ fill_runs-na-requires-clause-arc_lt_arcs c = (
 )
 
 pub fill_runs-na-requires-clause-brief : goal.fill_runs-na-requires-clause-brief
-fill_runs-na-requires-clause-brief c = let k = c.look-to.ensures.met c.if-to-eq0.false in k.brief
+fill_runs-na-requires-clause-brief c = c.in-Some.ensures.brief
 
 pub fill_runs-na-requires-clause-space : goal.fill_runs-na-requires-clause-space
 fill_runs-na-requires-clause-space c = (
@@ -55,7 +55,7 @@ fill_profile-nh-requires-clause-started c = c.requires.prepared.started
 
 pub fill_profile-nh-requires-clause-i_lt_borders : goal.fill_profile-nh-requires-clause-i_lt_borders
 fill_profile-nh-requires-clause-i_lt_borders c =
-    let k = c.look-to.ensures.met c.if-to-eq0.false in
+    let k = c.in-Some.ensures in
     (c.requires.prepared.number, head_in c.requires.prepared.check c.requires.arc_lt_arcs.0 k.head, k.some)
 
 pub fill_profile-nh-requires-clause-space : goal.fill_profile-nh-requires-clause-space
@@ -64,7 +64,7 @@ fill_profile-nh-requires-clause-space c = head_space c.requires.prepared.check c
 
 pub fill_profile-nh-requires-clause-u_bound : goal.fill_profile-nh-requires-clause-u_bound
 fill_profile-nh-requires-clause-u_bound c =
-    let k = c.look-to.ensures.met c.if-to-eq0.false in
+    let k = c.in-Some.ensures in
     head_fits c.requires.prepared _ _ _ k.head c.fill_runs-na.ensures.3 c.requires.arc_bound
 
 pub invariant_of-node : goal.invariant_of-node
@@ -113,7 +113,7 @@ shape_of-marks c = c.merge.auto.marks
 
 pub returns : goal.returns
 returns c =
-    let k = c.look-to.ensures.met c.if-to-eq0.false in (
+    let k = c.in-Some.ensures in (
       met_merged c.requires.prepared.check c.args.target _ _ k.head c.requires.arc_lt_arcs.1.topped.some
           k.some _ _ _
           k.same c.merge.ensures c.requires.arc_lt_arcs.1.runs c.fill_runs-na.ensures.0

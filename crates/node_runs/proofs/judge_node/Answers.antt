@@ -45,7 +45,7 @@ pub loop-a-init : goal.loop-a-init
 loop-a-init c = (
   record { arc_s = refl; arc_v = refl; head_s = refl; head_v = refl; bytes = refl },
   judge_first c.requires.at_border.prepared.check.town c.requires.at_border.chained
-      c.requires.node_lt_nodes.0 c.wide-a.ensures.0
+      c.requires.node_lt_nodes.0 c.from-a.ensures
       (blank_here c.requires.at_border.prepared.check c.open_node-own.ensures.1).none,
   counted_none _ _,
 )
@@ -83,14 +83,14 @@ bounds-next-a c =
     (arc_place c.requires.at_border.prepared.check c.loop-a-test.true).1
 
 pub loop-a-smaller : goal.loop-a-smaller
-loop-a-smaller c = judge_less c.loop-a.invariant.1 c.loop-a-test.true _ c.wide-a-in-loop-a.ensures.0
+loop-a-smaller c = judge_less c.loop-a.invariant.1 c.loop-a-test.true _ c.from-a-in-loop-a.ensures
 
 pub loop-a-preserved : goal.loop-a-preserved
 loop-a-preserved c = (
   stays_on c.loop-a.invariant.0 c.judge_arc.auto.sa c.judge_arc.auto.va c.judge_arc.auto.sh
       c.judge_arc.auto.vh c.judge_arc.auto.marks,
-  judge_next c.loop-a.invariant.1 c.loop-a-test.true _ c.wide-a-in-loop-a.ensures.0 c.judge_arc.ensures.0,
-  walk_next c.loop-a.invariant.1 c.loop-a.invariant.2 c.loop-a-test.true _ c.wide-a-in-loop-a.ensures.0
+  judge_next c.loop-a.invariant.1 c.loop-a-test.true _ c.from-a-in-loop-a.ensures c.judge_arc.ensures.0,
+  walk_next c.loop-a.invariant.1 c.loop-a.invariant.2 c.loop-a-test.true _ c.from-a-in-loop-a.ensures
       c.judge_arc.ensures.1,
 )
 

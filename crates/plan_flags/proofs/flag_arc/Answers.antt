@@ -12,23 +12,24 @@ returns-then-is_set c = (flag_stands _ _ c.is_set.ensures _ c.if-is_set.true, re
 pub bounds-low-v : goal.bounds-low-v
 bounds-low-v c = omega (
   arith,
-  head_node c.requires.primed.0.town _ _ c.requires.a_lt_arcs.0 c.head-v.ensures.0,
-  c.requires.primed.0.town.small.nodes_most,
+  head_node c.args.roads.now.ready.primed.town _ _ c.requires.a_lt_arcs.0 c.head-v.ensures.0,
+  c.args.roads.now.ready.primed.town.small.nodes_most,
 )
 
 pub bounds-room-u : goal.bounds-room-u
 bounds-room-u c = omega (
   arith,
-  tail_node c.requires.primed.0.town _ _ c.requires.a_lt_arcs.0 c.tail-u.ensures.0,
-  c.requires.primed.0.town.small.nodes_most,
+  tail_node c.args.roads.now.ready.primed.town _ _ c.requires.a_lt_arcs.0 c.tail-u.ensures.0,
+  c.args.roads.now.ready.primed.town.small.nodes_most,
 )
 
 pub returns-then-ruled_out : goal.returns-then-ruled_out
 returns-then-ruled_out c =
-    let none = ruled_out c.requires.primed.0 c.requires.worked.0 c.requires.worked.1 c.requires.a_lt_arcs.0
+    let none = ruled_out c.args.roads.now.ready.primed c.requires.worked.0 c.requires.worked.1
+    c.requires.a_lt_arcs.0
     c.tail-u.ensures.0
     c.head-v.ensures.0
-    (c.requires.primed.1.arc _ c.requires.a_lt_arcs.0)
+    (c.args.roads.now.leasts.arc _ c.requires.a_lt_arcs.0)
     (omega (arith, c.if-ruled_out.true, c.from.ensures, c.from-2.ensures, c.from-3.ensures)) in (
       flag_left _ _ c.is_set.ensures none c.if-is_set.false refl,
       refl,

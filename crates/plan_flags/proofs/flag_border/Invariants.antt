@@ -10,8 +10,8 @@ use Rattle.plan_flags.proofs.flag_border.Given as goal
 abbrev pub invariant-loop-a : goal.invariant-loop-a
 invariant-loop-a l =
     (l.a ≤ l.a-end)
-    × (l.a-end ≡ l.l.arcs)
+    × (l.a-end ≡ l.roads.layout.arcs)
     × (l.a-end ≤ length l.initial.words)
-    × (l.c ≡ cell (decode l.file) l.b)
-    × Filled 0 l.a (word_after (decode l.file) l.b l.initial.words) l.initial.words l.words
+    × (l.c ≡ cell (decode l.roads.file.now) l.b)
+    × Filled 0 l.a (word_after (decode l.roads.file.now) l.b l.initial.words) l.initial.words l.words
     × (length l.row ≡ length l.initial.row)

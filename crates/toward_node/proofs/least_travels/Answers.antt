@@ -5,7 +5,7 @@ use Rattle.toward_node.proofs.least_travels.Goals as goal
 
 pub returns : goal.returns
 returns c = (
-  worked_all (omega (arith, c.requires.ready.0.primed.town.sizes.nodes)) c.work_out.ensures.0,
+  worked_all (omega (arith, c.args.roads.now.ready.primed.town.sizes.nodes)) c.work_out.ensures.0,
   c.work_out.ensures.1 (omega arith),
   c.work_out.ensures.2,
 )

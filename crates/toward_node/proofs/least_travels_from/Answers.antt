@@ -5,5 +5,5 @@ use Rattle.toward_node.proofs.least_travels_from.Goals as goal
 
 pub returns : goal.returns
 returns c =
-    worked_one (omega (arith, c.requires.b_lt_nodes.1, c.requires.ready.0.primed.town.sizes.nodes))
+    worked_one (omega (arith, c.requires.1, c.args.roads.now.ready.primed.town.sizes.nodes))
     c.work_out.ensures.0

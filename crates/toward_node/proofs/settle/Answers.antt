@@ -8,63 +8,60 @@ use Rattle.toward_node.specs.Turn.{walking_end}
 use Rattle.toward_node.proofs.settle.Goals as goal
 
 pub copy_row-requires-clause-small : goal.copy_row-requires-clause-small
-copy_row-requires-clause-small c = c.requires.ready.0.primed.town.small
+copy_row-requires-clause-small c = c.args.roads.now.ready.primed.town.small
 
 pub copy_row-requires-clause-v_lt_nodes : goal.copy_row-requires-clause-v_lt_nodes
 copy_row-requires-clause-v_lt_nodes c = (
-  c.requires.v_lt_nodes.0,
-  seen_size _ c.requires.v_lt_nodes.1,
-  c.requires.v_lt_nodes.4,
+  c.requires.0,
+  seen_size _ c.requires.1,
+  c.requires.4,
 )
 
 pub loop-a-init : goal.loop-a-init
 loop-a-init c =
-    walking_start c.requires.ready.0 _ c.requires.v_lt_nodes.0 c.requires.v_lt_nodes.1
-    c.requires.v_lt_nodes.3 c.requires.v_lt_nodes.4
+    walking_start c.args.roads.now.ready _ c.requires.0 c.requires.1
+    c.requires.3 c.requires.4
     c.copy_row.ensures c.from-a.ensures
 
-pub lower_tail-requires-clause-primed : goal.lower_tail-requires-clause-primed
-lower_tail-requires-clause-primed c = (c.requires.ready.0.primed, c.requires.ready.1)
-
-pub lower_tail-requires-clause-arc_lt_arcs : goal.lower_tail-requires-clause-arc_lt_arcs
-lower_tail-requires-clause-arc_lt_arcs c = (
+pub lower_tail-requires : goal.lower_tail-requires
+lower_tail-requires c = (
   c.loop-a-test.true,
   c.loop-a.invariant.heights,
   walking_held
-      c.requires.ready.0 c.loop-a.invariant c.loop-a-test.true,
+      c.args.roads.now.ready c.loop-a.invariant c.loop-a-test.true,
 )
 
-pub offset_bounds-next-a : goal.offset_bounds-next-a
-offset_bounds-next-a c =
+pub offset_bounds-roads-a : goal.offset_bounds-roads-a
+offset_bounds-roads-a c =
     omega (
       arith,
       c.loop-a.invariant.within,
     )
 
-pub bounds-next-a : goal.bounds-next-a
-bounds-next-a c =
+pub bounds-roads-a : goal.bounds-roads-a
+bounds-roads-a c =
     omega (
       arith,
-      c.requires.ready.0.primed.town.small.arcs_most,
+      c.args.roads.now.ready.primed.town.small.arcs_most,
     )
 
 pub loop-a-smaller : goal.loop-a-smaller
 loop-a-smaller c =
-    walking_less c.requires.ready.0 c.loop-a.invariant c.loop-a-test.true c.from-a-in-loop-a.ensures
+    walking_less c.args.roads.now.ready c.loop-a.invariant c.loop-a-test.true c.from-a-in-loop-a.ensures
 
 pub loop-a-preserved : goal.loop-a-preserved
 loop-a-preserved c =
-    walking_next c.requires.ready.0 c.loop-a.invariant c.loop-a-test.true
+    walking_next c.args.roads.now.ready c.loop-a.invariant c.loop-a-test.true
     c.lower_tail.ensures c.from-a-in-loop-a.ensures
 
 pub shape_of-work : goal.shape_of-work
 shape_of-work c =
-    seen_size _ c.loop-a.invariant.heights ∙ sym (seen_size _ c.requires.v_lt_nodes.1)
+    seen_size _ c.loop-a.invariant.heights ∙ sym (seen_size _ c.requires.1)
 
 pub returns : goal.returns
 returns c = (
-  walking_end c.requires.ready.0 _ c.requires.v_lt_nodes.0 c.requires.v_lt_nodes.1 c.requires.v_lt_nodes.2
-      c.requires.v_lt_nodes.3 c.loop-a.invariant
+  walking_end c.args.roads.now.ready _ c.requires.0 c.requires.1 c.requires.2
+      c.requires.3 c.loop-a.invariant
       c.loop-a-test.false,
   c.copy_row.ensures.long,
 )

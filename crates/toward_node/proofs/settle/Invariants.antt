@@ -7,9 +7,10 @@ use Rattle.toward_node.proofs.settle.Given as goal
 
 abbrev pub invariant-loop-a : goal.invariant-loop-a
 invariant-loop-a l =
-    Walking l.file l.l l.v l.a l.reach l.bar l.hs (seen l.l.period l.initial.room l.initial.work)
-    l.initial.near l.initial.room (seen l.l.period l.room l.work)
+    Walking l.roads.file.now l.roads.layout l.v l.a l.reach l.bar l.hs
+    (seen l.roads.layout.period l.initial.room l.initial.work)
+    l.initial.near l.initial.room (seen l.roads.layout.period l.room l.work)
     l.near l.room
 
 abbrev pub decreases-loop-a : goal.decreases-loop-a
-decreases-loop-a l = l.l.arcs - l.a
+decreases-loop-a l = l.roads.layout.arcs - l.a

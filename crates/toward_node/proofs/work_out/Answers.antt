@@ -10,31 +10,22 @@ use Rattle.toward_node.specs.Turn.{waiting_bounds, waiting_end}
 use Rattle.toward_node.proofs.work_out.Goals as goal
 
 pub bar_of-bar-requires : goal.bar_of-bar-requires
-bar_of-bar-requires c = c.requires.ready.0.primed.town.small.nodes_most
+bar_of-bar-requires c = c.args.roads.now.ready.primed.town.small.nodes_most
 
 pub loop-v-init : goal.loop-v-init
 loop-v-init c = (
-  rw (c.requires.b_lt_nodes.3, c.requires.b_lt_nodes.4)
-      (waiting_start c.requires.ready.0 c.requires.b_lt_nodes.0 c.requires.b_lt_nodes.1 c.fill_row.ensures
-      (rw c.requires.b_lt_nodes.4 at c.bar_of-bar.ensures)),
+  rw (c.requires.3, c.requires.4)
+      (waiting_start c.args.roads.now.ready c.requires.0 c.requires.1 c.fill_row.ensures
+      (rw c.requires.4 at c.bar_of-bar.ensures)),
   refl,
 )
 
-pub settle-requires-clause-ready : goal.settle-requires-clause-ready
-settle-requires-clause-ready c =
-    let long : c.args.l.period ≤ length c.loop-v.hs = omega (
+pub settle-requires : goal.settle-requires
+settle-requires c =
+    let long : c.args.roads.now.layout.period ≤ length c.loop-v.hs = omega (
       arith,
       c.loop-v.invariant.1,
-      c.requires.b_lt_nodes.2,
-    ) in
-    c.requires.ready
-
-pub settle-requires-clause-v_lt_nodes : goal.settle-requires-clause-v_lt_nodes
-settle-requires-clause-v_lt_nodes c =
-    let long : c.args.l.period ≤ length c.loop-v.hs = omega (
-      arith,
-      c.loop-v.invariant.1,
-      c.requires.b_lt_nodes.2,
+      c.requires.2,
     ) in (
       c.loop-v-test.true,
       c.loop-v.invariant.0.heights,
@@ -45,24 +36,24 @@ settle-requires-clause-v_lt_nodes c =
 
 pub bar_of-bar-requires-in-loop-v : goal.bar_of-bar-requires-in-loop-v
 bar_of-bar-requires-in-loop-v c =
-    c.requires.ready.0.primed.town.small.nodes_most
+    c.args.roads.now.ready.primed.town.small.nodes_most
 
 pub nearest-v-requires : goal.nearest-v-requires
 nearest-v-requires c =
-    c.requires.ready.0.primed.town.small.nodes_most
+    c.args.roads.now.ready.primed.town.small.nodes_most
 
 pub loop-v-smaller : goal.loop-v-smaller
 loop-v-smaller c = c.settle.ensures.0.lighter
 
 pub loop-v-preserved : goal.loop-v-preserved
 loop-v-preserved c = (
-  waiting_next c.requires.ready.0 c.loop-v.invariant.0 c.settle.ensures.0 c.bar_of-bar-in-loop-v.ensures
+  waiting_next c.args.roads.now.ready c.loop-v.invariant.0 c.settle.ensures.0 c.bar_of-bar-in-loop-v.ensures
       c.nearest-v.ensures,
   c.settle.ensures.1 ∙ c.loop-v.invariant.1,
 )
 
 pub show_wanted-requires-clause-small : goal.show_wanted-requires-clause-small
-show_wanted-requires-clause-small c = c.requires.ready.0.primed.town.small
+show_wanted-requires-clause-small c = c.args.roads.now.ready.primed.town.small
 
 pub show_wanted-requires-clause-work_len : goal.show_wanted-requires-clause-work_len
 show_wanted-requires-clause-work_len c = seen_size _ c.loop-v.invariant.0.heights
@@ -70,14 +61,14 @@ show_wanted-requires-clause-work_len c = seen_size _ c.loop-v.invariant.0.height
 pub shape_of-work : goal.shape_of-work
 shape_of-work c =
     c.show_wanted.ensures.long ∙ seen_size _ c.loop-v.invariant.0.heights
-    ∙ sym c.requires.b_lt_nodes.1
+    ∙ sym c.requires.1
 
 pub returns : goal.returns
 returns c = (
-  shown_worked c.show_wanted.ensures c.requires.ready.0.primed.town.sizes.nodes
-      c.requires.ready.0.primed.town.sizes.period
-      (waiting_end c.requires.ready.0 c.loop-v.invariant.0 c.loop-v-test.false),
-  λ all. shown_bounds c.show_wanted.ensures all (waiting_bounds c.requires.ready.0 c.loop-v.invariant.0
+  shown_worked c.show_wanted.ensures c.args.roads.now.ready.primed.town.sizes.nodes
+      c.args.roads.now.ready.primed.town.sizes.period
+      (waiting_end c.args.roads.now.ready c.loop-v.invariant.0 c.loop-v-test.false),
+  λ all. shown_bounds c.show_wanted.ensures all (waiting_bounds c.args.roads.now.ready c.loop-v.invariant.0
       c.loop-v-test.false all),
   c.loop-v.invariant.1,
 )

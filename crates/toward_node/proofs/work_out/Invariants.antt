@@ -8,7 +8,7 @@ use Rattle.toward_node.proofs.work_out.Given as goal
 
 abbrev pub invariant-loop-v : goal.invariant-loop-v
 invariant-loop-v l =
-    Waiting l.file l.l l.b l.goal l.bar (seen l.l.period l.room l.work) l.near l.room l.low l.v ×
+    Waiting l.roads.file.now l.l l.b l.goal l.bar (seen l.l.period l.room l.work) l.near l.room l.low l.v ×
     (length l.hs ≡ length l.initial.hs)
 
 abbrev pub decreases-loop-v : goal.decreases-loop-v

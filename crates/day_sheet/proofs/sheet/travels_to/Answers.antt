@@ -15,14 +15,6 @@ least_of_arcs-requires-clause-primed c = primed_of c.requires.town c.first_point
 pub least_of_arcs-requires-clause-arcs_in_bounds : goal.least_of_arcs-requires-clause-arcs_in_bounds
 least_of_arcs-requires-clause-arcs_in_bounds c = c.requires.town.small.arcs_most
 
-pub least_travels_from-requires-clause-ready : goal.least_travels_from-requires-clause-ready
-least_travels_from-requires-clause-ready c = (
-  record {
-    primed = primed_of c.requires.town c.first_points.ensures;
-    chained = c.chain.ensures;
-  },
-  c.least_of_arcs.ensures,
-)
-
-pub least_travels_from-requires-clause-b_lt_nodes : goal.least_travels_from-requires-clause-b_lt_nodes
-least_travels_from-requires-clause-b_lt_nodes c = (c.requires.from_lt_nodes.1, c.requires.from_lt_nodes.0, c.requires.from_lt_nodes.2, c.requires.town.small.period_most)
+pub invariant_of-roads-clause-ready : goal.invariant_of-roads-clause-ready
+invariant_of-roads-clause-ready c =
+    record { primed = primed_of c.requires.town c.first_points.ensures; chained = c.chain.ensures }

@@ -5,8 +5,8 @@ use Rattle.network_encode.proofs.encode.nodes_block.Goals as goal
 pub cells_block-requires-clause-in_run : goal.cells_block-requires-clause-in_run
 cells_block-requires-clause-in_run c = search node_blocks_lem
 
-pub returns-then-hours-eq0 : goal.returns-then-hours-eq0
-returns-then-hours-eq0 c = search node_blocks_lem
+pub returns-then-l-eq0 : goal.returns-then-l-eq0
+returns-then-l-eq0 c = search node_blocks_lem
 
 pub triples_block-requires-clause-in_run : goal.triples_block-requires-clause-in_run
 triples_block-requires-clause-in_run c = search node_blocks_lem

@@ -1,7 +1,7 @@
 -- `network_rules::rules::scan_arcs` meets its contract: no arc of the blocks passed is bad, and `sum` is the
 -- points of those.
-use mathlib.Core.Path.{sym}
 use native.Mathlib.Omega.{arith}
+use Rattle.std.proofs.lemmas.Result.{err_from_is_err_and}
 use Rattle.network.specs.{Decode.laid_small}
 use Rattle.network_rules.specs.ScanArcs.{arcs_none, arcs_at, arcs_found}
 use borrow.Author.Rules.{rules}
@@ -18,28 +18,27 @@ loop-j-init c = (
   arcs_at arcs_none _ (search rules),
 )
 
-pub scan_block-found-requires-clause-laid : goal.scan_block-found-requires-clause-laid
-scan_block-found-requires-clause-laid c = c.requires
+pub scan_block-requires-clause-laid : goal.scan_block-requires-clause-laid
+scan_block-requires-clause-laid c = c.requires
 
-pub scan_block-found-requires-clause-m_le_arc_per : goal.scan_block-found-requires-clause-m_le_arc_per
-scan_block-found-requires-clause-m_le_arc_per c = search rules
+pub scan_block-requires-clause-m_le_arc_per : goal.scan_block-requires-clause-m_le_arc_per
+scan_block-requires-clause-m_le_arc_per c = search rules
 
-pub scan_block-found-requires-clause-arcs_passed : goal.scan_block-found-requires-clause-arcs_passed
-scan_block-found-requires-clause-arcs_passed c = arcs_at c.loop-j.invariant.3 _ (search rules)
+pub scan_block-requires-clause-arcs_passed : goal.scan_block-requires-clause-arcs_passed
+scan_block-requires-clause-arcs_passed c = arcs_at c.loop-j.invariant.3 _ (search rules)
 
-pub returns-then-found-j : goal.returns-then-found-j
-returns-then-found-j c =
-    (arcs_found _ _ _ _ c.scan_block-found.ensures c.if-found-j.true (search rules), λ h. absurd (search rules))
+pub returns-in_err-sum : goal.returns-in_err-sum
+returns-in_err-sum c =
+    let p = err_from_is_err_and c.from_residual.result c.from_residual.ensures.1 in
+    rw (p.1, p.2) (arcs_found _ _ _ _ c.in_err-sum.ensures (search rules))
 
 pub loop-j-preserved : goal.loop-j-preserved
 loop-j-preserved c = (
   search rules,
   search rules,
   search rules,
-  arcs_at (c.scan_block-found.ensures.passed c.if-found-j.false) _ (search rules),
+  arcs_at c.in_ok-sum.ensures _ (search rules),
 )
 
 pub returns : goal.returns
-returns c =
-    let p = arcs_at c.loop-j.invariant.3 c.args.l.arcs (search rules) in
-    (sym p.none, λ h. p.is)
+returns c = arcs_at c.loop-j.invariant.3 c.args.l.arcs (search rules)

@@ -5,7 +5,7 @@ use Prim.Native.Nat.{◌+◌, ◌*◌}
 use native.Mathlib.Omega.{arith}
 use Rattle.file_blocks.specs.Kind.{arc_per}
 use Rattle.network.specs.{Decode.decode, Decode.laid_small, Rules.bad_arc, Rules.arc_judged}
-use Rattle.network_rules.specs.ScanArcs.{arcs_at, arcs_more, arcs_stop, arcs_end}
+use Rattle.network_rules.specs.ScanArcs.{arcs_at, arcs_more, arcs_stop}
 use borrow.Author.Rules.{rules}
 use Rattle.network_rules.proofs.rules.scan_block.Goals as goal
 
@@ -39,4 +39,4 @@ loop-e-preserved c =
     )
 
 pub returns : goal.returns
-returns c = arcs_end c.loop-e.invariant.1 _ (search rules)
+returns c = arcs_at c.loop-e.invariant.1 _ (search rules)

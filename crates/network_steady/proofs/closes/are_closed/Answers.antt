@@ -1,11 +1,9 @@
 -- `network_steady::closes::are_closed` meets its contract: the days of the arcs of the blocks passed close,
 -- and `sum` is the points of those.
 use Rattle.std.proofs.Common.{arith}
-use borrow.Author.{Tests.not-false, Rules.rules}
+use borrow.Author.{Rules.rules}
 use Rattle.network.specs.{Decode.laid_sizes, Decode.laid_small}
 use Rattle.network_steady.specs.Closes.{closing_none, closing_at, closing_end, not_so}
-use mathlib.Core.Path.{ap}
-use mathlib.Core.Bool.{not}
 use Rattle.network_steady.proofs.closes.are_closed.Goals as goal
 
 pub blocks-j-end-requires : goal.blocks-j-end-requires
@@ -19,24 +17,24 @@ loop-j-init c = (
   closing_at _ _ _ _ _ (closing_none _ _ c.requires.counted (laid_sizes c.requires.laid) (laid_small c.requires.laid)) (search rules),
 )
 
-pub close_block-found-requires-clause-laid : goal.close_block-found-requires-clause-laid
-close_block-found-requires-clause-laid c = c.requires.laid
+pub close_block-requires-clause-laid : goal.close_block-requires-clause-laid
+close_block-requires-clause-laid c = c.requires.laid
 
-pub close_block-found-requires-clause-m_le_arc_per : goal.close_block-found-requires-clause-m_le_arc_per
-close_block-found-requires-clause-m_le_arc_per c = search rules
+pub close_block-requires-clause-m_le_arc_per : goal.close_block-requires-clause-m_le_arc_per
+close_block-requires-clause-m_le_arc_per c = search rules
 
-pub close_block-found-requires-clause-closing : goal.close_block-found-requires-clause-closing
-close_block-found-requires-clause-closing c = closing_at _ _ _ _ _ c.loop-j.invariant.3 (search rules)
+pub close_block-requires-clause-closing : goal.close_block-requires-clause-closing
+close_block-requires-clause-closing c = closing_at _ _ _ _ _ c.loop-j.invariant.3 (search rules)
 
-pub returns-then-not-all : goal.returns-then-not-all
-returns-then-not-all c = not_so
+pub returns-in_default : goal.returns-in_default
+returns-in_default c = not_so
 
 pub loop-j-preserved : goal.loop-j-preserved
 loop-j-preserved c = (
   search rules,
   search rules,
   search rules,
-  closing_at _ _ _ _ _ (c.close_block-found.ensures (not-false _ (ap not c.if-not-all.false))) (search rules),
+  closing_at _ _ _ _ _ c.in-Some.ensures (search rules),
 )
 
 pub returns : goal.returns

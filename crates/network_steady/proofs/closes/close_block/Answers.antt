@@ -3,7 +3,7 @@
 use Rattle.std.proofs.Common.{◌+◌, ◌*◌, ◌<◌, arith, rules}
 use Rattle.file_blocks.specs.Kind.{arc_per}
 use Rattle.network_steady.specs.Closes.{closing_at, closing_room, closing_some, closing_few}
-use Rattle.network_steady.specs.Closes.{closing_more, not_so}
+use Rattle.network_steady.specs.Closes.{closing_more}
 use mathlib.Core.Path.{ap}
 use mathlib.Core.Bool.{not}
 use Rattle.network_steady.proofs.closes.close_block.Goals as goal
@@ -20,9 +20,6 @@ is_closed-closed-requires-clause-count_bound c =
     < c.args.l.arcs =
     omega arith in
     (closing_room _ _ _ _ _ c.loop-e.invariant.1 here c.entry_in-arc.ensures.count, closing_some _ _ _ _ _ c.loop-e.invariant.1 here c.entry_in-arc.ensures.count)
-
-pub returns-then-not-closed : goal.returns-then-not-closed
-returns-then-not-closed c = not_so
 
 pub overflow_add-sum : goal.overflow_add-sum
 overflow_add-sum c =
@@ -45,4 +42,4 @@ loop-e-preserved c =
     )
 
 pub returns : goal.returns
-returns c = λ _. closing_at _ _ _ _ _ c.loop-e.invariant.1 (search rules)
+returns c = closing_at _ _ _ _ _ c.loop-e.invariant.1 (search rules)

@@ -24,31 +24,33 @@ pub overflow_cast-a : goal.overflow_cast-a
 overflow_cast-a c =
     omega (arith, c.requires.small)
 
-pub returns-then-a-l : goal.returns-then-a-l
-returns-then-a-l c =
+pub returns-in-Err : goal.returns-in-Err
+returns-in-Err c =
     let p = c.requires in
+    let (inside, is) = c.in-Err.ensures in
     cells_passed p.sizes _ _ (cell_found p c.first_bad_cell-v.ensures) c.if-v-l.false
     (hours_passed p.sizes _ _ (hours_found p c.first_bad_hours-u.ensures) c.if-u-l.false
-    (arc_taken p.sizes _ _ (arc_found p c.scan_arcs-found.ensures.0) c.if-a-l.true
-    c.refused-then-a-l.ensures))
+    (arc_taken p.sizes _ _ (arc_found p is) (omega (arith, p.sizes.arcs)) c.refused-in-Err.ensures))
 
 pub overflow_cast-l : goal.overflow_cast-l
 overflow_cast-l c =
     omega (arith, c.requires.small)
 
-pub returns-then-found-l : goal.returns-then-found-l
-returns-then-found-l c =
+pub returns-then-sum-l : goal.returns-then-sum-l
+returns-then-sum-l c =
     let p = c.requires in
+    let (none, is) = c.in-Ok.ensures in
     cells_passed p.sizes _ _ (cell_found p c.first_bad_cell-v.ensures) c.if-v-l.false
     (hours_passed p.sizes _ _ (hours_found p c.first_bad_hours-u.ensures) c.if-u-l.false
-    (arcs_passed_lem p.sizes _ _ (arc_found p c.scan_arcs-found.ensures.0) c.if-a-l.false
-    (sum_taken p.sizes _ _ (sum_found p (c.scan_arcs-found.ensures.1 (omega (arith, p.sizes.arcs)))) c.if-found-l.true
-    c.refused-then-found-l.ensures)))
+    (arcs_passed_lem p.sizes _ _ (arc_found p none) (omega (arith, p.sizes.arcs))
+    (sum_taken p.sizes _ _ (sum_found p is) c.if-sum-l.true c.refused-then-sum-l.ensures)))
 
 pub judge_points-requires-clause-counted : goal.judge_points-requires-clause-counted
 judge_points-requires-clause-counted c =
-    let p = c.requires in counted_bare p (counted p.sizes _ _ (arc_found p c.scan_arcs-found.ensures.0) c.if-a-l.false
-    (sum_found p (c.scan_arcs-found.ensures.1 (omega (arith, p.sizes.arcs)))) c.if-found-l.false)
+    let p = c.requires in
+    let (none, is) = c.in-Ok.ensures in
+    counted_bare p
+    (counted p.sizes _ _ (arc_found p none) (omega (arith, p.sizes.arcs)) (sum_found p is) c.if-sum-l.false)
 
 pub judge_points-requires-clause-period_nonzero : goal.judge_points-requires-clause-period_nonzero
 judge_points-requires-clause-period_nonzero c =
@@ -61,8 +63,9 @@ judge_points-requires-clause-travels_len c =
 pub returns : goal.returns
 returns c =
     let p = c.requires in
+    let (none, is) = c.in-Ok.ensures in
     cells_passed p.sizes _ _ (cell_found p c.first_bad_cell-v.ensures) c.if-v-l.false
     (hours_passed p.sizes _ _ (hours_found p c.first_bad_hours-u.ensures) c.if-u-l.false
-    (arcs_passed_lem p.sizes _ _ (arc_found p c.scan_arcs-found.ensures.0) c.if-a-l.false
-    (sum_passed p.sizes _ _ (sum_found p (c.scan_arcs-found.ensures.1 (omega (arith, p.sizes.arcs)))) c.if-found-l.false
+    (arcs_passed_lem p.sizes _ _ (arc_found p none) (omega (arith, p.sizes.arcs))
+    (sum_passed p.sizes _ _ (sum_found p is) c.if-sum-l.false
     (points_judged p c.judge_points.ensures))))

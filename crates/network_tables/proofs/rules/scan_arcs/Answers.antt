@@ -7,10 +7,10 @@ pub loop-a-init : goal.loop-a-init
 loop-a-init c = (search rules, search firsts, search totals, search rules)
 
 pub returns-then-is_bad_arc : goal.returns-then-is_bad_arc
-returns-then-is_bad_arc c = (search firsts, λ h. absurd (search rules))
+returns-then-is_bad_arc c = (search rules, search firsts)
 
 pub loop-a-preserved : goal.loop-a-preserved
 loop-a-preserved c = (search rules, search firsts, search totals, search rules)
 
 pub returns : goal.returns
-returns c = (search firsts, λ h. search totals)
+returns c = (search firsts, search totals)

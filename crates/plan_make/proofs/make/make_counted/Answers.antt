@@ -10,49 +10,46 @@ pub overflow_cast-head : goal.overflow_cast-head
 overflow_cast-head c =
     omega (
       arith,
-      borders_fit c.requires.valid_file.0 c.requires.count_value.0 c.requires.count_value.1
-          c.requires.count_value.2,
+      borders_fit c.requires.valid_file.0 c.args.borders.now.whole c.requires.counted.0
+          c.requires.counted.1,
     )
 
 pub layout-k-requires : goal.layout-k-requires
 layout-k-requires c =
-    header_within c.requires.valid_file.0 c.requires.count_value.0 c.requires.count_value.1
-    c.requires.count_value.2
+    header_within c.requires.valid_file.0 c.args.borders.now.whole c.requires.counted.0
+    c.requires.counted.1
 
 pub overflow_mul-long : goal.overflow_mul-long
 overflow_mul-long c =
     omega (
       arith,
       file_few c.layout-k.ensures
-          (header_within c.requires.valid_file.0 c.requires.count_value.0 c.requires.count_value.1
-          c.requires.count_value.2),
+          (header_within c.requires.valid_file.0 c.args.borders.now.whole c.requires.counted.0
+          c.requires.counted.1),
     )
 
 pub returns-then-out-long : goal.returns-then-out-long
 returns-then-out-long c =
-    let n = decode c.args.file.now in
-    let h = header_made c.requires.valid_file.0 c.requires.count_value.0 c.requires.count_value.1
-    c.requires.count_value.2 in
-    made_short n c.args.out.now _ (points_few c.requires.valid_file.0 c.requires.count_value.0
-    c.requires.count_value.1 c.requires.count_value.2)
+    let n = decode c.args.borders.now.roads.file.now in
+    let h = header_made c.requires.valid_file.0 c.args.borders.now.whole c.requires.counted.0
+    c.requires.counted.1 in
+    made_short n c.args.out.now _ (points_few c.requires.valid_file.0 c.args.borders.now.whole
+    c.requires.counted.0 c.requires.counted.1)
     (file_long n c.layout-k.ensures h) c.if-out-long.true c.refused.ensures
 
-pub write_plan-requires-clause-tables : goal.write_plan-requires-clause-tables
-write_plan-requires-clause-tables c = c.requires.tables
-
-pub write_plan-requires-clause-plan_writable : goal.write_plan-requires-clause-plan_writable
-write_plan-requires-clause-plan_writable c =
-    let h = header_made c.requires.valid_file.0 c.requires.count_value.0 c.requires.count_value.1
-    c.requires.count_value.2 in (
+pub write_plan-requires : goal.write_plan-requires
+write_plan-requires c =
+    let h = header_made c.requires.valid_file.0 c.args.borders.now.whole c.requires.counted.0
+    c.requires.counted.1 in (
       record {
         is = c.layout-k.ensures;
-        within = header_within c.requires.valid_file.0 c.requires.count_value.0 c.requires.count_value.1
-            c.requires.count_value.2;
+        within = header_within c.requires.valid_file.0 c.args.borders.now.whole c.requires.counted.0
+            c.requires.counted.1;
         number_fits = c.requires.valid_file.1;
         whole = omega arith;
       },
       h,
-      c.requires.count_value.3,
+      c.requires.counted.2,
     )
 
 pub overflow_cast-result : goal.overflow_cast-result
@@ -60,15 +57,15 @@ overflow_cast-result c =
     omega (
       arith,
       file_few c.layout-k.ensures
-          (header_within c.requires.valid_file.0 c.requires.count_value.0 c.requires.count_value.1
-          c.requires.count_value.2),
+          (header_within c.requires.valid_file.0 c.args.borders.now.whole c.requires.counted.0
+          c.requires.counted.1),
     )
 
 pub returns : goal.returns
 returns c =
-    let n = decode c.args.file.now in
-    let h = header_made c.requires.valid_file.0 c.requires.count_value.0 c.requires.count_value.1
-    c.requires.count_value.2 in
-    made_whole n c.args.out.now _ (points_few c.requires.valid_file.0 c.requires.count_value.0
-    c.requires.count_value.1 c.requires.count_value.2) _
+    let n = decode c.args.borders.now.roads.file.now in
+    let h = header_made c.requires.valid_file.0 c.args.borders.now.whole c.requires.counted.0
+    c.requires.counted.1 in
+    made_whole n c.args.out.now _ (points_few c.requires.valid_file.0 c.args.borders.now.whole
+    c.requires.counted.0 c.requires.counted.1) _
     (file_long n c.layout-k.ensures h) c.if-out-long.false c.write_plan.ensures refl

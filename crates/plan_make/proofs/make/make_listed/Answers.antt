@@ -4,7 +4,7 @@ use native.Mathlib.Omega.{arith}
 use Rattle.network.specs.Decode.{decode}
 use Rattle.search_chains.specs.Town.{fresh_tables}
 use Rattle.toward_list.specs.Work.{valid_town, primed_of}
-use Rattle.plan_make.specs.Making.{tables_of_lem, counted_over, into_many}
+use Rattle.plan_make.specs.Making.{counted_over, into_many}
 use Rattle.plan_make.proofs.make.make_listed.Goals as goal
 
 pub first_points-requires-clause-town : goal.first_points-requires-clause-town
@@ -47,14 +47,11 @@ list_borders-count-requires-clause-sound_network c =
 pub list_borders-count-requires-clause-out_len : goal.list_borders-count-requires-clause-out_len
 list_borders-count-requires-clause-out_len c = refl
 
-pub count_points-points-requires-clause-tables : goal.count_points-points-requires-clause-tables
-count_points-points-requires-clause-tables c = tables_of_lem (valid_town c.requires.valid_file.0
-    c.requires.valid_file.2) _ c.first_points.ensures
-    c.chain.ensures c.least_of_arcs.ensures
-    c.list_borders-count.ensures.1
-
-pub count_points-points-requires-clause-count_value : goal.count_points-points-requires-clause-count_value
-count_points-points-requires-clause-count_value c = (c.list_borders-count.ensures.0, c.requires.work_len)
+pub invariant_of-roads-clause-ready : goal.invariant_of-roads-clause-ready
+invariant_of-roads-clause-ready c = record {
+  primed = primed_of (valid_town c.requires.valid_file.0 c.requires.valid_file.2) c.first_points.ensures;
+  chained = c.chain.ensures;
+}
 
 pub returns-then-points-gt-MOST_POINTS : goal.returns-then-points-gt-MOST_POINTS
 returns-then-points-gt-MOST_POINTS c =
@@ -65,16 +62,6 @@ returns-then-points-gt-MOST_POINTS c =
 pub make_counted-requires-clause-valid_file : goal.make_counted-requires-clause-valid_file
 make_counted-requires-clause-valid_file c = (c.requires.valid_file.0, c.requires.valid_file.1)
 
-pub make_counted-requires-clause-tables : goal.make_counted-requires-clause-tables
-make_counted-requires-clause-tables c = tables_of_lem (valid_town c.requires.valid_file.0
-    c.requires.valid_file.2) _ c.first_points.ensures c.chain.ensures c.least_of_arcs.ensures
-    c.list_borders-count.ensures.1
-
-pub make_counted-requires-clause-count_value : goal.make_counted-requires-clause-count_value
-make_counted-requires-clause-count_value c = (
-  c.list_borders-count.ensures.0,
-  c.count_points-points.ensures,
-  c.if-points-gt-MOST_POINTS.false,
-  omega
-      arith,
-)
+pub make_counted-requires-clause-counted : goal.make_counted-requires-clause-counted
+make_counted-requires-clause-counted c =
+    (c.count_points-points.ensures, c.if-points-gt-MOST_POINTS.false, omega arith)

@@ -10,17 +10,14 @@ pub loop-i-init : goal.loop-i-init
 loop-i-init c = (
   search rules,
   refl,
-  counted_none c.args.file.now,
-  put_none c.requires.tables.ready.primed.town c.requires.held.0 c.requires.work_len.1,
-  c.requires.tables.ready.primed.town.small.period_most,
+  counted_none c.args.borders.now.roads.file.now,
+  put_none c.args.borders.now.roads.ready.primed.town c.requires.held.0 c.requires.work_len.1,
+  c.args.borders.now.roads.ready.primed.town.small.period_most,
 )
-
-pub travels_to-b-requires-clause-tables : goal.travels_to-b-requires-clause-tables
-travels_to-b-requires-clause-tables c = c.requires.tables
 
 pub travels_to-b-requires-clause-i_bound : goal.travels_to-b-requires-clause-i_bound
 travels_to-b-requires-clause-i_bound c = (
-  listed c.requires.tables.ready.primed.town c.requires.held.0 c.loop-i-test.true,
+  listed c.args.borders.now.roads.ready.primed.town c.requires.held.0 c.loop-i-test.true,
   c.loop-i.invariant.1 ∙ c.requires.work_len.0,
   c.loop-i.invariant.4,
 )
@@ -28,17 +25,14 @@ travels_to-b-requires-clause-i_bound c = (
 pub travels_to-b-requires-clause-zeros : goal.travels_to-b-requires-clause-zeros
 travels_to-b-requires-clause-zeros c = (refl, refl)
 
-pub flag_border-requires-clause-primed : goal.flag_border-requires-clause-primed
-flag_border-requires-clause-primed c = (c.requires.tables.ready.primed, c.requires.tables.leasts)
-
 pub flag_border-requires-clause-b_lt_nodes : goal.flag_border-requires-clause-b_lt_nodes
 flag_border-requires-clause-b_lt_nodes c = (
-  aimed_node c.requires.tables
-      (listed c.requires.tables.ready.primed.town c.requires.held.0 c.loop-i-test.true)
+  aimed_node c.args.borders.now.roads.ready.primed.town
+      (listed c.args.borders.now.roads.ready.primed.town c.requires.held.0 c.loop-i-test.true)
       c.travels_to-b.ensures.0,
   c.travels_to-b.ensures.2 ∙ c.loop-i.invariant.1 ∙ c.requires.work_len.0,
   omega (arith, c.travels_to-b.ensures.3, c.loop-i.invariant.4),
-  omega (arith, c.loop-i.invariant.3.flags.long, c.requires.tables.ready.primed.town.sizes.arcs),
+  omega (arith, c.loop-i.invariant.3.flags.long, c.args.borders.now.roads.ready.primed.town.sizes.arcs),
 )
 
 pub flag_border-requires-clause-worked : goal.flag_border-requires-clause-worked
@@ -47,28 +41,31 @@ flag_border-requires-clause-worked c =
 
 pub overflow_mul-i : goal.overflow_mul-i
 overflow_mul-i c =
-    omega (arith, profiles_few c.requires.tables.ready.primed.town c.requires.held.0 c.loop-i-test.true)
+    omega (
+      arith,
+      profiles_few c.args.borders.now.roads.ready.primed.town c.requires.held.0 c.loop-i-test.true,
+    )
 
 pub put_rows-q-requires-clause-small : goal.put_rows-q-requires-clause-small
 put_rows-q-requires-clause-small c = (
-  c.requires.tables.ready.primed.town.small,
+  c.args.borders.now.roads.ready.primed.town.small,
   put_kept c.requires.held.1
       c.loop-i.invariant.3,
 )
 
 pub put_rows-q-requires-clause-work_len : goal.put_rows-q-requires-clause-work_len
 put_rows-q-requires-clause-work_len c =
-    let h = listed c.requires.tables.ready.primed.town c.requires.held.0 c.loop-i-test.true in (
+    let h = listed c.args.borders.now.roads.ready.primed.town c.requires.held.0 c.loop-i-test.true in (
       c.travels_to-b.ensures.2 ∙ c.loop-i.invariant.1 ∙ c.requires.work_len.0,
       rows_low
-          c.requires.tables.ready.primed.town h c.travels_to-b.ensures.0.worked,
+          c.args.borders.now.roads.ready.primed.town h c.travels_to-b.ensures.0.worked,
     )
 
 pub put_rows-q-requires-clause-nodes_bound : goal.put_rows-q-requires-clause-nodes_bound
 put_rows-q-requires-clause-nodes_bound c = (
-  profiles_room c.requires.tables.ready.primed.town
+  profiles_room c.args.borders.now.roads.ready.primed.town
       c.requires.held.0 c.loop-i-test.true refl,
-  points_room c.requires.tables.ready.primed.town
+  points_room c.args.borders.now.roads.ready.primed.town
       c.requires.held.0 c.loop-i-test.true c.travels_to-b.ensures.0.worked c.loop-i.invariant.2,
 )
 
@@ -76,14 +73,15 @@ pub overflow_step-i : goal.overflow_step-i
 overflow_step-i c =
     omega (
       arith,
-      border_index_lem c.requires.tables (listed c.requires.tables.ready.primed.town c.requires.held.0
+      border_index_lem c.args.borders.now.roads.ready.primed.town
+          (listed c.args.borders.now.roads.ready.primed.town c.requires.held.0
           c.loop-i-test.true),
     )
 
 pub loop-i-preserved : goal.loop-i-preserved
 loop-i-preserved c =
     let flags = rw c.travels_to-b.ensures.0.border at c.flag_border.ensures.0 in
-    let m = put_more c.requires.tables.ready.primed.town c.requires.held.0 c.loop-i-test.true
+    let m = put_more c.args.borders.now.roads.ready.primed.town c.requires.held.0 c.loop-i-test.true
     c.travels_to-b.ensures.0.worked c.loop-i.invariant.3 flags refl
     c.loop-i.invariant.2 c.put_rows-q.ensures in (
       omega arith,

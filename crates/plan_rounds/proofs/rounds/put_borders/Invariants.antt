@@ -7,5 +7,7 @@ use Rattle.plan_rounds.proofs.rounds.put_borders.Given as goal
 
 abbrev pub invariant-loop-i : goal.invariant-loop-i
 invariant-loop-i l =
-    (l.i ≤ l.k.borders) × (length l.work ≡ length l.initial.work) × (l.q ≡ points_before (decode l.file) l.i)
-    × PutTo (decode l.file) l.k l.i l.words l.initial.out l.out × (l.l.period ≤ length l.row)
+    (l.i ≤ l.k.borders) × (length l.work ≡ length l.initial.work)
+    × (l.q ≡ points_before (decode l.borders.roads.file.now) l.i)
+    × PutTo (decode l.borders.roads.file.now) l.k l.i l.words l.initial.out l.out
+    × (l.borders.roads.layout.period ≤ length l.row)

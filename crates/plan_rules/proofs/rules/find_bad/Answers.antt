@@ -28,7 +28,6 @@ returns-then-is_outside c =
     c.field16-t.ensures.0 in
     scan_stop _ _ _ _ _ _ _ _ _ _ (plan_small c.requires.plan_laid).period_some c.loop-i.invariant
     c.loop-i-test.true read c.is_outside.ensures c.if-is_outside.true
-    c.requires.count_bound
 
 pub next-next-requires : goal.next-next-requires
 next-next-requires c =

@@ -8,7 +8,7 @@ use Rattle.plan.specs.{PlanLimits.most_profiles, Plan.point_count}
 use Rattle.plan.specs.PlanDecode.{decode_plan, laid_plan, plan_small, plan_sizes}
 use Rattle.plan.specs.PlanWalk.{count_there, count_read, count_may, count_on_lem}
 use Rattle.plan_rules.specs.PlanScanAll.{pass_start, count_taken, pass_more, sum_taken}
-use Rattle.plan_rules.specs.PlanScanAll.{tick_taken, ticks_passed}
+use Rattle.plan_rules.specs.PlanScanAll.{pass_stands, tick_within, tick_taken, ticks_passed}
 use borrow.Author.Rules.{rules}
 use Rattle.plan_rules.proofs.rules.judge_profiles.Goals as goal
 
@@ -16,14 +16,14 @@ pub new-counts-requires : goal.new-counts-requires
 new-counts-requires c =
     (lit< tt, lit≤ tt, omega (arith, laid_plan c.requires, plan_small c.requires))
 
-pub new-at-requires : goal.new-at-requires
-new-at-requires c =
+pub new-requires : goal.new-requires
+new-requires c =
     (lit< tt, lit≤ tt, omega (arith, laid_plan c.requires, plan_small c.requires))
 
 pub loop-k-init : goal.loop-k-init
 loop-k-init c =
     pass_start _ _ _ _ (plan_sizes c.requires).points c.new-counts.ensures
-    c.new-at.ensures
+    c.new.ensures
 
 pub field16-count-requires : goal.field16-count-requires
 field16-count-requires c = count_there c.requires c.loop-k-test.true c.loop-k.invariant.counts_at
@@ -53,7 +53,7 @@ scan_on-scan-requires-clause-from_bound c =
     (omega (arith, few, c.loop-k.invariant.small), search rules)
 
 pub scan_on-scan-requires-clause-standing : goal.scan_on-scan-requires-clause-standing
-scan_on-scan-requires-clause-standing c = c.loop-k.invariant.stands
+scan_on-scan-requires-clause-standing c = pass_stands _ _ _ _ _ _ c.loop-k.invariant
 
 pub overflow_add-from : goal.overflow_add-from
 overflow_add-from c =
@@ -85,15 +85,17 @@ returns-then-from-l c =
 
 pub overflow_cast-bad : goal.overflow_cast-bad
 overflow_cast-bad c =
-    omega (arith, plan_small c.requires)
+    let within =
+    tick_within _ _ _ _ _ _ c.loop-k.invariant c.loop-k-test.false c.if-from-l.false _ c.in-Err.is
+    in
+    omega (arith, within, plan_small c.requires)
 
-pub returns-then-bad-l : goal.returns-then-bad-l
-returns-then-bad-l c =
-    tick_taken _ _ _ _ _ _ c.loop-k.invariant
-    c.loop-k-test.false _ c.if-from-l.false
-    c.if-bad-l.true c.refused-then-bad-l.ensures
-
-pub returns : goal.returns
-returns c =
+pub returns-in-Ok : goal.returns-in-Ok
+returns-in-Ok c =
     ticks_passed _ _ _ _ _ _ c.loop-k.invariant
-    c.loop-k-test.false _ c.if-from-l.false c.if-bad-l.false refl
+    c.loop-k-test.false _ c.if-from-l.false _ c.in-Ok.is refl
+
+pub returns-in-Err : goal.returns-in-Err
+returns-in-Err c =
+    tick_taken _ _ _ _ _ _ c.loop-k.invariant
+    c.loop-k-test.false _ c.if-from-l.false _ c.in-Err.is c.refused-in-Err.ensures
