@@ -1,7 +1,7 @@
 // A block's form, and the first block of a run that has not the form it is to have: specs/Form.antt.
 ghost use Rattle.std.specs.Prelude.{◌≡◌, ◌+◌, ◌*◌, ◌≤◌, ◌<◌, ◌^◌, length};
 ghost use Rattle.theory_loops.specs.First.{first};
-ghost use Rattle.file_fields.specs.Block.{block_size, head_size, entries_size};
+ghost use Rattle.file_fields.specs.Block.{block_size, head_size, entries_size, summed_size};
 ghost use Rattle.file_blocks.specs.Place;
 ghost use Rattle.file_blocks.specs.Place.{RunInFile};
 ghost use Rattle.file_forms.specs.Form.{bad_length, zeros, formed, unformed};
@@ -32,17 +32,24 @@ pub fn is_zero(file: &[u8], a: usize, e: usize) -> bool
     file[a..e].iter().all(|&byte| byte == 0)
 }
 
-// Has block b this kind and number of entries, its own number, and zeros after its entries?
-pub fn is_formed(file: &[u8], b: usize, kind: Kind, entries: usize) -> bool
-    requires { (block_size * b + block_size ≤ length file.now) × (kind.size * entries ≤ entries_size) }
-    ensures { result ≡ formed file.now b kind.number entries (head_size + kind.size * entries) }
+// Has block b this kind and number of entries, its own number, and zeros after its first `used` bytes?
+pub fn is_formed(file: &[u8], b: usize, kind: u8, entries: usize, used: usize) -> bool
+    requires { (block_size * b + block_size ≤ length file.now) × (used ≤ summed_size) }
+    ensures { result ≡ formed file.now b kind entries used }
 {
     let at = BLOCK * b;
-    let used = HEAD + kind.size * entries;
-    file[at] == kind.number
+    file[at] == kind
         && (file[at + 1] == 0
             && (le16(file, at + 2) as usize == entries
                 && (le32(file, at + 4) as usize == b && is_zero(file, at + used, at + SUMMED))))
+}
+
+// Is block b one of so many entries of a kind?
+pub fn is_block_of(file: &[u8], b: usize, kind: Kind, entries: usize) -> bool
+    requires { (block_size * b + block_size ≤ length file.now) × (kind.size * entries ≤ entries_size) }
+    ensures { result ≡ formed file.now b kind.number entries (head_size + kind.size * entries) }
+{
+    is_formed(file, b, kind.number, entries, HEAD + kind.size * entries)
 }
 
 // Is block j of a run out of its form?
@@ -52,7 +59,7 @@ pub fn is_unformed(file: &[u8], run: Run, j: usize) -> bool
     ensures { result
         ≡ unformed file.now run.from run.kind.number run.kind.per run.kind.size run.count j }
 {
-    !is_formed(file, run.from + j, run.kind, run.entries_in(j))
+    !is_block_of(file, run.from + j, run.kind, run.entries_in(j))
 }
 
 // The number of the first block of a run that is out of its form, or of the block after the run.

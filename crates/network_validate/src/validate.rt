@@ -15,7 +15,7 @@ ghost use Rattle.network.specs.Rules.{judged};
 use file_blocks::kind;
 use file_fields::BLOCK;
 use file_fields::fields::{le8, le16, le32};
-use file_forms::form::{first_unformed, is_bad_length, is_formed};
+use file_forms::form::{first_unformed, is_bad_length, is_block_of};
 use file_forms::reader::first_bad_sum;
 use file_refusals::reason::Reason;
 use file_refusals::{Refusal, refused};
@@ -116,7 +116,7 @@ fn validate_first(file: &[u8]) -> Result<Header, Refusal>
     requires { block_size ≤ length file.now }
     ensures { result ≡ validated_first file.now }
 {
-    if is_formed(file, 0, kind::NETWORK, 1) {
+    if is_block_of(file, 0, kind::NETWORK, 1) {
         return validate_header(file);
     }
     refused(Reason::NetworkFirst, 0)

@@ -29,17 +29,17 @@ fn mark_head(network: &[u8], l: Layout, a: usize, marks: &mut [u8; MOST_NODES])
     }
 }
 
-// The marks of all nodes: those at the head of such an arc have 1.
-fn mark_heads(network: &[u8], l: Layout) -> [u8; MOST_NODES]
+// Marks the head of each such arc. The table is lent: where it is answered, it is copied twice on the stack.
+fn mark_heads(network: &[u8], l: Layout, marks: &mut [u8; MOST_NODES])
     requires laid { Laid network.now l }
     requires sound_network { SoundNetwork (decode network.now) }
-    ensures { Marked (decode network.now) (Network.arcs (decode network.now)) result }
+    requires marked { Marked (decode network.now) 0 marks.old }
+    ensures { Marked (decode network.now) (Network.arcs (decode network.now))
+        marks.new }
 {
-    let mut marks = [0u8; MOST_NODES];
     for a in 0..l.arcs {
-        mark_head(network, l, a, &mut marks);
+        mark_head(network, l, a, marks);
     }
-    marks
 }
 
 // The borders, listed at the front of `out`, and how many they are.
@@ -51,7 +51,8 @@ pub fn list_borders(network: &[u8], l: Layout, out: &mut [u16; MOST_NODES]) -> u
         × (out.new
         ≡ overwritten (borders (partition_of (decode network.now))) out.old) }
 {
-    let marks = mark_heads(network, l);
+    let mut marks = [0u8; MOST_NODES];
+    mark_heads(network, l, &mut marks);
     let mut count = 0;
     for v in 0..l.nodes {
         if marks[v] != 0 {
@@ -75,6 +76,7 @@ pub fn count_borders(network: &[u8], l: Layout) -> usize
     requires sound_network { SoundNetwork (decode network.now) }
     ensures { result ≡ border_count (partition_of (decode network.now)) }
 {
-    let marks = mark_heads(network, l);
+    let mut marks = [0u8; MOST_NODES];
+    mark_heads(network, l, &mut marks);
     count_marks(&marks[..l.nodes])
 }

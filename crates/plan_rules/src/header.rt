@@ -12,7 +12,7 @@ ghost use Rattle.plan.specs.PlanValidate.{first_formed, matching};
 
 use file_blocks::kind;
 use file_fields::fields::{le16, le32};
-use file_forms::form::is_formed;
+use file_forms::form::is_block_of;
 use network::header::{Header, Layout};
 use plan::header::PlanHeader;
 use plan::{borders, limits};
@@ -38,7 +38,7 @@ pub fn is_first_formed(plan: &[u8]) -> bool
     requires { block_size ≤ length plan.now }
     ensures { result ≡ first_formed plan.now }
 {
-    is_formed(plan, 0, kind::PLAN, 1) && le16(plan, 22) == 0
+    is_block_of(plan, 0, kind::PLAN, 1) && le16(plan, 22) == 0
 }
 
 // Refusal 14 does not apply: the numbers are the network's.

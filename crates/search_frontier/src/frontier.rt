@@ -44,7 +44,7 @@ impl Frontier {
     }
 
     // Puts a node with its label at a place.
-    fn put(&mut self, at: usize, v: usize, label: u32)
+    pub fn put(&mut self, at: usize, v: usize, label: u32)
         requires { (at < most_nodes) × (v < most_nodes) × (label ≤ last_end) }
         ensures { (self.new.keys ≡ set self.old.keys at (key_of label v))
             × (self.new.places ≡ set self.old.places v at)

@@ -1,12 +1,13 @@
 -- The lines of an input. A line ends at a line feed or at the end of the input; a last line feed begins no
 -- further line.
 use mathlib.Core.{Path.◌≡◌, Path.refl, Path.sym, Path.◌∙◌, Logic.◌≢◌}
-use Rattle.std.specs.Prelude.{Bool, true, false, cond, ◌==◌, List, [], ◌∷◌, ◌++◌, length, get_or, take, drop}
+use Rattle.std.specs.Prelude.{Bool, true, false, cond, ◌==◌, ◌||◌, List, [], ◌∷◌, ◌++◌, length, get_or, take, drop}
 use Rattle.std.specs.Prelude.{ℕ, zero, suc, ◌+◌, ◌-◌, ◌≤◌, ◌<◌}
 use Rattle.std.proofs.Common.{append-nil, append_assoc, length-drop, length-take, length-append}
 use Rattle.std.proofs.Common.{drop_of_length-le, eq-eqb, ne_eqb, eqb-true, get_or-take, get_or-drop}
 use native.Mathlib.{Decide.dec_lt, Omega.arith}
 use lib.{Seq.drop-drop, Dec.eqb}
+use Rattle.std.proofs.lemmas.Bool.{eqb-false, or_parts}
 use Rattle.memchr.specs.Find.{Nowhere, NoneBefore, Passes, is_byte}
 
 abbrev pub is_empty : List ℕ → Bool
@@ -39,6 +40,48 @@ unended_join text at mid end f g k l m = elim (dec_lt k mid) [
   | yes j ↦ f k l j
   | no j ↦ g k (omega arith) m
 ]
+
+-- and a line whose end is found behind such a stretch
+pub line_behind : (text : List ℕ) (at mid end : ℕ) → Unended text at mid → at ≤ mid → LineTo text mid end
+    → LineTo text at end
+line_behind text at mid end f l h = record {
+  after = omega (arith, h.after);
+  within = h.within;
+  inside = unended_join text at mid end f h.inside;
+  feed = h.feed;
+}
+
+-- FOR THE LOOP that looks for a line's end
+module _ (text : List ℕ) (at i : ℕ) (h : Unended text at i) where
+  pub unended_more : get_or text i 0 ≢ 10 → Unended text at (i + 1)
+  unended_more n k l m e = elim (dec_lt k i) [
+    | yes j ↦ h k l j e
+    | no j ↦ let z : k ≡ i = omega arith in n (rw z at e)
+  ]
+
+  pub ended_at : at ≤ i → i < length text → get_or text i 0 ≡ 10 → LineTo text at i
+  ended_at l m e = record { after = l; within = omega arith; inside = h; feed = λ _. e }
+
+  pub ended_last : at ≤ i → i ≤ length text → length text ≤ i → LineTo text at (length text)
+  ended_last l m n =
+      let z : i ≡ length text = omega arith in
+      record {
+        after = omega arith;
+        within = omega arith;
+        inside = λ k p q. h k p (omega arith);
+        feed = λ p. absurd (omega arith);
+      }
+
+-- FOR THE LOOP that looks at bytes together: the first k have no line feed, unless one was found
+module _ (text : List ℕ) (at : ℕ) (found : Bool) (k : ℕ) (h : found ≡ false → Unended text at (at + k)) where
+  pub unfound_more : (found || eqb (get_or text (at + k) 0) 10) ≡ false → Unended text at (at + (k + 1))
+  unfound_more e =
+      let (f, g) = or_parts found (eqb (get_or text (at + k) 0) 10) e in
+      let z : at + k + 1 ≡ at + (k + 1) = omega arith in
+      rw z at (unended_more text at (at + k) (h f) (eqb-false (get_or text (at + k) 0) 10 g))
+
+  pub unfound_all : (all : ℕ) → k ≤ all → all ≤ k → found ≡ false → Unended text at (at + all)
+  unfound_all all l m e = let z : k ≡ all = omega arith in rw z at (h e)
 
 -- FOR THE CODE: the rest of a text from byte `at` on, in which there is no line feed, or one at byte `feed`
 abbrev pub rest_from : List ℕ → ℕ → List ℕ
@@ -88,7 +131,7 @@ module _ (text : List ℕ) (at : ℕ) (near : at ≤ length text) where
 
 -- a byte that is no line feed
 pub unended_byte : (text : List ℕ) (at : ℕ) → get_or text at 0 ≢ 10 → Unended text at (at + 1)
-unended_byte text at n k l m e = let z : k ≡ at = omega arith in n (rw z at e)
+unended_byte text at = unended_more text at at (λ k l m. absurd (omega arith))
 
 -- the lines of bytes that start with one
 at_feed : (w : List ℕ) (b : ℕ) (bs : List ℕ) → b ≡ 10 → lines_from w (b ∷ bs) ≡ w ∷ lines_of bs

@@ -1,14 +1,15 @@
--- Where a node's row stands, and the laws of the loops that look for its least and its greatest number.
-use mathlib.Core.{Path.◌≡◌, Path.sym, List.List}
+-- Where a node's row stands, and the laws of the loops that copy one, and look for its least and its greatest
+-- number.
+use mathlib.Core.{Path.◌≡◌, Path.refl, Path.sym, List.List}
 use Rattle.std.specs.Prelude.{ℕ, ◌+◌, ◌-◌, ◌*◌, ◌≤◌, ◌<◌, min, max}
 use native.Mathlib.{Nat.mul-le-mul, Nat.mul-le-mul_right, Omega.arith, Decide.ℕ_discrete, Decide.dec_lt}
 use Rattle.std.proofs.Math.ListN.{get_or}
 use mir.{Val.Fits, Syntax.w64}
-use Rattle.theory_loops.specs.{Grid.grid_at}
+use Rattle.theory_loops.specs.{Fill.Filled, Grid.grid_at}
 use Rattle.theory_paths.specs.Earliest.{never}
 use Rattle.network.specs.declared.header.Layout.{Layout}
 use Rattle.network.specs.{Decode.Small, Limits.most_nodes}
-use Rattle.toward_list.specs.{Heights.Near, Heights.Highest}
+use Rattle.toward_list.specs.{Heights.Near, Heights.Highest, Rows.rows_of}
 
 module _ {l : Layout} (s : Small l) {u : ℕ} (h : u < l.nodes) where
   pub row_early : u * l.period + l.period < 2000000
@@ -21,6 +22,19 @@ module _ {l : Layout} (s : Small l) {u : ℕ} (h : u < l.nodes) where
 
   pub row_within : u * l.period + l.period ≤ l.nodes * l.period
   row_within = let n : u + 1 ≤ l.nodes = omega arith in omega (arith, mul-le-mul_right l.period n)
+
+-- FOR THE COPY of a row from place p on
+unfoldable pub copied : List ℕ → ℕ → ℕ → ℕ
+copied W p x = get_or W (p + x) 0
+
+pub copy_entry : (W : List ℕ) (p x : ℕ) → get_or W (p + x) 0 ≡ copied W p x
+unfolding copied
+copy_entry W p x = refl
+
+pub copy_row_lem : (W old new : List ℕ) (p v wide : ℕ) → p ≡ v * wide → Filled 0 wide (copied W p) old new
+    → Filled 0 wide (rows_of wide W v) old new
+unfolding copied grid_at
+copy_row_lem W old new p v wide e f = rw e at f
 
 -- FOR THE LEAST of a row that starts at place p: none of its first n entries is less
 pub record Lower (p n : ℕ) (W : List ℕ) (low : ℕ) : Type 0 where

@@ -34,8 +34,10 @@ pub fn copy_row(l: Layout, v: usize, work: &[u32], hs: &mut [u32; MOST_PERIOD])
         hs.new }
 {
     let p = row_place(l, v);
-    let e = p + l.period;
-    hs[..l.period].copy_from_slice(&work[p..e]);
+    // By index: `copy_from_slice` would ask C for `memmove`, of which it gives the library none.
+    for x in 0..l.period {
+        hs[x] = work[p + x];
+    }
 }
 
 // Lowers the row of node u by what an arc gives, where `hs` is its head's row. `first` says that the row has

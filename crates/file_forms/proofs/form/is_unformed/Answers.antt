@@ -7,8 +7,8 @@ use Rattle.file_forms.proofs.form.is_unformed.Goals as goal
 pub entries_in-requires : goal.entries_in-requires
 entries_in-requires c = search block_starts
 
-pub is_formed-requires : goal.is_formed-requires
-is_formed-requires c = (
+pub is_block_of-requires : goal.is_block_of-requires
+is_block_of-requires c = (
   search block_in,
   block_fits _ _ _ _ _ c.requires.run_in_file _ c.requires.j_bound c.entries_in.result c.entries_in.ensures,
 )

@@ -3,9 +3,9 @@ use Rattle.network.specs.Validate.{validated_first}
 use Rattle.theory_loops.specs.Pick.{picks}
 use Rattle.network_validate.proofs.validate.validate_first.Goals as goal
 
-pub returns-then-is_formed : goal.returns-then-is_formed
+pub returns-then-is_block_of : goal.returns-then-is_block_of
 unfolding validated_first
-returns-then-is_formed c = search picks
+returns-then-is_block_of c = search picks
 
 pub returns : goal.returns
 unfolding validated_first

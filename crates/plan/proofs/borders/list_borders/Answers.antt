@@ -3,10 +3,13 @@
 use native.Mathlib.Omega.{arith}
 use Rattle.theory_loops.specs.Select.{chooses, choose_yes, choose_no, choose_end}
 use Rattle.network.specs.Decode.{laid_sizes, laid_small}
-use Rattle.plan.specs.Marks.{border_yes, border_no, borders_listed}
+use Rattle.plan.specs.Marks.{mark_none, border_yes, border_no, borders_listed}
 use borrow.Author.Rules.{rules}
 use Rattle.plan.proofs.borders.list_borders.Goals as goal
 use Rattle.plan.proofs.borders.list_borders.Goals.{then-marks-v-ne0, else-marks-v-ne0}
+
+pub mark_heads-requires-clause-marked : goal.mark_heads-requires-clause-marked
+mark_heads-requires-clause-marked c = mark_none _
 
 pub loop-v-init : goal.loop-v-init
 loop-v-init c = (

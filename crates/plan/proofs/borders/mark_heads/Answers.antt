@@ -1,14 +1,9 @@
 -- `plan::borders::mark_heads` meets its contract: the invariant is the contract itself at the arcs passed.
 use mathlib.Core.Path.{◌∙◌}
 use Rattle.network.specs.Decode.{laid_sizes}
-use Rattle.plan.specs.Marks.{mark_none, mark_end}
-use borrow.Author.Rules.{rules}
+use Rattle.plan.specs.Marks.{mark_end}
 use Rattle.plan.proofs.borders.mark_heads.Goals as goal
-
-pub loop-a-init : goal.loop-a-init
-loop-a-init c = (search rules, search rules, mark_none _)
 
 pub returns : goal.returns
 returns c = let q = laid_sizes c.requires.laid in
-    mark_end _ _ _ _ c.loop-a.invariant.2 c.loop-a.invariant.0 c.loop-a-test.false
-    (c.loop-a.invariant.1 ∙ q.arcs)
+    mark_end _ _ _ _ c.loop-a.invariant.2 c.loop-a.invariant.0 c.loop-a-test.false (c.loop-a.invariant.1 ∙ q.arcs)

@@ -3,8 +3,8 @@
 use Rattle.plan.specs.PlanValidate.{form_decides, bits_decide}
 use Rattle.plan_rules.proofs.header.is_first_formed.Goals as goal
 
-pub returns-then-is_formed : goal.returns-then-is_formed
-returns-then-is_formed c = search bits_decide
+pub returns-then-is_block_of : goal.returns-then-is_block_of
+returns-then-is_block_of c = search bits_decide
 
-pub returns-else-is_formed : goal.returns-else-is_formed
-returns-else-is_formed c = search form_decides
+pub returns-else-is_block_of : goal.returns-else-is_block_of
+returns-else-is_block_of c = search form_decides

@@ -1,16 +1,16 @@
--- `rows::copy_row` meets its contract: the entries are the row's.
-use native.Mathlib.Omega.{arith}
+-- `toward_list::rows::copy_row` meets its contract: the entries passed are the row's.
+use Rattle.theory_loops.specs.Fill.{fill_end, fills}
+use Rattle.toward_list.specs.Places.{copied, copy_entry, copy_row_lem}
 use borrow.Author.Rules.{rules}
-use Rattle.std.proofs.lemmas.List.{places}
-use Rattle.std.proofs.lemmas.List.Edits.{length-between, get_or-between}
-use Rattle.theory_loops.specs.Grid.{grid_at}
 use Rattle.toward_list.proofs.rows.copy_row.Goals as goal
 
+pub loop-x-init : goal.loop-x-init
+loop-x-init c = (search rules, search fills)
+
+pub loop-x-preserved : goal.loop-x-preserved
+loop-x-preserved c = (search rules, search (fills, copy_entry))
+
 pub returns : goal.returns
-unfolding grid_at
-returns c = let h = c.copy_from_slice.ensures in record {
-  long = search (rules, places, length-between);
-  written = search (rules, places, get_or-between);
-  before = λ k lo. absurd (omega arith);
-  after = search (rules, places, length-between);
-}
+returns c =
+    copy_row_lem _ _ _ _ _ _ c.row_place-p.ensures.0
+    (fill_end (copied _ _) _ 0 _ _ _ c.loop-x.invariant.1 c.loop-x.invariant.0 c.loop-x-test.false)
