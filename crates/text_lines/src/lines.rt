@@ -34,7 +34,9 @@ fn near_end(text: &[u8], at: usize) -> usize
     text.len()
 }
 
-// The same, looked for by many bytes together.
+// The same, looked for by many bytes together. It is a call of its own, so that a short line does not save the
+// registers that it needs.
+#[inline(never)]
 fn far_end(text: &[u8], at: usize) -> usize
     requires { at ≤ length text.now }
     ensures { LineTo text.now at result }
@@ -50,11 +52,9 @@ pub fn line_end(text: &[u8], at: usize) -> usize
     requires { at ≤ length text.now }
     ensures { LineTo text.now at result }
 {
-    if text.len() - at < TOGETHER {
-        return far_end(text, at);
+    let behind = at + TOGETHER;
+    if behind <= text.len() && !may_end(text, at) {
+        return far_end(text, behind);
     }
-    if may_end(text, at) {
-        return near_end(text, at);
-    }
-    far_end(text, at + TOGETHER)
+    near_end(text, at)
 }
